@@ -1,5 +1,7 @@
 -- Pieces that came, by number, and as columns.
-use Rattle.std.proofs.Common.{◌≡◌, ◌≢◌, ℕ, zero, suc, ◌+◌, ◌<◌, Bool, true, false, List, [], ◌∷◌, length, map, set, get_or, replicate, Option, Some, None, is_some, All, Contains, refl, sym, ap, ap₂, ◌∙◌, subst, inl, inr, arith}
+use Rattle.std.proofs.Common.{◌≡◌, ◌≢◌, ℕ, zero, suc, ◌+◌, ◌<◌, Bool, true, false, List, [], ◌∷◌, length, map, set}
+use Rattle.std.proofs.Common.{get_or, replicate, Option, Some, None, is_some, All, Contains, refl, sym, ap, ap₂, ◌∙◌}
+use Rattle.std.proofs.Common.{subst, inl, inr, arith}
 use Rattle.std.specs.Prelude.{if◌then◌else◌, ◌&&◌}
 use Rattle.std.specs.List.{list_all, range_with_len}
 use Rattle.std.specs.List.Sorted.{IsStrictlyIncreasing}
@@ -27,7 +29,8 @@ nobody n i = elim (cases_lt i n) [
 -- nothing came
 pub none_came : (pieces : List Piece) (count : ℕ) → parts_of pieces (replicate count false) ≡ replicate count None
 none_came pieces count =
-    all_none (part_of pieces (replicate count false)) 0 (length (replicate count false)) (λ b. ap (λ t. if t then Some (bytes_of pieces b) else None) (nobody count b))
+    all_none (part_of pieces (replicate count false)) 0 (length (replicate count false))
+    (λ b. ap (λ t. if t then Some (bytes_of pieces b) else None) (nobody count b))
     ∙ ap (λ n. replicate n None) (length-replicate count false)
 
 pub zero_numbers : (block : ℕ) (numbers : List ℕ) → numbers_of (zero_pieces block numbers) ≡ numbers
@@ -35,20 +38,28 @@ zero_numbers block [] = refl
 zero_numbers block (n ∷ ns) = ap (λ l. n ∷ l) (zero_numbers block ns)
 
 pub zero_long : (block : ℕ) (numbers : List ℕ) → All (λ p. length p.bytes ≡ block) (zero_pieces block numbers)
-zero_long block numbers = All-map (λ (p : Piece). length p.bytes ≡ block) (λ (n : ℕ). record { number = n; bytes = replicate block 0 }) numbers (λ k d less. length-replicate block 0)
+zero_long block numbers = All-map (λ (p : Piece). length p.bytes ≡ block)
+    (λ (n : ℕ). record { number = n; bytes = replicate block 0 }) numbers (λ k d less. length-replicate block 0)
 
-pub awaited_at_first : (block count : ℕ) (numbers : List ℕ) → IsStrictlyIncreasing numbers → All (λ n. n < count) numbers → AreAwaited (zero_pieces block numbers) (replicate count false) block
+pub awaited_at_first : (block count : ℕ) (numbers : List ℕ) → IsStrictlyIncreasing numbers
+    → All (λ n. n < count) numbers → AreAwaited (zero_pieces block numbers) (replicate count false) block
 awaited_at_first block count numbers rising below = record {
   rising = subst IsStrictlyIncreasing (sym (zero_numbers block numbers)) rising;
-  below = subst (λ ns. All (λ n. n < length (replicate count false)) ns) (sym (zero_numbers block numbers)) (subst (λ c. All (λ n. n < c) numbers) (sym (length-replicate count false)) below);
+  below = subst (λ ns. All (λ n. n < length (replicate count false)) ns) (sym (zero_numbers block numbers))
+      (subst (λ c. All (λ n. n < c) numbers) (sym (length-replicate count false)) below);
   long = zero_long block numbers;
   awaited = λ n came. absurd (true≢false (sym came ∙ nobody count n));
 }
 
-pub view_at_first : (block count : ℕ) (numbers : List ℕ) → awaited_in (zero_pieces block numbers) (replicate count false) block ≡ record { numbers = numbers; parts = replicate count None; block = block }
-view_at_first block count numbers = ap₂ (λ (ns : List ℕ) (ps : List (Option (List ℕ))). record { numbers = ns; parts = ps; block = block }) (zero_numbers block numbers) (none_came (zero_pieces block numbers) count)
+pub view_at_first : (block count : ℕ) (numbers : List ℕ)
+    → awaited_in (zero_pieces block numbers) (replicate count false) block
+    ≡ record { numbers = numbers; parts = replicate count None; block = block }
+view_at_first block count numbers =
+    ap₂ (λ (ns : List ℕ) (ps : List (Option (List ℕ))). record { numbers = ns; parts = ps; block = block })
+    (zero_numbers block numbers) (none_came (zero_pieces block numbers) count)
 
-module _ (pieces : List Piece) (came : List Bool) (block n : ℕ) (bytes : List ℕ) (is : AreAwaited pieces came block) (there : Contains (numbers_of pieces) n) (whole : length bytes ≡ block) where
+module _ (pieces : List Piece) (came : List Bool) (block n : ℕ) (bytes : List ℕ) (is : AreAwaited pieces came block)
+    (there : Contains (numbers_of pieces) n) (whole : length bytes ≡ block) where
   below_all : n < length came
   below_all = subst (λ i. i < length came) there.2 (is.below there.0 n there.1)
 
@@ -71,8 +82,10 @@ module _ (pieces : List Piece) (came : List Bool) (block n : ℕ) (bytes : List 
       let numbers = numbers_kept pieces n bytes there in
       record {
         rising = subst IsStrictlyIncreasing (sym numbers) is.rising;
-        below = subst (λ ns. All (λ i. i < length (set came n true)) ns) (sym numbers) (subst (λ c. All (λ i. i < c) (numbers_of pieces)) (sym (length-set came n true)) is.below);
-        long = All-set (λ (p : Piece). length p.bytes ≡ block) pieces (place_of pieces n) (record (piece_of pieces n) { bytes = overwritten (bytes_of pieces n) bytes })
+        below = subst (λ ns. All (λ i. i < length (set came n true)) ns) (sym numbers)
+            (subst (λ c. All (λ i. i < c) (numbers_of pieces)) (sym (length-set came n true)) is.below);
+        long = All-set (λ (p : Piece). length p.bytes ≡ block) pieces (place_of pieces n)
+            (record (piece_of pieces n) { bytes = overwritten (bytes_of pieces n) bytes })
             (ap length (overwritten_whole (bytes_of pieces n) bytes (whole ∙ sym long_there)) ∙ whole) is.long;
         awaited = λ q in_there. subst (λ ns. Contains ns q) (sym numbers) (elim (cases_eq q n) [
           | inl same ↦ subst (λ i. Contains (numbers_of pieces) i) (sym same) there
@@ -80,8 +93,10 @@ module _ (pieces : List Piece) (came : List Bool) (block n : ℕ) (bytes : List 
         ]);
       }
 
-  pub view_after : awaited_in (with_bytes pieces n bytes) (set came n true) block ≡ record { numbers = numbers_of pieces; parts = put None (parts_of pieces came) n (Some bytes); block = block }
-  view_after = ap₂ (λ (ns : List ℕ) (ps : List (Option (List ℕ))). record { numbers = ns; parts = ps; block = block }) (numbers_kept pieces n bytes there) one_came
+  pub view_after : awaited_in (with_bytes pieces n bytes) (set came n true) block
+      ≡ record { numbers = numbers_of pieces; parts = put None (parts_of pieces came) n (Some bytes); block = block }
+  view_after = ap₂ (λ (ns : List ℕ) (ps : List (Option (List ℕ))). record { numbers = ns; parts = ps; block = block })
+      (numbers_kept pieces n bytes there) one_came
 
 part_there : (pieces : List Piece) (came : List Bool) (n : ℕ) → is_some (part_of pieces came n) ≡ get_or came n false
 part_there pieces came n = by (get_or came n false)
@@ -92,9 +107,11 @@ part_there pieces came n = by (get_or came n false)
 
 -- whether a number's piece came
 pub came_at : (pieces : List Piece) (came : List Bool) (n : ℕ) → n < length came → is_some (at None (parts_of pieces came) n) ≡ get_or came n false
-came_at pieces came n below = ap is_some (at-map-range None (part_of pieces came) (length came) 0 n below ∙ ap (part_of pieces came) (omega arith)) ∙ part_there pieces came n
+came_at pieces came n below = ap is_some (at-map-range None (part_of pieces came) (length came) 0 n below
+    ∙ ap (part_of pieces came) (omega arith)) ∙ part_there pieces came n
 
 pub all_came : (pieces : List Piece) (came : List Bool) (ps : List Piece) → All (λ n. n < length came) (numbers_of ps)
     → list_all (λ p. get_or came p.number false) ps ≡ list_all (λ n. is_some (at None (parts_of pieces came) n)) (numbers_of ps)
 all_came pieces came [] below = refl
-all_came pieces came (p ∷ ps) below = ap₂ (λ x y. x && y) (sym (came_at pieces came p.number (below 0 0 (omega arith)))) (all_came pieces came ps (λ k d less. below (suc k) d (omega arith)))
+all_came pieces came (p ∷ ps) below = ap₂ (λ x y. x && y) (sym (came_at pieces came p.number (below 0 0 (omega arith))))
+    (all_came pieces came ps (λ k d less. below (suc k) d (omega arith)))

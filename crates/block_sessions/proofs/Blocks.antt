@@ -1,5 +1,8 @@
 -- Rebuilt blocks in pages: what is found, placed and added.
-use Rattle.std.proofs.Common.{◌≡◌, ◌≢◌, ℕ, zero, suc, ◌+◌, ◌-◌, ◌*◌, ◌/◌, ◌%◌, ◌<◌, ◌≤◌, ◌⊎◌, Bool, false, List, [], ◌∷◌, length, map, drop, get_or, Option, Some, None, IfSome, is_some, option_map, unwrap_or, find, not, refl, sym, ap, ap₂, ◌∙◌, subst, inl, inr, add-one, add-zero, ne_eqb, ◌==◌, arith}
+use Rattle.std.proofs.Common.{◌≡◌, ◌≢◌, ℕ, zero, suc, ◌+◌, ◌-◌, ◌*◌, ◌/◌, ◌%◌, ◌<◌, ◌≤◌, ◌⊎◌, Bool, false, List, []}
+use Rattle.std.proofs.Common.{◌∷◌, length, map, drop, get_or, Option, Some, None, IfSome, is_some, option_map}
+use Rattle.std.proofs.Common.{unwrap_or, find, not, refl, sym, ap, ap₂, ◌∙◌, subst, inl, inr, add-one, add-zero, ne_eqb}
+use Rattle.std.proofs.Common.{◌==◌, arith}
 use Rattle.std.specs.Prelude.{if◌then◌else◌}
 use Rattle.std.specs.List.{range_with_len}
 use Rattle.std.proofs.Math.Nat.{div-mul-le_self, mul-le-mul_right}
@@ -33,10 +36,12 @@ rebuilt_at c b below = at-map-range None (page_in c) c.blocks 0 b below ∙ ap (
 
 pub same_range : {X : Type 0} (f g : ℕ → X) (a n : ℕ) → ((b : ℕ) → a ≤ b → b < a + n → f b ≡ g b) → map f (range_with_len a n) ≡ map g (range_with_len a n)
 same_range f g a zero same = refl
-same_range f g a (suc n) same = ap₂ (λ x xs. x ∷ xs) (same a (omega arith) (omega arith)) (same_range f g (a + 1) n (λ b from below. same b (omega arith) (omega arith)))
+same_range f g a (suc n) same = ap₂ (λ x xs. x ∷ xs) (same a (omega arith) (omega arith))
+    (same_range f g (a + 1) n (λ b from below. same b (omega arith) (omega arith)))
 
 -- one entry of a range put
-pub put_range : {X : Type 0} (d : X) (f g : ℕ → X) (a n i : ℕ) (y : X) → i < n → g (a + i) ≡ y → ((b : ℕ) → b ≢ a + i → g b ≡ f b) → map g (range_with_len a n) ≡ put d (map f (range_with_len a n)) i y
+pub put_range : {X : Type 0} (d : X) (f g : ℕ → X) (a n i : ℕ) (y : X) → i < n → g (a + i) ≡ y
+    → ((b : ℕ) → b ≢ a + i → g b ≡ f b) → map g (range_with_len a n) ≡ put d (map f (range_with_len a n)) i y
 put_range d f g a zero i y below here others = absurd (omega arith)
 put_range d f g a (suc n) zero y below here others =
     ap₂ (λ x xs. x ∷ xs) (subst (λ b. g b ≡ y) (add-zero a) here) (same_range g f (a + 1) n (λ b from _. others b (λ same. omega arith)))
@@ -46,14 +51,18 @@ put_range d f g a (suc n) (suc i) y below here others =
     (put_range d f g (a + 1) n i y (omega arith) (subst (λ b. g b ≡ y) place here) (λ b apart. others b (λ same. apart (same ∙ place))))
 
 -- a block that wasn't there is kept
-pub kept : (s : Dimensions) (most b : ℕ) (bytes : List ℕ) (old new : Contents) → HoldsBlocks s most old → b < s.blocks → page_in old b ≡ None → PlacesOnly old new b bytes → SameDimensions old new
+pub kept : (s : Dimensions) (most b : ℕ) (bytes : List ℕ) (old new : Contents) → HoldsBlocks s most old → b < s.blocks
+    → page_in old b ≡ None → PlacesOnly old new b bytes → SameDimensions old new
     → rebuilt_in new ≡ kept_unless (is_some (at None (rebuilt_in old) b)) b bytes (rebuilt_in old)
 kept s most b bytes old new holds below none placed same =
     let absent : at None (rebuilt_in old) b ≡ None = rebuilt_at old b (omega (arith, holds.blocks)) ∙ none in
-    rw (absent, same.blocks) (put_range None (page_in old) (page_in new) 0 old.blocks b (Some bytes) (omega (arith, holds.blocks)) (ap (page_in new) (omega arith) ∙ placed.placed) (λ q apart. placed.others q (λ here. apart (omega arith))))
+    rw (absent, same.blocks) (put_range None (page_in old) (page_in new) 0 old.blocks b (Some bytes)
+    (omega (arith, holds.blocks)) (ap (page_in new) (omega arith) ∙ placed.placed)
+    (λ q apart. placed.others q (λ here. apart (omega arith))))
 
 -- updates of all the blocks from a on
-pub all_after : (s : Dimensions) (d : ℕ) (us : List Update) (f g : ℕ → Option (List ℕ)) (a n : ℕ) → ((b : ℕ) → g b ≡ option_map (block_after s (DataNode d) d b us) (f b))
+pub all_after : (s : Dimensions) (d : ℕ) (us : List Update) (f g : ℕ → Option (List ℕ)) (a n : ℕ)
+    → ((b : ℕ) → g b ≡ option_map (block_after s (DataNode d) d b us) (f b))
     → map g (range_with_len a n) ≡ rebuilt_after s d us a (map f (range_with_len a n))
 all_after s d us f g a zero each = refl
 all_after s d us f g a (suc n) each =
@@ -64,13 +73,15 @@ abbrev pub unmade : Contents → ℕ → Bool
 unmade c b = not (is_some (at None (rebuilt_in c) b))
 
 -- a block that a run meets is one of the space
-pub met_below : (s : Dimensions) (run : Run) (block b : ℕ) → 0 < s.block → LiesIn run s → 1 ≤ run.len → block ≡ s.block → b < (run.at + run.len - 1) / block + 1 → b < s.blocks
+pub met_below : (s : Dimensions) (run : Run) (block b : ℕ) → 0 < s.block → LiesIn run s → 1 ≤ run.len → block ≡ s.block
+    → b < (run.at + run.len - 1) / block + 1 → b < s.blocks
 met_below s run block b long within some same met =
     let last = block_within (run.at + run.len - 1) s.blocks s.block long (omega (arith, within)) in
     omega (arith, last, subst (λ n. b < (run.at + run.len - 1) / n + 1) same met)
 
 -- the blocks that a run meets are those from its first to its last
-pub run_blocks : (s : Dimensions) (run : Run) (first end : ℕ) → 0 < s.block → 1 ≤ run.len → first ≡ run.at / s.block → end ≡ (run.at + run.len - 1) / s.block + 1 → range_with_len first (end - first) ≡ blocks_met s run
+pub run_blocks : (s : Dimensions) (run : Run) (first end : ℕ) → 0 < s.block → 1 ≤ run.len → first ≡ run.at / s.block
+    → end ≡ (run.at + run.len - 1) / s.block + 1 → range_with_len first (end - first) ≡ blocks_met s run
 run_blocks s run first end long some is_first is_end =
     let some_test : (run.len == 0) ≡ false = ne_eqb run.len 0 (λ none. omega arith) in
     let order = same_or_earlier run.at (run.at + run.len - 1) s.block long (omega arith) in
@@ -83,14 +94,17 @@ module _ (c : Contents) (b end : ℕ) where
   pub skipped : b < end → b < c.blocks → HasPage c b → find (unmade c) (range_with_len (b + 1) (end - (b + 1))) ≡ find (unmade c) (range_with_len b (end - b))
   skipped more below there =
       let count : end - b ≡ suc (end - (b + 1)) = omega arith in
-      sym (ap (λ n. find (unmade c) (range_with_len b n)) count ∙ ap (λ t. if not t then Some b else find (unmade c) (range_with_len (b + 1) (end - (b + 1)))) (ap is_some (rebuilt_at c b below) ∙ there))
+      sym (ap (λ n. find (unmade c) (range_with_len b n)) count
+      ∙ ap (λ t. if not t then Some b else find (unmade c) (range_with_len (b + 1) (end - (b + 1))))
+      (ap is_some (rebuilt_at c b below) ∙ there))
 
   -- it isn't
   pub first_unmade : b < end → b < c.blocks → ¬ (HasPage c b) → find (unmade c) (range_with_len b (end - b)) ≡ Some b
   first_unmade more below apart =
       let count : end - b ≡ suc (end - (b + 1)) = omega arith in
       ap (λ n. find (unmade c) (range_with_len b n)) count
-      ∙ ap (λ t. if not t then Some b else find (unmade c) (range_with_len (b + 1) (end - (b + 1)))) (ap is_some (rebuilt_at c b below ∙ none_unless (page_in c b) apart))
+      ∙ ap (λ t. if not t then Some b else find (unmade c) (range_with_len (b + 1) (end - (b + 1))))
+      (ap is_some (rebuilt_at c b below ∙ none_unless (page_in c b) apart))
 
   pub none_unmade : end ≤ b → find (unmade c) (range_with_len b (end - b)) ≡ None
   none_unmade past = let count : end - b ≡ 0 = omega arith in ap (λ n. find (unmade c) (range_with_len b n)) count
@@ -103,7 +117,8 @@ read_at bytes i = elim (cases_lt i (length bytes)) [
 
 -- a byte of the pages is that of the rebuilt blocks
 pub byte_rebuilt : (c : Contents) (a : ℕ) → 0 < c.block → a < c.blocks * c.block → byte_in c a ≡ byte_in_blocks c.block (rebuilt_in c) a
-byte_rebuilt c a long below = by (page_in c (a / c.block)) ∙ ap (λ o. at 0 (unwrap_or o []) (a % c.block)) (sym (rebuilt_at c (a / c.block) (block_within a c.blocks c.block long below)))
+byte_rebuilt c a long below = by (page_in c (a / c.block)) ∙ ap (λ o. at 0 (unwrap_or o []) (a % c.block))
+    (sym (rebuilt_at c (a / c.block) (block_within a c.blocks c.block long below)))
   where
     by : (o : Option (List ℕ)) → byte_of o (a % c.block) ≡ at 0 (unwrap_or o []) (a % c.block)
     by None = refl
@@ -125,7 +140,8 @@ bytes_rebuilt c from len long within =
     ∙ (byte_rebuilt c (from + k) long (omega arith) ∙ sym (get_or-map-range_with_len byte from len k (from + k) 0 inside refl)))))
 
 -- a page more leaves room for one less
-pub kept_holds : (s : Dimensions) (most b : ℕ) (bytes : List ℕ) (old new : Contents) → HoldsBlocks s most old → length bytes ≡ s.block → PlacesOnly old new b bytes → SameDimensions old new → new.room ≡ old.room - 1
+pub kept_holds : (s : Dimensions) (most b : ℕ) (bytes : List ℕ) (old new : Contents) → HoldsBlocks s most old
+    → length bytes ≡ s.block → PlacesOnly old new b bytes → SameDimensions old new → new.room ≡ old.room - 1
     → HoldsBlocks s (most - 1) new
 kept_holds s most b bytes old new holds whole placed same room = record {
   long = holds.long;
@@ -142,7 +158,8 @@ pub less_room : (s : Dimensions) (most : ℕ) (c : Contents) → HoldsBlocks s m
 less_room s most c holds = record { long = holds.long; blocks = holds.blocks; block = holds.block; room = omega (arith, holds.room); whole = holds.whole }
 
 -- a block that was there stays
-pub kept_there : (c : Contents) (b : ℕ) (bytes : List ℕ) → b < c.blocks → HasPage c b → rebuilt_in c ≡ kept_unless (is_some (at None (rebuilt_in c) b)) b bytes (rebuilt_in c)
+pub kept_there : (c : Contents) (b : ℕ) (bytes : List ℕ) → b < c.blocks → HasPage c b
+    → rebuilt_in c ≡ kept_unless (is_some (at None (rebuilt_in c) b)) b bytes (rebuilt_in c)
 kept_there c b bytes below there = sym (ap (λ t. kept_unless t b bytes (rebuilt_in c)) (ap is_some (rebuilt_at c b below) ∙ there))
 
 -- a difference is added to the pages from `first` to below `next`
@@ -152,7 +169,8 @@ pub record AddsTo (s : Dimensions) (at : ℕ) (delta : List ℕ) (old new : Cont
   pub holds : (most : ℕ) → HoldsBlocks s most old → HoldsBlocks s most new
 
 -- a page that isn't there
-pub adds_none : (s : Dimensions) (at : ℕ) (delta : List ℕ) (old now : Contents) (first next : ℕ) → first ≤ next → AddsTo s at delta old now first next → page_in now next ≡ None → AddsTo s at delta old now first (next + 1)
+pub adds_none : (s : Dimensions) (at : ℕ) (delta : List ℕ) (old now : Contents) (first next : ℕ) → first ≤ next
+    → AddsTo s at delta old now first next → page_in now next ≡ None → AddsTo s at delta old now first (next + 1)
 adds_none s at delta old now first next order is none = record {
   added = λ q from below. elim (cases_eq q next) [
     | inl here ↦ rw (here, none, sym (is.others next (inr (omega arith))) ∙ none) refl
@@ -163,7 +181,8 @@ adds_none s at delta old now first next order is none = record {
 }
 
 -- a page that is
-pub adds_page : (s : Dimensions) (at : ℕ) (delta page bytes : List ℕ) (old now : Contents) (first next : ℕ) → first ≤ next → AddsTo s at delta old now first next → page_in now next ≡ Some page → length page ≡ s.block
+pub adds_page : (s : Dimensions) (at : ℕ) (delta page bytes : List ℕ) (old now : Contents) (first next : ℕ)
+    → first ≤ next → AddsTo s at delta old now first next → page_in now next ≡ Some page → length page ≡ s.block
     → length bytes ≡ length page → bytes ≡ area_added (next * s.block) at delta page → AddsTo s at delta old (with_page now next bytes) first (next + 1)
 adds_page s at delta page bytes old now first next order is there whole long sum = record {
   added = λ q from below. elim (cases_eq q next) [
@@ -191,16 +210,20 @@ adds_page s at delta page bytes old now first next order is there whole long sum
     unwritten q apart = look_up-rewritten now.pages next bytes q ∙ grind (arith, nat_tests)
 
 -- a page that a difference doesn't change
-unmet : (from at block : ℕ) (delta : List ℕ) (o : Option (List ℕ)) → IfSome o (λ bytes. length bytes ≡ block) → (at + length delta ≤ from) ⊎ (from + block ≤ at) → o ≡ option_map (area_added from at delta) o
+unmet : (from at block : ℕ) (delta : List ℕ) (o : Option (List ℕ)) → IfSome o (λ bytes. length bytes ≡ block)
+    → (at + length delta ≤ from) ⊎ (from + block ≤ at) → o ≡ option_map (area_added from at delta) o
 unmet from at block delta None whole apart = refl
-unmet from at block delta (Some bytes) whole apart = ap Some (sym (area_apart from at delta bytes (elim apart [ inl past ↦ inl past | inr early ↦ inr (omega arith) ])))
+unmet from at block delta (Some bytes) whole apart =
+    ap Some (sym (area_apart from at delta bytes (elim apart [ inl past ↦ inl past | inr early ↦ inr (omega arith) ])))
 
 pub empty_added : (from at : ℕ) (delta : List ℕ) (o : Option (List ℕ)) → length delta ≡ 0 → o ≡ option_map (area_added from at delta) o
 empty_added from at delta None none = refl
 empty_added from at delta (Some bytes) none = ap Some (sym (area_empty from at delta bytes none))
 
 -- all the pages that it meets are changed
-pub added_all : (s : Dimensions) (at : ℕ) (delta : List ℕ) (old new : Contents) (first next : ℕ) → HoldsBlocks s 0 old → AddsTo s at delta old new first next → 1 ≤ length delta → first ≡ at / s.block → (at + length delta - 1) / s.block + 1 ≤ next
+pub added_all : (s : Dimensions) (at : ℕ) (delta : List ℕ) (old new : Contents) (first next : ℕ) → HoldsBlocks s 0 old
+    → AddsTo s at delta old new first next → 1 ≤ length delta → first ≡ at / s.block
+    → (at + length delta - 1) / s.block + 1 ≤ next
     → (q : ℕ) → page_in new q ≡ option_map (area_added (q * s.block) at delta) (page_in old q)
 added_all s at delta old new first next holds is some is_first is_last q =
     let long = holds.long in
@@ -226,18 +249,24 @@ run_rebuilt s c run holds within =
     ∙ ap (λ n. map (byte_in_blocks n (rebuilt_in c)) (range_with_len run.at run.len)) holds.block
 
 -- the blocks after an update that puts, and after others
-pub put_blocks : (s : Dimensions) (d : ℕ) (u : Update) (flags : ℕ) (until : Option ℕ) (run : Run) (delta : List ℕ) (old new : Contents) → u.body ≡ Put flags until run delta → new.blocks ≡ old.blocks
-    → ((b : ℕ) → page_in new b ≡ option_map (area_added (b * s.block) run.at delta) (page_in old b)) → rebuilt_in new ≡ rebuilt_after s d (u ∷ []) 0 (rebuilt_in old)
+pub put_blocks : (s : Dimensions) (d : ℕ) (u : Update) (flags : ℕ) (until : Option ℕ) (run : Run) (delta : List ℕ)
+    (old new : Contents) → u.body ≡ Put flags until run delta → new.blocks ≡ old.blocks
+    → ((b : ℕ) → page_in new b ≡ option_map (area_added (b * s.block) run.at delta) (page_in old b))
+    → rebuilt_in new ≡ rebuilt_after s d (u ∷ []) 0 (rebuilt_in old)
 put_blocks s d u flags until run delta old new is same each =
     ap (λ n. map (page_in new) (range_with_len 0 n)) same
-    ∙ all_after s d (u ∷ []) (page_in old) (page_in new) 0 old.blocks (λ b. each b ∙ ap (λ body. option_map (block_added s (DataNode d) d b body) (page_in old b)) (sym is))
+    ∙ all_after s d (u ∷ []) (page_in old) (page_in new) 0 old.blocks
+    (λ b. each b ∙ ap (λ body. option_map (block_added s (DataNode d) d b body) (page_in old b)) (sym is))
 
 unchanged : (o : Option (List ℕ)) → o ≡ option_map (λ bytes. bytes) o
 unchanged None = refl
 unchanged (Some bytes) = refl
 
 pub remove_blocks : (s : Dimensions) (d : ℕ) (u : Update) (c : Contents) → u.body ≡ Remove → rebuilt_in c ≡ rebuilt_after s d (u ∷ []) 0 (rebuilt_in c)
-remove_blocks s d u c is = all_after s d (u ∷ []) (page_in c) (page_in c) 0 c.blocks (λ b. unchanged (page_in c b) ∙ ap (λ body. option_map (block_added s (DataNode d) d b body) (page_in c b)) (sym is))
+remove_blocks s d u c is = all_after s d (u ∷ []) (page_in c) (page_in c) 0 c.blocks (λ b. unchanged (page_in c b)
+    ∙ ap (λ body. option_map (block_added s (DataNode d) d b body) (page_in c b)) (sym is))
 
-pub touch_blocks : (s : Dimensions) (d : ℕ) (u : Update) (until : Option ℕ) (c : Contents) → u.body ≡ Touch until → rebuilt_in c ≡ rebuilt_after s d (u ∷ []) 0 (rebuilt_in c)
-touch_blocks s d u until c is = all_after s d (u ∷ []) (page_in c) (page_in c) 0 c.blocks (λ b. unchanged (page_in c b) ∙ ap (λ body. option_map (block_added s (DataNode d) d b body) (page_in c b)) (sym is))
+pub touch_blocks : (s : Dimensions) (d : ℕ) (u : Update) (until : Option ℕ) (c : Contents) → u.body ≡ Touch until
+    → rebuilt_in c ≡ rebuilt_after s d (u ∷ []) 0 (rebuilt_in c)
+touch_blocks s d u until c is = all_after s d (u ∷ []) (page_in c) (page_in c) 0 c.blocks (λ b. unchanged (page_in c b)
+    ∙ ap (λ body. option_map (block_added s (DataNode d) d b body) (page_in c b)) (sym is))

@@ -1,9 +1,12 @@
 -- What comes in for a session, in the machine's words.
-use Rattle.std.proofs.Common.{◌≡◌, ◌≢◌, ℕ, suc, ◌-◌, ◌<◌, ◌≤◌, ◌==◌, Bool, true, false, List, [], ◌∷◌, ◌++◌, length, map, take, drop, set, get_or, AllPairs, refl, sym, ap, ap₂, ◌∙◌, subst, eq-eqb, inl, inr, arith}
+use Rattle.std.proofs.Common.{◌≡◌, ◌≢◌, ℕ, suc, ◌-◌, ◌<◌, ◌≤◌, ◌==◌, Bool, true, false, List, [], ◌∷◌, ◌++◌, length}
+use Rattle.std.proofs.Common.{map, take, drop, set, get_or, AllPairs, refl, sym, ap, ap₂, ◌∙◌, subst, eq-eqb, inl, inr}
+use Rattle.std.proofs.Common.{arith}
 use Rattle.std.specs.Prelude.{if◌then◌else◌}
 use Rattle.std.specs.List.{remove}
 use Rattle.std.proofs.lemmas.Bool.{cases_eq, cases_lt}
-use Rattle.std.proofs.lemmas.List.{drop-map, get_or-map, get_or_default, length-map, length-set, get_or-set_other, get_or-set_same, map-append, map-set, set-get_or, take-map}
+use Rattle.std.proofs.lemmas.List.{drop-map, get_or-map, get_or_default, length-map, length-set, get_or-set_other}
+use Rattle.std.proofs.lemmas.List.{get_or-set_same, map-append, map-set, set-get_or, take-map}
 use Rattle.std.proofs.lemmas.List.Edits.{length-remove}
 use Rattle.std.proofs.lemmas.List.Elements.{All-append, All-drop, All-set, All-take}
 use Rattle.std.proofs.lemmas.List.Quantifiers.{all_pairs_remove}
@@ -21,7 +24,8 @@ abbrev number_of : Gathering → ℕ
 number_of g = g.number
 
 -- a place of what the machine has
-pub inside : {l : Leading} {s : Dimensions} {sessions : List OpenSession} {last place : ℕ} {pages : List Contents} → record { shape = s; state = state_of sessions last pages } ≡ l
+pub inside : {l : Leading} {s : Dimensions} {sessions : List OpenSession} {last place : ℕ} {pages : List Contents}
+    → record { shape = s; state = state_of sessions last pages } ≡ l
     → AreParts s sessions last pages → place < length l.state.sessions → place < length sessions
 inside {l} {s} {sessions} view parts within = omega (arith, within, length-map sessions gathering_of, ap (λ (m : Leading). length m.state.sessions) view)
 
@@ -46,7 +50,8 @@ module _ (sessions : List OpenSession) (place : ℕ) (x : OpenSession) (below : 
   below_map : place < length (map gathering_of sessions)
   below_map = omega (arith, below, length-map sessions gathering_of)
 
-  pub session_set : (g : OpenSession) → g.number ≡ x.number → map gathering_of (set sessions place g) ≡ with_session (gathering_of g) (map gathering_of sessions)
+  pub session_set : (g : OpenSession) → g.number ≡ x.number → map gathering_of (set sessions place g)
+      ≡ with_session (gathering_of g) (map gathering_of sessions)
   session_set g same =
       map-set gathering_of sessions place g
       ∙ (only_replaced number_of x.number (gathering_of x) (gathering_of g) (map gathering_of sessions) place below_map same_there others_differ
@@ -63,7 +68,8 @@ module _ (sessions : List OpenSession) (place : ℕ) (x : OpenSession) (below : 
     there_is = ap gathering_of is ∙ sym (get_or-map gathering_of sessions place x g below)
 
     -- a session that is as it was, and waits on
-    pub waits_on : is_complete s (gathering_of x) ≡ false → state_of sessions last pages ≡ gathered s (get_or (map gathering_of sessions) place g) (state_of sessions last pages)
+    pub waits_on : is_complete s (gathering_of x) ≡ false → state_of sessions last pages
+        ≡ gathered s (get_or (map gathering_of sessions) place g) (state_of sessions last pages)
     waits_on waits =
         sym (ap (λ t. gathered_when t s (gathering_of x) (state_of sessions last pages)) waits
         ∙ ap (λ (gs : List Gathering). record { sessions = gs; last_session = last; rebuilt = map rebuilt_in pages })
@@ -71,23 +77,31 @@ module _ (sessions : List OpenSession) (place : ℕ) (x : OpenSession) (below : 
         ∙ ap (λ (y : Gathering). gathered s y (state_of sessions last pages)) there_is
 
     -- one that is closed
-    pub closes : (new : List Contents) → is_complete s (gathering_of x) ≡ true → ((state : LeaderState) → holding new state ≡ with_decoded s (gathering_of x) x.lost.items (holding pages state))
+    pub closes : (new : List Contents) → is_complete s (gathering_of x) ≡ true
+        → ((state : LeaderState) → holding new state ≡ with_decoded s (gathering_of x) x.lost.items
+        (holding pages state))
         → state_of (remove sessions place) last new ≡ gathered s (get_or (map gathering_of sessions) place g) (state_of sessions last pages)
     closes new complete kept =
         kept (state_of (remove sessions place) last pages)
-        ∙ (ap (λ (gs : List Gathering). with_decoded s (gathering_of x) x.lost.items (record { sessions = gs; last_session = last; rebuilt = map rebuilt_in pages })) session_removed
+        ∙ (ap (λ (gs : List Gathering). with_decoded s (gathering_of x) x.lost.items
+        (record { sessions = gs; last_session = last; rebuilt = map rebuilt_in pages })) session_removed
         ∙ (sym (ap (λ t. gathered_when t s (gathering_of x) (state_of sessions last pages)) complete)
         ∙ ap (λ (y : Gathering). gathered s y (state_of sessions last pages)) there_is))
 
 -- the sessions without one
-pub sessions_without : (s : Dimensions) (last : ℕ) (sessions : List OpenSession) (place : ℕ) → place < length sessions → AreSessions s last sessions → AreSessions s last (remove sessions place)
+pub sessions_without : (s : Dimensions) (last : ℕ) (sessions : List OpenSession) (place : ℕ) → place < length sessions
+    → AreSessions s last sessions → AreSessions s last (remove sessions place)
 sessions_without s last sessions place below is = record {
-  each = All-append (IsOpen s) (take place sessions) (drop (suc place) sessions) (All-take (IsOpen s) place sessions is.each) (All-drop (IsOpen s) (suc place) sessions is.each);
+  each = All-append (IsOpen s) (take place sessions) (drop (suc place) sessions)
+      (All-take (IsOpen s) place sessions is.each) (All-drop (IsOpen s) (suc place) sessions is.each);
   rising = all_pairs_remove (λ (g h : OpenSession). g.number < h.number) sessions place below is.rising;
-  numbered = All-append (λ (g : OpenSession). g.number ≤ last) (take place sessions) (drop (suc place) sessions) (All-take (λ (g : OpenSession). g.number ≤ last) place sessions is.numbered) (All-drop (λ (g : OpenSession). g.number ≤ last) (suc place) sessions is.numbered);
+  numbered = All-append (λ (g : OpenSession). g.number ≤ last) (take place sessions) (drop (suc place) sessions)
+      (All-take (λ (g : OpenSession). g.number ≤ last) place sessions is.numbered)
+      (All-drop (λ (g : OpenSession). g.number ≤ last) (suc place) sessions is.numbered);
 }
 
-pub parts_without : (s : Dimensions) (last : ℕ) (sessions : List OpenSession) (pages new : List Contents) (place : ℕ) → place < length sessions → AreParts s sessions last pages
+pub parts_without : (s : Dimensions) (last : ℕ) (sessions : List OpenSession) (pages new : List Contents) (place : ℕ)
+    → place < length sessions → AreParts s sessions last pages
     → ((most : ℕ) → AreRebuilt s most pages → AreRebuilt s (most - 1) new) → AreParts s (remove sessions place) last new
 parts_without s last sessions pages new place below is rebuilt = record {
   opened = sessions_without s last sessions place below is.opened;
@@ -96,7 +110,8 @@ parts_without s last sessions pages new place below is rebuilt = record {
 
 -- a session with more in
 module _ (s : Dimensions) (sessions : List OpenSession) (place : ℕ) (g : OpenSession) (d : OpenSession) (below : place < length sessions) where
-  pub sessions_with : (last : ℕ) → AreSessions s last sessions → IsOpen s g → g.number ≡ (get_or sessions place d).number → AreSessions s last (set sessions place g)
+  pub sessions_with : (last : ℕ) → AreSessions s last sessions → IsOpen s g
+      → g.number ≡ (get_or sessions place d).number → AreSessions s last (set sessions place g)
   sessions_with last is sound same = record {
     each = All-set (IsOpen s) sessions place g sound is.each;
     rising = λ i j e lt under. rises i j e lt (omega (arith, length-set sessions place g));
@@ -106,11 +121,14 @@ module _ (s : Dimensions) (sessions : List OpenSession) (place : ℕ) (g : OpenS
       number_in : (j : ℕ) (e : OpenSession) → j < length sessions → (get_or (set sessions place g) j e).number ≡ (get_or sessions j e).number
       number_in j e less = elim (cases_eq j place) [
         | inl here ↦ ap (λ i. (get_or (set sessions place g) i e).number) here
-            ∙ (ap (λ (x : OpenSession). x.number) (get_or-set_same sessions place g e below) ∙ (same ∙ (ap (λ (x : OpenSession). x.number) (get_or_default sessions place d e below) ∙ ap (λ i. (get_or sessions i e).number) (sym here))))
+            ∙ (ap (λ (x : OpenSession). x.number) (get_or-set_same sessions place g e below)
+            ∙ (same ∙ (ap (λ (x : OpenSession). x.number) (get_or_default sessions place d e below)
+            ∙ ap (λ i. (get_or sessions i e).number) (sym here))))
         | inr apart ↦ ap (λ (x : OpenSession). x.number) (get_or-set_other sessions place j g e apart)
       ]
 
-      rises : (i j : ℕ) (e : OpenSession) → i < j → j < length sessions → (get_or (set sessions place g) i e).number < (get_or (set sessions place g) j e).number
+      rises : (i j : ℕ) (e : OpenSession) → i < j → j < length sessions → (get_or (set sessions place g) i e).number
+          < (get_or (set sessions place g) j e).number
       rises i j e lt less = omega (arith, number_in i e (omega arith), number_in j e less, is.rising i j e lt less)
 
 -- what is gathered of a session whose new parts the sessions have already
@@ -118,7 +136,9 @@ pub with_twice : (g : Gathering) (xs : List Gathering) → with_session g (with_
 with_twice g [] = refl
 with_twice g (x ∷ xs) = ap₂ (λ y ys. y ∷ ys) (by (x.number == g.number) refl) (with_twice g xs)
   where
-    by : (t : Bool) → (x.number == g.number) ≡ t → (if (if x.number == g.number then g else x).number == g.number then g else (if x.number == g.number then g else x)) ≡ (if x.number == g.number then g else x)
+    by : (t : Bool) → (x.number == g.number) ≡ t
+        → (if (if x.number == g.number then g else x).number == g.number then g else
+        (if x.number == g.number then g else x)) ≡ (if x.number == g.number then g else x)
     by true same = rw same (ap (λ t. if t then g else g) (eq-eqb g.number g.number refl))
     by false apart = rw (apart, apart) refl
 
@@ -126,11 +146,14 @@ pub without_with : (g : Gathering) (xs : List Gathering) → without_session g.n
 without_with g [] = refl
 without_with g (x ∷ xs) = by (without_with g xs) (x.number == g.number) refl
   where
-    by : without_session g.number (with_session g xs) ≡ without_session g.number xs → (t : Bool) → (x.number == g.number) ≡ t → without_session g.number (with_session g (x ∷ xs)) ≡ without_session g.number (x ∷ xs)
+    by : without_session g.number (with_session g xs) ≡ without_session g.number xs → (t : Bool)
+        → (x.number == g.number) ≡ t → without_session g.number (with_session g (x ∷ xs)) ≡ without_session g.number
+        (x ∷ xs)
     by rest true same = let itself : (g.number == g.number) ≡ true = eq-eqb g.number g.number refl in rw (same, itself) rest
     by rest false apart = rw (apart, apart) (ap (λ ys. x ∷ ys) rest)
 
-pub gathered_twice : (s : Dimensions) (g : Gathering) (state : LeaderState) → gathered s g (record state { sessions = with_session g state.sessions }) ≡ gathered s g state
+pub gathered_twice : (s : Dimensions) (g : Gathering) (state : LeaderState)
+    → gathered s g (record state { sessions = with_session g state.sessions }) ≡ gathered s g state
 gathered_twice s g state = by (is_complete s g)
   where
     by : (t : Bool) → gathered_when t s g (record state { sessions = with_session g state.sessions }) ≡ gathered_when t s g state

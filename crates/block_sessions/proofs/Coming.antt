@@ -1,5 +1,7 @@
 -- What comes in for the open session of a number.
-use Rattle.std.proofs.Common.{◌≡◌, ℕ, ◌+◌, ◌<◌, ◌==◌, Bool, not, lt-ltb, List, [], ◌∷◌, length, map, set, get_or, slice_get, find, None, Some, option_and_then, position, refl, sym, ap, ap₂, ◌∙◌, subst, inl, inr, arith}
+use Rattle.std.proofs.Common.{◌≡◌, ℕ, ◌+◌, ◌<◌, ◌==◌, Bool, not, lt-ltb, List, [], ◌∷◌, length, map, set, get_or}
+use Rattle.std.proofs.Common.{slice_get, find, None, Some, option_and_then, position, refl, sym, ap, ap₂, ◌∙◌, subst}
+use Rattle.std.proofs.Common.{inl, inr, arith}
 use Rattle.std.specs.Prelude.{if◌then◌else◌}
 use Rattle.std.specs.List.{position_or_len}
 use Rattle.std.proofs.lemmas.Bool.{cases_lt, le-ltb}
@@ -19,7 +21,8 @@ use Rattle.block_sessions.proofs.Closing.{gathered_twice, inside, session_set, s
 abbrev pub has_number : ℕ → OpenSession → Bool
 has_number number g = g.number == number
 
-same_place : (number : ℕ) (sessions : List OpenSession) → position_or_len (λ (g : Gathering). g.number == number) (map gathering_of sessions) ≡ position_or_len (has_number number) sessions
+same_place : (number : ℕ) (sessions : List OpenSession) → position_or_len (λ (g : Gathering). g.number == number)
+    (map gathering_of sessions) ≡ position_or_len (has_number number) sessions
 same_place number [] = refl
 same_place number (g ∷ gs) = ap (λ n. if not (g.number == number) then 1 + n else 0) (same_place number gs)
 
@@ -38,7 +41,8 @@ found_at number sessions =
 
 -- an open session, which stands at a place of what a leader keeps
 module _ {l : Leading} {s : Dimensions} {last place : ℕ} {sessions : List OpenSession} {pages : List Contents} {x : OpenSession}
-    (view : record { shape = s; state = state_of sessions last pages } ≡ l) (parts : AreParts s sessions last pages) (within : place < length l.state.sessions) (is : x ≡ get_or sessions place x) where
+    (view : record { shape = s; state = state_of sessions last pages } ≡ l) (parts : AreParts s sessions last pages)
+    (within : place < length l.state.sessions) (is : x ≡ get_or sessions place x) where
   below : place < length sessions
   below = inside view parts within
 
@@ -63,10 +67,13 @@ module _ {l : Leading} {s : Dimensions} {last place : ℕ} {sessions : List Open
       rebuilt = subst (λ n. AreRebuilt s n pages) (sym (length-set sessions place g)) parts.rebuilt;
     }
 
-    pub gathered_more : gathered s (get_or (map gathering_of (set sessions place g)) place (gathering_of x)) (state_of (set sessions place g) last pages) ≡ gathered l.shape more l.state
+    pub gathered_more : gathered s (get_or (map gathering_of (set sessions place g)) place (gathering_of x))
+        (state_of (set sessions place g) last pages) ≡ gathered l.shape more l.state
     gathered_more =
         ap₂ (λ (y : Gathering) (gs : List Gathering). gathered s y (record { sessions = gs; last_session = last; rebuilt = map rebuilt_in pages }))
-        (get_or-map gathering_of (set sessions place g) place x (gathering_of x) (omega (arith, below, length-set sessions place g)) ∙ ap gathering_of (get_or-set_same sessions place g x below))
+        (get_or-map gathering_of (set sessions place g) place x (gathering_of x)
+        (omega (arith, below, length-set sessions place g))
+        ∙ ap gathering_of (get_or-set_same sessions place g x below))
         (session_set sessions place x below is parts.opened.rising g alike)
         ∙ (gathered_twice s (gathering_of g) (state_of sessions last pages)
         ∙ ap₂ (λ (m : Leading) (y : Gathering). gathered m.shape y m.state) view becomes)

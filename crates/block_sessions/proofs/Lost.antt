@@ -1,5 +1,7 @@
 -- Lost partitions and those that are known.
-use Rattle.std.proofs.Common.{◌≡◌, ◌≢◌, ℕ, zero, suc, ◌+◌, ◌-◌, ◌<◌, ◌≤◌, ◌==◌, ◌⊎◌, Bool, true, false, not, ◌&&◌, ◌||◌, List, [], ◌∷◌, ◌++◌, length, get_or, filter, None, is_some, All, Contains, refl, sym, ap, ◌∙◌, subst, eq-eqb, eqb-true, inl, inr, arith}
+use Rattle.std.proofs.Common.{◌≡◌, ◌≢◌, ℕ, zero, suc, ◌+◌, ◌-◌, ◌<◌, ◌≤◌, ◌==◌, ◌⊎◌, Bool, true, false, not, ◌&&◌, ◌||◌}
+use Rattle.std.proofs.Common.{List, [], ◌∷◌, ◌++◌, length, get_or, filter, None, is_some, All, Contains, refl, sym, ap}
+use Rattle.std.proofs.Common.{◌∙◌, subst, eq-eqb, eqb-true, inl, inr, arith}
 use Rattle.std.specs.List.{list_all, list_any, range_with_len}
 use Rattle.std.specs.List.Sorted.{IsStrictlyIncreasing}
 use Rattle.std.proofs.lemmas.Bool.{cases_Bool, cases_lt, true≢false}
@@ -24,7 +26,8 @@ pub all_filtered : (p q : ℕ → Bool) (xs : List ℕ) → list_all p (filter (
 all_filtered p q [] = refl
 all_filtered p q (x ∷ xs) = by (all_filtered p q xs) (q x) refl
   where
-    by : list_all p (filter (λ z. not (q z)) xs) ≡ list_all (λ z. q z || p z) xs → (t : Bool) → q x ≡ t → list_all p (filter (λ z. not (q z)) (x ∷ xs)) ≡ list_all (λ z. q z || p z) (x ∷ xs)
+    by : list_all p (filter (λ z. not (q z)) xs) ≡ list_all (λ z. q z || p z) xs → (t : Bool) → q x ≡ t
+        → list_all p (filter (λ z. not (q z)) (x ∷ xs)) ≡ list_all (λ z. q z || p z) (x ∷ xs)
     by rest true lost = rw lost rest
     by rest false known = rw known (ap (λ b. p x && b) rest)
 
@@ -102,11 +105,13 @@ each_once s lost rows is = record {
   below = All-append (λ x. x < s.k) lost (known_of s.k lost) is.below (known_below s.k lost);
   all = λ x below. elim (cases_Bool (list_any (λ l. l == x) lost)) [
     | inl lost_one ↦ Contains-append_left lost (known_of s.k lost) x (any_found lost x lost_one)
-    | inr other ↦ Contains-append_right lost (known_of s.k lost) x (known_in s.k lost x below (λ found. true≢false (sym (any_at lost x found.0 found.1 found.2) ∙ other)))
+    | inr other ↦ Contains-append_right lost (known_of s.k lost) x
+        (known_in s.k lost x below (λ found. true≢false (sym (any_at lost x found.0 found.1 found.2) ∙ other)))
   ];
 }
   where
-    after : (i j d : ℕ) → i < j → j < length (lost ++ known_of s.k lost) → length lost ≤ j → get_or (lost ++ known_of s.k lost) i d ≢ get_or (lost ++ known_of s.k lost) j d
+    after : (i j d : ℕ) → i < j → j < length (lost ++ known_of s.k lost) → length lost ≤ j
+        → get_or (lost ++ known_of s.k lost) i d ≢ get_or (lost ++ known_of s.k lost) j d
     after i j d lt below late =
         let long = length-append lost (known_of s.k lost) in
         let right = get_or-append_right lost (known_of s.k lost) (length lost) j d refl late in
@@ -132,21 +137,24 @@ each_once s lost rows is = record {
     ]
 
 -- pieces of one length
-pub one_length : (block : ℕ) (rows known out : List Piece) → 1 ≤ length rows → All (λ p. length p.bytes ≡ block) rows → All (λ p. length p.bytes ≡ block) known → All (λ p. length p.bytes ≡ block) out
+pub one_length : (block : ℕ) (rows known out : List Piece) → 1 ≤ length rows → All (λ p. length p.bytes ≡ block) rows
+    → All (λ p. length p.bytes ≡ block) known → All (λ p. length p.bytes ≡ block) out
     → (length_of (rows ++ known ++ out) ≡ block) × HaveOneLength (rows ++ known ++ out)
 one_length block [] known out some rows_long known_long out_long = absurd (omega arith)
 one_length block (r ∷ rows) known out some rows_long known_long out_long =
     let first : length r.bytes ≡ block = rows_long 0 r (omega arith) in (
       first,
       subst (λ n. All (λ (p : Piece). length p.bytes ≡ n) ((r ∷ rows) ++ known ++ out)) (sym first)
-          (All-append (λ (p : Piece). length p.bytes ≡ block) ((r ∷ rows) ++ known) out (All-append (λ (p : Piece). length p.bytes ≡ block) (r ∷ rows) known rows_long known_long) out_long),
+          (All-append (λ (p : Piece). length p.bytes ≡ block) ((r ∷ rows) ++ known) out
+          (All-append (λ (p : Piece). length p.bytes ≡ block) (r ∷ rows) known rows_long known_long) out_long),
     )
 
 pub differ : (xs : List ℕ) → IsStrictlyIncreasing xs → AreDifferent xs
 differ xs rising i j d lt below same = let up = AllPairs-from_increasing xs rising i j d lt below in omega (arith, up, same)
 
 -- a decoded column is as long as the pieces
-pub decoded_long : (k m n : ℕ) (lost : List ℕ) (rows known : List Column) (pieces out : List Piece) → All (λ l. l < k) lost → numbers_of pieces ≡ known_of k lost → numbers_of out ≡ lost
+pub decoded_long : (k m n : ℕ) (lost : List ℕ) (rows known : List Column) (pieces out : List Piece)
+    → All (λ l. l < k) lost → numbers_of pieces ≡ known_of k lost → numbers_of out ≡ lost
     → Agree k m n rows known (columns_of k (pieces ++ out)) → All (λ l. length (bytes_of out l) ≡ n) lost
 decoded_long k m n lost rows known pieces out below numbers out_numbers agree i d less =
     let l = get_or lost i d in
@@ -157,10 +165,14 @@ decoded_long k m n lost rows known pieces out below numbers out_numbers agree i 
     let known_there : j < length (known_of k lost) = subst (λ ns. j < length ns) numbers (omega arith) in
     known_apart k lost j 0 known_there (i, less, get_or_default lost i (get_or (known_of k lost) j 0) d less ∙ (sym same ∙ ap (λ ns. get_or ns j 0) numbers)) in
     let found : Contains (numbers_of out) l = subst (λ ns. Contains ns l) (sym out_numbers) (Contains-get_or lost i d less) in
-    ap length (sym (column ∙ bytes_of_back pieces out l apart found)) ∙ agree.long l [] (omega (arith, length-map-range_with_len (bytes_of (pieces ++ out)) 0 k))
+    ap length (sym (column ∙ bytes_of_back pieces out l apart found))
+    ∙ agree.long l [] (omega (arith, length-map-range_with_len (bytes_of (pieces ++ out)) 0 k))
 
 -- whether all is in, by what is awaited
 pub complete_is : (s : Dimensions) (g : OpenSession) → IsOpen s g
-    → (list_all (λ n. is_some (at None g.known.parts n)) g.known.numbers && list_all (λ n. is_some (at None g.coded.parts n)) g.coded.numbers) ≡ is_complete s (gathering_of g)
+    → (list_all (λ n. is_some (at None g.known.parts n)) g.known.numbers && list_all
+    (λ n. is_some (at None g.coded.parts n)) g.coded.numbers) ≡ is_complete s (gathering_of g)
 complete_is s g sound = ap (λ t. t && list_all (λ n. is_some (at None g.coded.parts n)) g.coded.numbers)
-    (ap (list_all (λ n. is_some (at None g.known.parts n))) sound.known ∙ all_filtered (λ n. is_some (at None g.known.parts n)) (λ d. list_any (λ l. l == d) g.lost.items) (range_with_len 0 s.k))
+    (ap (list_all (λ n. is_some (at None g.known.parts n))) sound.known
+    ∙ all_filtered (λ n. is_some (at None g.known.parts n)) (λ d. list_any (λ l. l == d) g.lost.items)
+    (range_with_len 0 s.k))

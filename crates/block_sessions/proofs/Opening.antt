@@ -11,7 +11,8 @@ use Rattle.block_sessions.specs.Leading.{AreParts, started, state_of}
 use Rattle.block_sessions.specs.Opened.{IsOpen, gathering_of, new_session}
 use Rattle.block_sessions.specs.Rebuilt.{AreRebuilt, rebuilt_in}
 
-module _ (s : Dimensions) (last : ℕ) (sessions : List OpenSession) (pages new : List Contents) (g : OpenSession) (block : ℕ) (lost rows : List ℕ) (is : gathering_of g ≡ new_session s (last + 1) block lost rows) where
+module _ (s : Dimensions) (last : ℕ) (sessions : List OpenSession) (pages new : List Contents) (g : OpenSession)
+    (block : ℕ) (lost rows : List ℕ) (is : gathering_of g ≡ new_session s (last + 1) block lost rows) where
   numbered : g.number ≡ last + 1
   numbered = ap (λ (x : Gathering). x.number) is
 
@@ -19,13 +20,22 @@ module _ (s : Dimensions) (last : ℕ) (sessions : List OpenSession) (pages new 
   parts_with parts sound rebuilt = record {
     opened = record {
       each = All-push (IsOpen s) sessions g parts.opened.each sound;
-      rising = all_pairs_push (λ (x y : OpenSession). x.number < y.number) sessions g parts.opened.rising (λ k d less. omega (arith, parts.opened.numbered k d less, numbered));
-      numbered = All-push (λ (x : OpenSession). x.number ≤ last + 1) sessions g (All-weaker (λ (x : OpenSession). x.number ≤ last) (λ (x : OpenSession). x.number ≤ last + 1) (λ x le. omega arith) sessions parts.opened.numbered) (omega (arith, numbered));
+      rising = all_pairs_push (λ (x y : OpenSession). x.number < y.number) sessions g parts.opened.rising
+          (λ k d less. omega (arith, parts.opened.numbered k d less, numbered));
+      numbered = All-push (λ (x : OpenSession). x.number ≤ last + 1) sessions g
+          (All-weaker (λ (x : OpenSession). x.number ≤ last) (λ (x : OpenSession). x.number ≤ last + 1)
+          (λ x le. omega arith) sessions parts.opened.numbered) (omega (arith, numbered));
     };
     rebuilt = subst (λ n. AreRebuilt s n new) (sym (length_push sessions g)) rebuilt;
   }
 
-  pub state_with : map rebuilt_in new ≡ map rebuilt_in pages → state_of (sessions ++ g ∷ []) (last + 1) new ≡ started s block lost rows (state_of sessions last pages)
+  pub state_with : map rebuilt_in new ≡ map rebuilt_in pages → state_of (sessions ++ g ∷ []) (last + 1) new
+      ≡ started s block lost rows (state_of sessions last pages)
   state_with same =
-      ap₂ (λ gs blocks. record { sessions = gs; last_session = last + 1; rebuilt = blocks }) (map_push gathering_of sessions g ∙ ap (λ x. map gathering_of sessions ++ x ∷ []) is) same
-      ∙ ap (λ n. record { sessions = map gathering_of sessions ++ new_session s n block lost rows ∷ []; last_session = n; rebuilt = map rebuilt_in pages }) (add-one last)
+      ap₂ (λ gs blocks. record { sessions = gs; last_session = last + 1; rebuilt = blocks })
+      (map_push gathering_of sessions g ∙ ap (λ x. map gathering_of sessions ++ x ∷ []) is) same
+      ∙ ap (λ n. record {
+        sessions = map gathering_of sessions ++ new_session s n block lost rows ∷ [];
+        last_session = n;
+        rebuilt = map rebuilt_in pages;
+      }) (add-one last)

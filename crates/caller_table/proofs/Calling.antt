@@ -1,5 +1,6 @@
 -- What the events of one call log, from a group in which no op waits to be logged.
-use Rattle.std.proofs.Common.{ℕ, suc, ◌≡◌, ◌≢◌, ◌<◌, ◌≤◌, Bool, true, false, List, [], ◌∷◌, ◌++◌, ◌⊎◌, inl, inr, Option, Some, None, refl, sym, ap, subst, ◌∙◌, append-nil, append_assoc}
+use Rattle.std.proofs.Common.{ℕ, suc, ◌≡◌, ◌≢◌, ◌<◌, ◌≤◌, Bool, true, false, List, [], ◌∷◌, ◌++◌, ◌⊎◌, inl, inr, Option}
+use Rattle.std.proofs.Common.{Some, None, refl, sym, ap, subst, ◌∙◌, append-nil, append_assoc}
 use Rattle.std.specs.Prelude.{Contains}
 use Rattle.group_types.specs.Dimensions.{Dimensions}
 use Rattle.group_types.specs.Lists.{at}
@@ -124,26 +125,36 @@ never : {X : Type 0} {x : X} → None ≡ Some x → ⊥
 never is = cc is
 
 -- an ask
-asked-came : (s : Dimensions) (w : World) → IsLed s w → (caller : ℕ) (op : Asked) (log : List Entry) (p : ProcessId) (next : Next) → MayCome w (Ask caller op p) → Idle log w
-    → (a : Answer) → (group_step w (Ask caller op p)).answer ≡ a → asked_to (at 0 w.asked caller) p a ≡ Some next → Came caller op log (step w (Ask caller op p)).world next
-asked-came s w led caller op log p next may idle (says.Reply reply) answered leads = subst (Came caller op log (step w (Ask caller op p)).world) (sym (same-next leads)) (
-  at 0 w.asked caller,
-  grown-is w.log (step w (Ask caller op p)).turn.logged ∙ ap (λ (es : List Entry). w.log ++ es) alone ∙ ap (λ (es : List Entry). es ++ entry_of (next_name w caller) op reply ∷ []) idle.0,
-  ask-done w caller op p idle.1 (entry_of (next_name w caller) op reply) [] alone,
-)
+asked-came : (s : Dimensions) (w : World) → IsLed s w → (caller : ℕ) (op : Asked) (log : List Entry) (p : ProcessId)
+    (next : Next) → MayCome w (Ask caller op p) → Idle log w
+    → (a : Answer) → (group_step w (Ask caller op p)).answer ≡ a → asked_to (at 0 w.asked caller) p a ≡ Some next
+    → Came caller op log (step w (Ask caller op p)).world next
+asked-came s w led caller op log p next may idle (says.Reply reply) answered leads =
+    subst (Came caller op log (step w (Ask caller op p)).world) (sym (same-next leads)) (
+      at 0 w.asked caller,
+      grown-is w.log (step w (Ask caller op p)).turn.logged ∙ ap (λ (es : List Entry). w.log ++ es) alone
+          ∙ ap (λ (es : List Entry). es ++ entry_of (next_name w caller) op reply ∷ []) idle.0,
+      ask-done w caller op p idle.1 (entry_of (next_name w caller) op reply) [] alone,
+    )
   where
     two : EachTwo NamesDiffer (w.log ++ (step w (Ask caller op p)).turn.logged)
-    two = subst (EachTwo NamesDiffer) (grown-is w.log (step w (Ask caller op p)).turn.logged) (led-once s (step w (Ask caller op p)).world (led-step s w (Ask caller op p) led may))
+    two = subst (EachTwo NamesDiffer) (grown-is w.log (step w (Ask caller op p)).turn.logged)
+        (led-once s (step w (Ask caller op p)).world (led-step s w (Ask caller op p) led may))
 
     alone : (step w (Ask caller op p)).turn.logged ≡ entry_of (next_name w caller) op reply ∷ []
-    alone = single w.log (next_name w caller) op (step w (Ask caller op p)).turn.logged (entry_of (next_name w caller) op reply) two (ask-of w caller op p idle.1) (at-once s w led caller op p may reply answered)
-asked-came s w led caller op log p next may idle (says.Ticket number) answered leads = subst (Came caller op log (step w (Ask caller op p)).world) (sym (same-next leads)) (
-  subst (λ (es : List Entry). Under (next_name w caller) op es (step w (Ask caller op p)).world) idle.0 (under-ask w caller op p idle.1),
-  subst (Each (λ e. name_of e ≢ next_name w caller)) idle.0 (led-fresh s w caller led),
-)
-asked-came s w led caller op log p next may idle (says.Retry (cause.Block block)) answered leads = subst (Came caller op log (step w (Ask caller op p)).world) (sym (same-next leads))
+    alone = single w.log (next_name w caller) op (step w (Ask caller op p)).turn.logged
+        (entry_of (next_name w caller) op reply) two (ask-of w caller op p idle.1)
+        (at-once s w led caller op p may reply answered)
+asked-came s w led caller op log p next may idle (says.Ticket number) answered leads =
+    subst (Came caller op log (step w (Ask caller op p)).world) (sym (same-next leads)) (
+      subst (λ (es : List Entry). Under (next_name w caller) op es (step w (Ask caller op p)).world) idle.0 (under-ask w caller op p idle.1),
+      subst (Each (λ e. name_of e ≢ next_name w caller)) idle.0 (led-fresh s w caller led),
+    )
+asked-came s w led caller op log p next may idle (says.Retry (cause.Block block)) answered leads =
+    subst (Came caller op log (step w (Ask caller op p)).world) (sym (same-next leads))
     (idle-ask log w caller op p idle (ap is_issued answered) (ap (logged_at_once (call_of w (Ask caller op p))) answered))
-asked-came s w led caller op log p next may idle says.NoSpace answered leads = subst (Came caller op log (step w (Ask caller op p)).world) (sym (same-next leads))
+asked-came s w led caller op log p next may idle says.NoSpace answered leads =
+    subst (Came caller op log (step w (Ask caller op p)).world) (sym (same-next leads))
     (idle-ask log w caller op p idle (ap is_issued answered) (ap (logged_at_once (call_of w (Ask caller op p))) answered))
 asked-came s w led caller op log p next may idle says.Down answered leads = subst (Came caller op log (step w (Ask caller op p)).world) (sym (same-next leads))
     (idle-ask log w caller op p idle (ap is_issued answered) (ap (logged_at_once (call_of w (Ask caller op p))) answered))
@@ -159,35 +170,39 @@ asked-came s w led caller op log p next may idle says.Gone answered leads = absu
 asked-came s w led caller op log p next may idle (says.Stale call) answered leads = absurd (never leads)
 
 -- a collect
-collected-came : (s : Dimensions) (w : World) → IsLed s w → (caller call : ℕ) (op : Asked) (log : List Entry) (p : ProcessId) (next : Next) → MayCome w (Collect caller call p)
-    → Came caller op log w (Goes (Collects call p)) → (a : Answer) → (group_step w (Collect caller call p)).answer ≡ a → collected_to a ≡ Some next → Came caller op log (step w (Collect caller call p)).world next
-collected-came s w led caller call op log p next may came (says.Reply reply) answered leads = subst (Came caller op log v) (sym (same-next leads)) (call, logged, none) where
-  v : World
-  v = (step w (Collect caller call p)).world
+collected-came : (s : Dimensions) (w : World) → IsLed s w → (caller call : ℕ) (op : Asked) (log : List Entry)
+    (p : ProcessId) (next : Next) → MayCome w (Collect caller call p)
+    → Came caller op log w (Goes (Collects call p)) → (a : Answer) → (group_step w (Collect caller call p)).answer ≡ a
+    → collected_to a ≡ Some next → Came caller op log (step w (Collect caller call p)).world next
+collected-came s w led caller call op log p next may came (says.Reply reply) answered leads =
+    subst (Came caller op log v) (sym (same-next leads)) (call, logged, none) where
+      v : World
+      v = (step w (Collect caller call p)).world
 
-  n : CallName
-  n = record { caller = caller; call = call }
+      n : CallName
+      n = record { caller = caller; call = call }
 
-  u : Under n op log v
-  u = under-quiet n op log w (Collect caller call p) refl came.0
+      u : Under n op log v
+      u = under-quiet n op log w (Collect caller call p) refl came.0
 
-  found : (o : Asked) × Contains v.log (entry_of n o reply)
-  found = collected s w led caller call p may reply answered
+      found : (o : Asked) × Contains v.log (entry_of n o reply)
+      found = collected s w led caller call p may reply answered
 
-  two : EachTwo NamesDiffer (log ++ u.more)
-  two = subst (EachTwo NamesDiffer) u.whole (led-once s v (led-step s w (Collect caller call p) led may))
+      two : EachTwo NamesDiffer (log ++ u.more)
+      two = subst (EachTwo NamesDiffer) u.whole (led-once s v (led-step s w (Collect caller call p) led may))
 
-  alone : u.more ≡ entry_of n found.0 reply ∷ []
-  alone = single-behind log n op u.more (entry_of n found.0 reply) two u.mine came.1 refl (subst (λ (es : List Entry). Contains es (entry_of n found.0 reply)) u.whole found.1)
+      alone : u.more ≡ entry_of n found.0 reply ∷ []
+      alone = single-behind log n op u.more (entry_of n found.0 reply) two u.mine came.1 refl
+          (subst (λ (es : List Entry). Contains es (entry_of n found.0 reply)) u.whole found.1)
 
-  same : found.0 ≡ op
-  same = (subst (Each (IsOf n op)) alone u.mine).0.1
+      same : found.0 ≡ op
+      same = (subst (Each (IsOf n op)) alone u.mine).0.1
 
-  logged : v.log ≡ log ++ entry_of n op reply ∷ []
-  logged = u.whole ∙ ap (λ (es : List Entry). log ++ es) alone ∙ ap (λ (o : Asked). log ++ entry_of n o reply ∷ []) same
+      logged : v.log ≡ log ++ entry_of n op reply ∷ []
+      logged = u.whole ∙ ap (λ (es : List Entry). log ++ es) alone ∙ ap (λ (o : Asked). log ++ entry_of n o reply ∷ []) same
 
-  none : NoneWaits v.tickets
-  none = subst (λ (es : List Entry). DoneIf es v.tickets) alone u.done
+      none : NoneWaits v.tickets
+      none = subst (λ (es : List Entry). DoneIf es v.tickets) alone u.done
 collected-came s w led caller call op log p next may came (says.Ticket number) answered leads = absurd (never leads)
 collected-came s w led caller call op log p next may came (says.Retry why) answered leads = absurd (never leads)
 collected-came s w led caller call op log p next may came says.NoSpace answered leads = absurd (never leads)
@@ -224,7 +239,8 @@ event-came s w led caller op log stage e next came event = by (due w) refl event
       (ap (λ (x : Event). collected_to (step w x).turn.answer) (sym is) ∙ leads))
 
   by : (o : Option Event) → due w ≡ o → IsDone o caller op w stage e next → Came caller op log (step w e).world next
-  by (Some d) first done = subst (Came caller op log (step w e).world) (sym done.1) (subst (λ (x : Event). Came caller op log (step w x).world (Goes stage)) (sym done.0)
+  by (Some d) first done = subst (Came caller op log (step w e).world) (sym done.1)
+      (subst (λ (x : Event). Came caller op log (step w x).world (Goes stage)) (sym done.0)
       (quiet-came stage d (first-quiet s w led d first) came))
   by None first done = own stage came done
 

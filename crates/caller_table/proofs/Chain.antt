@@ -35,11 +35,13 @@ pub record Stays (s : Dimensions) (w : World) : Type 0 where
   pub quiet : (most_events ≤ w.events) ⊎ NoneWaits w.tickets
 
 -- no event of a call can be counted any more
-worn-none : (caller : ℕ) (op : Asked) (w : World) (es : List Event) (last : Next) → most_events ≤ w.events → Brings caller op w (Goes Asks) es last → (es ≡ []) × (last ≡ Goes Asks)
+worn-none : (caller : ℕ) (op : Asked) (w : World) (es : List Event) (last : Next) → most_events ≤ w.events
+    → Brings caller op w (Goes Asks) es last → (es ≡ []) × (last ≡ Goes Asks)
 worn-none caller op w [] last worn is = (refl, is)
 worn-none caller op w (e ∷ es) last worn (next, event, brings) = let below : w.events < most_events = event.counted in absurd (omega (arith, below, worn))
 
-worn-call : (caller : ℕ) (op : Asked) (w : World) (end : CallEnd) (v : World) → most_events ≤ w.events → IsCalled caller op w end v → (end ≡ ends.Worn) × (v ≡ w)
+worn-call : (caller : ℕ) (op : Asked) (w : World) (end : CallEnd) (v : World) → most_events ≤ w.events
+    → IsCalled caller op w end v → (end ≡ ends.Worn) × (v ≡ w)
 worn-call caller op w end v worn called =
     let none = worn-none caller op w called.events called.last worn called.brings in
     let over : IsOver v (Goes Asks) end = subst (λ (n : Next). IsOver v n end) none.1 called.over in
@@ -49,8 +51,13 @@ worn-call caller op w end v worn called =
 abbrev Came_to : ℕ → Asked → World → CallEnd → World → Type 0
 Came_to caller op w end v = Came caller op w.log v (Ends end) ⊎ ((end ≡ ends.Worn) × (most_events ≤ v.events))
 
-came-to : (s : Dimensions) (caller : ℕ) (op : Asked) (w : World) (end : CallEnd) (v : World) → IsLed s w → NoneWaits w.tickets → IsCalled caller op w end v → IsLed s v × Came_to caller op w end v
-came-to s caller op w end v led none called = (subst (IsLed s) (sym called.after) came.1, by called.last (subst (λ (x : World). Came caller op w.log x called.last) (sym called.after) came.0) called.over) where
+came-to : (s : Dimensions) (caller : ℕ) (op : Asked) (w : World) (end : CallEnd) (v : World) → IsLed s w
+    → NoneWaits w.tickets → IsCalled caller op w end v → IsLed s v × Came_to caller op w end v
+came-to s caller op w end v led none called = (
+  subst (IsLed s) (sym called.after) came.1,
+  by called.last (subst (λ (x : World). Came caller op w.log x called.last) (sym called.after) came.0)
+      called.over,
+) where
   came : Came caller op w.log (world_after w called.events) called.last × IsLed s (world_after w called.events)
   came = events-came s called.events w led caller op w.log (Goes Asks) called.last (refl, none) called.brings
 
@@ -65,7 +72,8 @@ module _ (s : Dimensions) (caller : ℕ) (op : Asked) (w v : World) (led : IsLed
 
   of-came : (places : v.log ≡ w.log → v.places ≡ w.places) (end : CallEnd) → Came caller op w.log v (Ends end) → IsOfTable caller w op end v
   of-came places (ends.Reply reply) came = record {
-    is = last-legal (empty_table s.k) w.log (entry_of (record { caller = caller; call = came.0 }) op reply) (subst (IsLegal s.k) came.1 (led-legal s v behind)) ∙ ap (λ (t : Contents). reply_of t op) (sym table-is);
+    is = last-legal (empty_table s.k) w.log (entry_of (record { caller = caller; call = came.0 }) op reply)
+        (subst (IsLegal s.k) came.1 (led-legal s v behind)) ∙ ap (λ (t : Contents). reply_of t op) (sym table-is);
     call = came.0;
     logged = came.1;
   }
@@ -79,13 +87,15 @@ table-same : (w v : World) → v.shape ≡ w.shape → v.log ≡ w.log → table
 table-same w v shape log = ap (λ (t : Dimensions). table_of (empty_table t.k) v.log) shape ∙ ap (table_of (empty_table w.shape.k)) log
 
 table-next : (w v : World) (e : Entry) → v.shape ≡ w.shape → v.log ≡ w.log ++ e ∷ [] → table_in v ≡ table_after (table_in w) e.op
-table-next w v e shape log = ap (λ (t : Dimensions). table_of (empty_table t.k) v.log) shape ∙ ap (table_of (empty_table w.shape.k)) log ∙ table-append (empty_table w.shape.k) w.log (e ∷ [])
+table-next w v e shape log = ap (λ (t : Dimensions). table_of (empty_table t.k) v.log) shape
+    ∙ ap (table_of (empty_table w.shape.k)) log ∙ table-append (empty_table w.shape.k) w.log (e ∷ [])
 
 same-shape : (s : Dimensions) (w v : World) → IsLed s w → IsLed s v → v.shape ≡ w.shape
 same-shape s w v led behind = led-shape s v behind ∙ sym (led-shape s w led)
 
 -- the end of a call from a group that calls led to
-pub call-of-table : (s : Dimensions) (c after : GroupCaller) (op : Asked) (end : CallEnd) → Stays s c.world → HasCalled c op end after → IsOfTable c.caller c.world op end after.world
+pub call-of-table : (s : Dimensions) (c after : GroupCaller) (op : Asked) (end : CallEnd) → Stays s c.world
+    → HasCalled c op end after → IsOfTable c.caller c.world op end after.world
 call-of-table s c after op end stays called = by stays.quiet where
   worn-of : (e : CallEnd) → e ≡ ends.Worn → IsOfTable c.caller c.world op e after.world
   worn-of e is = subst (λ (x : CallEnd). IsOfTable c.caller c.world op x after.world) (sym is) tt
@@ -93,7 +103,8 @@ call-of-table s c after op end stays called = by stays.quiet where
   places : IsLed s after.world → after.world.log ≡ c.world.log → after.world.places ≡ c.world.places
   places behind same =
       let is = called.called.after in
-      ap (λ (x : World). x.places) is ∙ places-same s c.world called.called.events stays.led (subst (IsLed s) is behind) (ap (λ (x : World). x.log) (sym is) ∙ same)
+      ap (λ (x : World). x.places) is ∙ places-same s c.world called.called.events stays.led (subst (IsLed s) is behind)
+      (ap (λ (x : World). x.log) (sym is) ∙ same)
 
   by : (most_events ≤ c.world.events) ⊎ NoneWaits c.world.tickets → IsOfTable c.caller c.world op end after.world
   by (inl worn) = worn-of end (worn-call c.caller op c.world end after.world worn called.called).0
@@ -107,8 +118,10 @@ order-later : (c after : GroupCaller) (p : ProcessId) (keep : ℕ) (end : FailEn
 order-later c after p keep fails.Off ordered = let same = ap (λ (x : GroupCaller). x.world.events) ordered.1 in omega (arith, same)
 order-later c after p keep fails.NoProcess ordered = let same = ap (λ (x : GroupCaller). x.world.events) ordered.2 in omega (arith, same)
 order-later c after p keep fails.Worn ordered = let same = ap (λ (x : GroupCaller). x.world.events) ordered.2 in omega (arith, same)
-order-later c after p keep fails.Made ordered = let same : after.world.events ≡ suc c.world.events = ap (λ (x : World). x.events) ordered.world in omega (arith, same)
-order-later c after p keep fails.AlreadyDead ordered = let same : after.world.events ≡ suc c.world.events = ap (λ (x : World). x.events) ordered.world in omega (arith, same)
+order-later c after p keep fails.Made ordered = let same : after.world.events ≡ suc c.world.events =
+    ap (λ (x : World). x.events) ordered.world in omega (arith, same)
+order-later c after p keep fails.AlreadyDead ordered = let same : after.world.events ≡ suc c.world.events =
+    ap (λ (x : World). x.events) ordered.world in omega (arith, same)
 
 worn-chain : (t : Contents) (c after : GroupCaller) (calls : List Call) → most_events ≤ c.world.events → Leads group_ways c calls after → AreOfTable t calls
 worn-chain t c after [] worn leads = tt
@@ -120,7 +133,8 @@ worn-chain t c after (Failed p keep end ∷ calls) worn (next, ordered, leads) =
     let later = order-later c next p keep end ordered in worn-chain t next after calls (omega (arith, worn, later)) leads
 
 -- an order that a process fail is an event, or none, and logs nothing
-ordered-led : (s : Dimensions) (c after : GroupCaller) (p : ProcessId) (keep : ℕ) (end : FailEnd) → IsLed s c.world → IsOrdered c p keep end after → IsLed s after.world
+ordered-led : (s : Dimensions) (c after : GroupCaller) (p : ProcessId) (keep : ℕ) (end : FailEnd) → IsLed s c.world
+    → IsOrdered c p keep end after → IsLed s after.world
 ordered-led s c after p keep end led = by end where
   same : after ≡ c → IsLed s after.world
   same is = subst (λ (x : GroupCaller). IsLed s x.world) (sym is) led
@@ -135,7 +149,8 @@ ordered-led s c after p keep end led = by end where
   by fails.Made ordered = failed fails.Made ordered
   by fails.AlreadyDead ordered = failed fails.AlreadyDead ordered
 
-ordered-idle : (c after : GroupCaller) (p : ProcessId) (keep : ℕ) (end : FailEnd) → NoneWaits c.world.tickets → IsOrdered c p keep end after → Idle c.world.log after.world
+ordered-idle : (c after : GroupCaller) (p : ProcessId) (keep : ℕ) (end : FailEnd) → NoneWaits c.world.tickets
+    → IsOrdered c p keep end after → Idle c.world.log after.world
 ordered-idle c after p keep end none = by end where
   same : after ≡ c → Idle c.world.log after.world
   same is = subst (λ (x : GroupCaller). Idle c.world.log x.world) (sym is) (refl, none)
@@ -168,14 +183,16 @@ call-stays s c after op end stays called = by stays.quiet where
     either (behind, inl came) = record { led = behind; quiet = inr (none-behind c.caller op c.world.log after.world end came) }
     either (behind, inr worn) = record { led = behind; quiet = inl worn.1 }
 
-order-stays : (s : Dimensions) (c after : GroupCaller) (p : ProcessId) (keep : ℕ) (end : FailEnd) → Stays s c.world → IsOrdered c p keep end after → Stays s after.world
+order-stays : (s : Dimensions) (c after : GroupCaller) (p : ProcessId) (keep : ℕ) (end : FailEnd) → Stays s c.world
+    → IsOrdered c p keep end after → Stays s after.world
 order-stays s c after p keep end stays ordered = record { led = ordered-led s c after p keep end stays.led ordered; quiet = by stays.quiet } where
   by : (most_events ≤ c.world.events) ⊎ NoneWaits c.world.tickets → (most_events ≤ after.world.events) ⊎ NoneWaits after.world.tickets
   by (inl worn) = let later = order-later c after p keep end ordered in inl (omega (arith, worn, later))
   by (inr none) = inr (ordered-idle c after p keep end none ordered).1
 
 -- a call that is worn out leaves a group that counts no further event
-worn-later : (s : Dimensions) (c after : GroupCaller) (op : Asked) (end : CallEnd) → Stays s c.world → HasCalled c op end after → end ≡ ends.Worn → most_events ≤ after.world.events
+worn-later : (s : Dimensions) (c after : GroupCaller) (op : Asked) (end : CallEnd) → Stays s c.world
+    → HasCalled c op end after → end ≡ ends.Worn → most_events ≤ after.world.events
 worn-later s c after op end stays called is = by stays.quiet where
   by : (most_events ≤ c.world.events) ⊎ NoneWaits c.world.tickets → most_events ≤ after.world.events
   by (inl worn) = subst (λ (x : World). most_events ≤ x.events) (sym (worn-call c.caller op c.world end after.world worn called.called).1) worn
@@ -185,23 +202,33 @@ worn-later s c after op end stays called is = by stays.quiet where
     either (behind, inr worn) = worn.1
 
 -- the calls behind one, by its end
-made-of-table : (c next after : GroupCaller) (op : Asked) (calls : List Call) → next.world.shape ≡ c.world.shape → Leads group_ways next calls after → AreOfTable (table_in next.world) calls
-    → (end : CallEnd) → IsOfTable c.caller c.world op end next.world → (end ≡ ends.Worn → most_events ≤ next.world.events) → AreOfTable (table_in c.world) (Made op end ∷ calls)
-made-of-table c next after op calls shape leads rest (ends.Reply reply) it worn =
-    (it.is, subst (λ (t : Contents). AreOfTable t calls) (table-next c.world next.world (entry_of (record { caller = c.caller; call = it.call }) op reply) shape it.logged) rest)
-made-of-table c next after op calls shape leads rest ends.NoSpace it worn = subst (λ (t : Contents). AreOfTable t calls) (table-same c.world next.world shape it.log) rest
-made-of-table c next after op calls shape leads rest ends.Down it worn = subst (λ (t : Contents). AreOfTable t calls) (table-same c.world next.world shape it.log) rest
+made-of-table : (c next after : GroupCaller) (op : Asked) (calls : List Call) → next.world.shape ≡ c.world.shape
+    → Leads group_ways next calls after → AreOfTable (table_in next.world) calls
+    → (end : CallEnd) → IsOfTable c.caller c.world op end next.world
+    → (end ≡ ends.Worn → most_events ≤ next.world.events) → AreOfTable (table_in c.world) (Made op end ∷ calls)
+made-of-table c next after op calls shape leads rest (ends.Reply reply) it worn = (
+  it.is,
+  subst (λ (t : Contents). AreOfTable t calls)
+      (table-next c.world next.world (entry_of (record { caller = c.caller; call = it.call }) op reply) shape it.logged)
+      rest,
+)
+made-of-table c next after op calls shape leads rest ends.NoSpace it worn = subst (λ (t : Contents). AreOfTable t calls)
+    (table-same c.world next.world shape it.log) rest
+made-of-table c next after op calls shape leads rest ends.Down it worn = subst (λ (t : Contents). AreOfTable t calls)
+    (table-same c.world next.world shape it.log) rest
 made-of-table c next after op calls shape leads rest ends.Worn it worn = worn-chain (table_in c.world) next after calls (worn refl) leads
 made-of-table c next after op calls shape leads rest ends.Moves it worn = absurd it
 
 -- calls that lead from such a group
-pub chain-of-table : (s : Dimensions) (calls : List Call) (c after : GroupCaller) → Stays s c.world → Leads group_ways c calls after → Stays s after.world × AreOfTable (table_in c.world) calls
+pub chain-of-table : (s : Dimensions) (calls : List Call) (c after : GroupCaller) → Stays s c.world
+    → Leads group_ways c calls after → Stays s after.world × AreOfTable (table_in c.world) calls
 chain-of-table s [] c after stays is = (subst (λ (x : GroupCaller). Stays s x.world) (sym is) stays, tt)
 chain-of-table s (Made op end ∷ calls) c after stays (next, called, leads) =
     let on : Stays s next.world = call-stays s c next op end stays called in
     let rest = chain-of-table s calls next after on leads in (
       rest.0,
-      made-of-table c next after op calls (same-shape s c.world next.world stays.led on.led) leads rest.1 end (call-of-table s c next op end stays called) (worn-later s c next op end stays called),
+      made-of-table c next after op calls (same-shape s c.world next.world stays.led on.led) leads rest.1 end
+          (call-of-table s c next op end stays called) (worn-later s c next op end stays called),
     )
 chain-of-table s (Failed p keep end ∷ calls) c after stays (next, ordered, leads) =
     let on : Stays s next.world = order-stays s c next p keep end stays ordered in
@@ -210,7 +237,9 @@ chain-of-table s (Failed p keep end ∷ calls) c after stays (next, ordered, lea
     by : (most_events ≤ c.world.events) ⊎ NoneWaits c.world.tickets → AreOfTable (table_in next.world) calls → AreOfTable (table_in c.world) calls
     by (inl worn) rest = let later = order-later c next p keep end ordered in worn-chain (table_in c.world) next after calls (omega (arith, worn, later)) leads
     by (inr none) rest = subst (λ (t : Contents). AreOfTable t calls)
-        (table-same c.world next.world (same-shape s c.world next.world stays.led (ordered-led s c next p keep end stays.led ordered)) (ordered-idle c next p keep end none ordered).0) rest
+        (table-same c.world next.world
+        (same-shape s c.world next.world stays.led (ordered-led s c next p keep end stays.led ordered))
+        (ordered-idle c next p keep end none ordered).0) rest
 
 pub one_table_always : OneTableAlways
 one_table_always s shape = record {

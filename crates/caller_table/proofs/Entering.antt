@@ -1,5 +1,6 @@
 -- What an event logs: entries of calls whose op waits in a ticket, and that of its own call.
-use Rattle.std.proofs.Common.{ℕ, ◌≡◌, Bool, true, false, ◌||◌, List, [], ◌∷◌, ◌++◌, length, map, ◌⊎◌, inl, inr, Option, Some, None, if◌then◌else◌, refl, sym, ap, subst, ◌∙◌}
+use Rattle.std.proofs.Common.{ℕ, ◌≡◌, Bool, true, false, ◌||◌, List, [], ◌∷◌, ◌++◌, length, map, ◌⊎◌, inl, inr, Option}
+use Rattle.std.proofs.Common.{Some, None, if◌then◌else◌, refl, sym, ap, subst, ◌∙◌}
 use Rattle.std.specs.List.{list_any, range_with_len}
 use Rattle.memc_table.specs.Asked.{Asked}
 use Rattle.memc_table.specs.declared.reply.Reply.{Reply}
@@ -12,7 +13,10 @@ use Rattle.group_calls.specs.declared.event.Event.{Event}
 use Rattle.group_calls.specs.declared.event.Event.TheVariants.{Ask}
 use Rattle.group_run.specs.Applying.{Settlement}
 use Rattle.group_run.specs.Asking.{reply_from}
-use Rattle.group_run.specs.World.{Call, Ledger, Ticket, World, call_of, entries_for, entry_then, group_step, ledger_after, ledger_with, logged_at_once, new_ones, next_name, op_in, op_moved, ops_moved, refusal_logged, same_call, settled_in, step, ticket_if, tickets_after, update_name, is_issued}
+use Rattle.group_run.specs.World.{Call, Ledger, Ticket, World, call_of, entries_for, entry_then, group_step}
+use Rattle.group_run.specs.World.{ledger_after, ledger_with, logged_at_once, new_ones, next_name, op_in, op_moved}
+use Rattle.group_run.specs.World.{ops_moved, refusal_logged, same_call, settled_in, step, ticket_if, tickets_after}
+use Rattle.group_run.specs.World.{update_name, is_issued}
 use Rattle.group_types.specs.declared.process.ProcessId.{ProcessId}
 use Rattle.law_log.proofs.Ties.{is_logged}
 use Rattle.law_moves.proofs.Reading.{grown-is}
@@ -47,7 +51,8 @@ abbrev pub IsOf : CallName → Asked → Entry → Type 0
 IsOf n asked e = (name_of e ≡ n) × (e.op ≡ asked)
 
 -- entries that all have what each op that waits gives them
-module _ (tickets : List Ticket) (P : Entry → Type 0) (of : (u : Update) (op : Asked) → op_in (update_name u) tickets ≡ Some op → P (entry_of (update_name u) op (reply_from u.outcome))) where
+module _ (tickets : List Ticket) (P : Entry → Type 0) (of : (u : Update) (op : Asked) → op_in (update_name u) tickets
+    ≡ Some op → P (entry_of (update_name u) op (reply_from u.outcome))) where
   entries-each : (us : List Update) → Each P (entries_for tickets us)
   entries-each [] = tt
   entries-each (u ∷ us) = by (op_in (update_name u) tickets) refl (entries-each us) where
@@ -60,13 +65,16 @@ module _ (tickets : List Ticket) (P : Entry → Type 0) (of : (u : Update) (op :
   ledger-each settled (d ∷ ds) ledger all =
       let news : List Update = new_ones (length (at [] ledger.places d)) (settled_in d settled) in
       ledger-each settled ds (ledger_with tickets d news ledger)
-      (subst (Each P) (sym (grown-is ledger.logged (entries_for tickets news))) (each-append P ledger.logged (entries_for tickets news) all (entries-each news)))
+      (subst (Each P) (sym (grown-is ledger.logged (entries_for tickets news)))
+      (each-append P ledger.logged (entries_for tickets news) all (entries-each news)))
 
 -- the tickets of a step before ops move into the log
 abbrev pub tickets_in : World → Event → List Ticket
 tickets_in w e = tickets_after (length w.log) (call_of w e) (group_step w e).answer w.tickets
 
-step-each : (w : World) (e : Event) (P : Entry → Type 0) → ((u : Update) (op : Asked) → op_in (update_name u) (tickets_in w e) ≡ Some op → P (entry_of (update_name u) op (reply_from u.outcome)))
+step-each : (w : World) (e : Event) (P : Entry → Type 0)
+    → ((u : Update) (op : Asked) → op_in (update_name u) (tickets_in w e) ≡ Some op
+    → P (entry_of (update_name u) op (reply_from u.outcome)))
     → Each P (logged_at_once (call_of w e) (group_step w e).answer) → Each P (step w e).turn.logged
 step-each w e P of all = ledger-each (tickets_in w e) P of (group_step w e).settled (range_with_len 0 w.shape.k) _ all
 
@@ -78,7 +86,9 @@ module _ (logged : List Entry) (name : CallName) (op : Asked) where
     rest : Option Asked
     rest = op_in name (map (op_moved logged) ts)
 
-    by : (b c : Bool) → same_call t.name name ≡ c → (rest ≡ Some op → op_in name ts ≡ Some op) → op_in name ((if b then record t { op = None } else t) ∷ map (op_moved logged) ts) ≡ Some op → op_in name (t ∷ ts) ≡ Some op
+    by : (b c : Bool) → same_call t.name name ≡ c → (rest ≡ Some op → op_in name ts ≡ Some op)
+        → op_in name ((if b then record t { op = None } else t) ∷ map (op_moved logged) ts) ≡ Some op
+        → op_in name (t ∷ ts) ≡ Some op
     by true true same more is = absurd (none-some (sym (ap (λ (x : Bool). if x then no_op else rest) same) ∙ is))
     by true false same more is = ap (λ (x : Bool). if x then t.op else op_in name ts) same ∙ more (sym (ap (λ (x : Bool). if x then no_op else rest) same) ∙ is)
     by false true same more is = ap (λ (x : Bool). if x then t.op else op_in name ts) same ∙ sym (ap (λ (x : Bool). if x then t.op else rest) same) ∙ is
@@ -92,7 +102,8 @@ map-done logged n op there (t ∷ ts) is = by (same_call t.name n) refl (map-don
   rest = op_in n (map (op_moved logged) ts)
 
   -- its ticket, whether its entry is among those that are logged
-  at : (b c : Bool) → (c ≡ true → b ≡ true) → same_call t.name n ≡ c → (rest ≡ Some op → ⊥) → op_in n ((if b then record t { op = None } else t) ∷ map (op_moved logged) ts) ≡ Some op → ⊥
+  at : (b c : Bool) → (c ≡ true → b ≡ true) → same_call t.name n ≡ c → (rest ≡ Some op → ⊥)
+      → op_in n ((if b then record t { op = None } else t) ∷ map (op_moved logged) ts) ≡ Some op → ⊥
   at true true both same more is = none-some (sym (ap (λ (x : Bool). if x then no_op else rest) same) ∙ is)
   at true false both same more is = more (sym (ap (λ (x : Bool). if x then no_op else rest) same) ∙ is)
   at false true both same more is = absurd (cc (both refl))
@@ -106,14 +117,18 @@ moved-waits [] ts name op is = is
 moved-waits (e ∷ es) ts name op is = map-waits (e ∷ es) name op ts is
 
 -- where one call's op may wait and its entry is logged, none waits behind
-pub none-left : (n : CallName) (asked : Asked) (ts : List Ticket) (e : Entry) (es : List Entry) → OneWaits n asked ts → IsOf n asked e → NoneWaits (ops_moved (e ∷ es) ts)
+pub none-left : (n : CallName) (asked : Asked) (ts : List Ticket) (e : Entry) (es : List Entry) → OneWaits n asked ts
+    → IsOf n asked e → NoneWaits (ops_moved (e ∷ es) ts)
 none-left n asked ts e es one of name op is =
     let was = one name op (map-waits (e ∷ es) name op ts is) in
-    let there : is_logged (e ∷ es) n ≡ true = ap (λ (x : CallName). same_call x n || is_logged es n) of.0 ∙ ap (λ (b : Bool). b || is_logged es n) (call-refl n) in
+    let there : is_logged (e ∷ es) n ≡ true = ap (λ (x : CallName). same_call x n || is_logged es n) of.0
+    ∙ ap (λ (b : Bool). b || is_logged es n) (call-refl n) in
     map-done (e ∷ es) n op there ts (ap (λ (x : CallName). op_in x (ops_moved (e ∷ es) ts)) (sym was.0) ∙ is)
 
 -- a ticket behind others of which none has an op
-pushed : (name : CallName) (op : Asked) (n : CallName) (asked : Asked) (since : ℕ) (ts : List Ticket) → (op_in name ts ≡ Some op → ⊥) → op_in name (ts ++ record { name = n; since = since; op = Some asked } ∷ []) ≡ Some op → (name ≡ n) × (op ≡ asked)
+pushed : (name : CallName) (op : Asked) (n : CallName) (asked : Asked) (since : ℕ) (ts : List Ticket)
+    → (op_in name ts ≡ Some op → ⊥) → op_in name (ts ++ record { name = n; since = since; op = Some asked } ∷ [])
+    ≡ Some op → (name ≡ n) × (op ≡ asked)
 pushed name op n asked since [] none is = last (same_call n name) refl is where
   last : (c : Bool) → same_call n name ≡ c → (if c then Some asked else no_op) ≡ Some op → (name ≡ n) × (op ≡ asked)
   last true same is = (sym (call-eq n name same), sym (some-same is))
@@ -122,16 +137,22 @@ pushed name op n asked since (x ∷ xs) none is = at (same_call x.name name) ref
   more : List Ticket
   more = xs ++ record { name = n; since = since; op = Some asked } ∷ []
 
-  at : (c : Bool) → same_call x.name name ≡ c → ((op_in name xs ≡ Some op → ⊥) → op_in name more ≡ Some op → (name ≡ n) × (op ≡ asked)) → (name ≡ n) × (op ≡ asked)
-  at true same rest = absurd (none (ap (λ (b : Bool). if b then x.op else op_in name xs) same ∙ sym (ap (λ (b : Bool). if b then x.op else op_in name more) same) ∙ is))
-  at false same rest = rest (λ there. none (ap (λ (b : Bool). if b then x.op else op_in name xs) same ∙ there)) (sym (ap (λ (b : Bool). if b then x.op else op_in name more) same) ∙ is)
+  at : (c : Bool) → same_call x.name name ≡ c → ((op_in name xs ≡ Some op → ⊥) → op_in name more ≡ Some op → (name ≡ n)
+      × (op ≡ asked)) → (name ≡ n) × (op ≡ asked)
+  at true same rest =
+      absurd (none (ap (λ (b : Bool). if b then x.op else op_in name xs) same
+      ∙ sym (ap (λ (b : Bool). if b then x.op else op_in name more) same) ∙ is))
+  at false same rest = rest (λ there. none (ap (λ (b : Bool). if b then x.op else op_in name xs) same ∙ there))
+      (sym (ap (λ (b : Bool). if b then x.op else op_in name more) same) ∙ is)
 
 -- an event that asks nothing
 module _ (w : World) (e : Event) (quiet : call_of w e ≡ None) where
   same-tickets : tickets_in w e ≡ w.tickets
   same-tickets = ap (λ (c : Option Call). tickets_after (length w.log) c (group_step w e).answer w.tickets) quiet
 
-  quiet-each : (P : Entry → Type 0) → ((u : Update) (op : Asked) → op_in (update_name u) w.tickets ≡ Some op → P (entry_of (update_name u) op (reply_from u.outcome))) → Each P (step w e).turn.logged
+  quiet-each : (P : Entry → Type 0)
+      → ((u : Update) (op : Asked) → op_in (update_name u) w.tickets ≡ Some op
+      → P (entry_of (update_name u) op (reply_from u.outcome))) → Each P (step w e).turn.logged
   quiet-each P of = step-each w e P (λ u op is. of u op (ap (op_in (update_name u)) (sym same-tickets) ∙ is))
       (subst (λ (c : Option Call). Each P (logged_at_once c (group_step w e).answer)) (sym quiet) tt)
 
@@ -148,9 +169,12 @@ module _ (w : World) (e : Event) (quiet : call_of w e ≡ None) where
   quiet-of n asked one = quiet-each (IsOf n asked) (λ u op is. one (update_name u) op is)
 
   -- and none waits behind the entry of that call
-  pub quiet-done : (n : CallName) (asked : Asked) → OneWaits n asked w.tickets → (x : Entry) (xs : List Entry) → (step w e).turn.logged ≡ x ∷ xs → NoneWaits (step w e).world.tickets
+  pub quiet-done : (n : CallName) (asked : Asked) → OneWaits n asked w.tickets → (x : Entry) (xs : List Entry)
+      → (step w e).turn.logged ≡ x ∷ xs → NoneWaits (step w e).world.tickets
   quiet-done n asked one x xs is = subst (λ (es : List Entry). NoneWaits (ops_moved es (tickets_in w e))) (sym is)
-      (none-left n asked (tickets_in w e) x xs (λ name op there. one name op (ap (op_in name) (sym same-tickets) ∙ there)) (subst (Each (IsOf n asked)) is (quiet-of n asked one)).0)
+      (none-left n asked (tickets_in w e) x xs
+      (λ name op there. one name op (ap (op_in name) (sym same-tickets) ∙ there))
+      (subst (Each (IsOf n asked)) is (quiet-of n asked one)).0)
 
 -- an ask, where no op waits before it
 module _ (w : World) (caller : ℕ) (asked : Asked) (p : ProcessId) (none : NoneWaits w.tickets) where
@@ -166,8 +190,13 @@ module _ (w : World) (caller : ℕ) (asked : Asked) (p : ProcessId) (none : None
     in_it = ap (λ (b : Bool). ticket_if b (length w.log) (record { name = n; op = asked }) w.tickets) (sym said)
 
     by : (b : Bool) → issued ≡ b → (name ≡ n) × (op ≡ asked)
-    by true sure = pushed name op n asked (length w.log) w.tickets (none name op) (ap (λ (b : Bool). op_in name (ticket_if b (length w.log) (record { name = n; op = asked }) w.tickets)) (sym sure) ∙ ap (op_in name) in_it ∙ is)
-    by false not = absurd (none name op (ap (λ (b : Bool). op_in name (ticket_if b (length w.log) (record { name = n; op = asked }) w.tickets)) (sym not) ∙ ap (op_in name) in_it ∙ is))
+    by true sure = pushed name op n asked (length w.log) w.tickets (none name op)
+        (ap (λ (b : Bool). op_in name (ticket_if b (length w.log) (record { name = n; op = asked }) w.tickets))
+        (sym sure) ∙ ap (op_in name) in_it ∙ is)
+    by false not =
+        absurd (none name op
+        (ap (λ (b : Bool). op_in name (ticket_if b (length w.log) (record { name = n; op = asked }) w.tickets))
+        (sym not) ∙ ap (op_in name) in_it ∙ is))
 
   -- an ask logs entries of its own call alone, and no other op waits behind it
   logs-at-once : (a : Answer) → Each (IsOf n asked) (logged_at_once (call_of w (Ask caller asked p)) a)
@@ -193,7 +222,8 @@ module _ (w : World) (caller : ℕ) (asked : Asked) (p : ProcessId) (none : None
   ask-of = step-each w (Ask caller asked p) (IsOf n asked) (λ u op is. ask-waits (is_issued answer) refl (update_name u) op is) (logs-at-once answer)
 
   pub ask-one : OneWaits n asked (step w (Ask caller asked p)).world.tickets
-  ask-one name op is = ask-waits (is_issued answer) refl name op (moved-waits (step w (Ask caller asked p)).turn.logged (tickets_in w (Ask caller asked p)) name op is)
+  ask-one name op is = ask-waits (is_issued answer) refl name op
+      (moved-waits (step w (Ask caller asked p)).turn.logged (tickets_in w (Ask caller asked p)) name op is)
 
   -- the entry of its call is logged, so none waits
   pub ask-done : (e : Entry) (es : List Entry) → (step w (Ask caller asked p)).turn.logged ≡ e ∷ es → NoneWaits (step w (Ask caller asked p)).world.tickets
@@ -201,11 +231,18 @@ module _ (w : World) (caller : ℕ) (asked : Asked) (p : ProcessId) (none : None
       (none-left n asked (tickets_in w (Ask caller asked p)) e es (ask-waits (is_issued answer) refl) (subst (Each (IsOf n asked)) is ask-of).0)
 
   -- where no update was issued and there is no reply, nothing is logged, and nothing waits
-  pub ask-nothing : is_issued answer ≡ false → logged_at_once (call_of w (Ask caller asked p)) answer ≡ [] → ((step w (Ask caller asked p)).turn.logged ≡ []) × NoneWaits (step w (Ask caller asked p)).world.tickets
-  ask-nothing idle silent = (logs-none, λ name op is. waits-none name op (moved-waits (step w (Ask caller asked p)).turn.logged (tickets_in w (Ask caller asked p)) name op is))
+  pub ask-nothing : is_issued answer ≡ false → logged_at_once (call_of w (Ask caller asked p)) answer ≡ []
+      → ((step w (Ask caller asked p)).turn.logged ≡ []) × NoneWaits (step w (Ask caller asked p)).world.tickets
+  ask-nothing idle silent = (
+    logs-none,
+    λ name op is. waits-none name op
+        (moved-waits (step w (Ask caller asked p)).turn.logged (tickets_in w (Ask caller asked p)) name op is),
+  )
     where
       waits-none : NoneWaits (tickets_in w (Ask caller asked p))
       waits-none = subst (λ (b : Bool). NoneWaits (ticket_if b (length w.log) (record { name = n; op = asked }) w.tickets)) (sym idle) none
 
       logs-none : (step w (Ask caller asked p)).turn.logged ≡ []
-      logs-none = each-never (step w (Ask caller asked p)).turn.logged (step-each w (Ask caller asked p) (λ _. ⊥) (λ u op is. waits-none (update_name u) op is) (subst (Each (λ _. ⊥)) (sym silent) tt))
+      logs-none = each-never (step w (Ask caller asked p)).turn.logged
+          (step-each w (Ask caller asked p) (λ _. ⊥) (λ u op is. waits-none (update_name u) op is)
+          (subst (Each (λ _. ⊥)) (sym silent) tt))

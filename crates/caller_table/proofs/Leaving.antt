@@ -33,7 +33,11 @@ led-count s w led d low = subst (λ (x : World). length (at [] x.places d) ≡ s
     tied : LogTies s led.events
     tied = ties s led.events led.run
 
-pub places-same : (s : Dimensions) (w : World) (es : List Event) → IsLed s w → IsLed s (world_after w es) → (world_after w es).log ≡ w.log → (world_after w es).places ≡ w.places
+pub places-same : (s : Dimensions) (w : World) (es : List Event) → IsLed s w → IsLed s (world_after w es)
+    → (world_after w es).log ≡ w.log → (world_after w es).places ≡ w.places
 places-same s w es led behind same = grows-same s.k w.places (world_after w es).places (led-long s w led)
-    (subst (λ (t : Dimensions). Grows t.k w.places (world_after w es).places) (led-shape s w led) (events-grow w es (led-long s w led ∙ sym (ap (λ (t : Dimensions). t.k) (led-shape s w led)))))
-    (λ d low. led-count s (world_after w es) behind d low ∙ ap (λ (log : List Entry). slice_index (table_of (empty_table s.k) log).counts d) same ∙ sym (led-count s w led d low))
+    (subst (λ (t : Dimensions). Grows t.k w.places (world_after w es).places) (led-shape s w led)
+    (events-grow w es (led-long s w led ∙ sym (ap (λ (t : Dimensions). t.k) (led-shape s w led)))))
+    (λ d low. led-count s (world_after w es) behind d low
+    ∙ ap (λ (log : List Entry). slice_index (table_of (empty_table s.k) log).counts d) same
+    ∙ sym (led-count s w led d low))

@@ -1,5 +1,6 @@
 -- The entry of a call that is replied to is logged by its event, or stands in the log, and no other entry has its name.
-use Rattle.std.proofs.Common.{ℕ, suc, ◌≡◌, ◌≢◌, ◌+◌, ◌<◌, List, [], ◌∷◌, ◌++◌, length, take, ◌⊎◌, inl, inr, Some, refl, sym, ap, subst, ◌∙◌, append-nil, length-append, arith}
+use Rattle.std.proofs.Common.{ℕ, suc, ◌≡◌, ◌≢◌, ◌+◌, ◌<◌, List, [], ◌∷◌, ◌++◌, length, take, ◌⊎◌, inl, inr, Some, refl}
+use Rattle.std.proofs.Common.{sym, ap, subst, ◌∙◌, append-nil, length-append, arith}
 use Rattle.std.specs.Prelude.{Contains, slice_get}
 use Rattle.std.proofs.lemmas.List.{take_at, take_all}
 use Rattle.group_types.specs.Dimensions.{Dimensions}
@@ -96,11 +97,14 @@ module _ (s : Dimensions) (es : List Event) (run : IsRun s es) (e : Event) (may 
   kept = ap (λ (w : World). w.log) (sym (after-append (opening s) es (e ∷ []))) ∙ one.kept ∙ ap log_of (turns-push (opening s) es e)
 
 -- an ask that is replied to at once logs its entry
-at-once-after : (s : Dimensions) (es : List Event) → IsRun s es → (caller : ℕ) (op : Asked) (p : ProcessId) → MayCome (after s es) (Ask caller op p) → (reply : Reply)
-    → (step (after s es) (Ask caller op p)).turn.answer ≡ says.Reply reply → Contains (step (after s es) (Ask caller op p)).turn.logged (entry_of (next_name (after s es) caller) op reply)
+at-once-after : (s : Dimensions) (es : List Event) → IsRun s es → (caller : ℕ) (op : Asked) (p : ProcessId)
+    → MayCome (after s es) (Ask caller op p) → (reply : Reply)
+    → (step (after s es) (Ask caller op p)).turn.answer ≡ says.Reply reply
+    → Contains (step (after s es) (Ask caller op p)).turn.logged (entry_of (next_name (after s es) caller) op reply)
 unfolding turn
 at-once-after s es run caller op p may reply answered =
-    (within s es run (Ask caller op p) may).at_once (length (turns_of s es)) (step (after s es) (Ask caller op p)).turn (next_name (after s es) caller) op reply (record {
+    (within s es run (Ask caller op p) may).at_once (length (turns_of s es)) (step (after s es) (Ask caller op p)).turn
+    (next_name (after s es) caller) op reply (record {
       there = get-last (turns_of s es) (step (after s es) (Ask caller op p)).turn;
       at = p;
       event = refl;
@@ -116,7 +120,8 @@ at-once s w led caller op p = subst (λ (x : World). MayCome x (Ask caller op p)
     → Contains (step x (Ask caller op p)).turn.logged (entry_of (next_name x caller) op reply)) (sym led.is) (at-once-after s led.events led.run caller op p)
 
 -- a call that is collected with a reply has its entry in the log
-collected-after : (s : Dimensions) (es : List Event) → IsRun s es → (caller call : ℕ) (p : ProcessId) → MayCome (after s es) (Collect caller call p) → (reply : Reply)
+collected-after : (s : Dimensions) (es : List Event) → IsRun s es → (caller call : ℕ) (p : ProcessId)
+    → MayCome (after s es) (Collect caller call p) → (reply : Reply)
     → (step (after s es) (Collect caller call p)).turn.answer ≡ says.Reply reply
     → (op : Asked) × Contains (step (after s es) (Collect caller call p)).world.log (entry_of (record { caller = caller; call = call }) op reply)
 unfolding turn
@@ -125,19 +130,30 @@ collected-after s es run caller call p may reply answered = (since.op, there) wh
   turns = turns_of s es ++ (step (after s es) (Collect caller call p)).turn ∷ []
 
   since : IsLoggedSince turns (length (turns_of s es)) (record { caller = caller; call = call }) reply
-  since = (within s es run (Collect caller call p) may).later (length (turns_of s es)) (step (after s es) (Collect caller call p)).turn (record { caller = caller; call = call }) reply
+  since = (within s es run (Collect caller call p) may).later (length (turns_of s es))
+      (step (after s es) (Collect caller call p)).turn (record { caller = caller; call = call }) reply
       (get-last (turns_of s es) (step (after s es) (Collect caller call p)).turn) (refl, refl) answered
 
   there : Contains (step (after s es) (Collect caller call p)).world.log (entry_of (record { caller = caller; call = call }) since.op reply)
-  there = subst (λ (log : List Entry). Contains log (entry_of (record { caller = caller; call = call }) since.op reply)) (sym (kept s es run (Collect caller call p) may))
-      (get-contained (log_of turns) since.place (entry_of (record { caller = caller; call = call }) since.op reply) (ap (λ (ts : List Turn). slice_get (log_of ts) since.place) (sym whole) ∙ since.entry)) where
+  there = subst (λ (log : List Entry). Contains log (entry_of (record { caller = caller; call = call }) since.op reply))
+      (sym (kept s es run (Collect caller call p) may))
+      (get-contained (log_of turns) since.place (entry_of (record { caller = caller; call = call }) since.op reply)
+      (ap (λ (ts : List Turn). slice_get (log_of ts) since.place) (sym whole) ∙ since.entry)) where
         whole : take (length (turns_of s es) + 1) turns ≡ turns
-        whole = take_all (length (turns_of s es) + 1) turns (let all = length-append (turns_of s es) ((step (after s es) (Collect caller call p)).turn ∷ []) in omega (arith, all))
+        whole = take_all (length (turns_of s es) + 1) turns
+            (let all = length-append (turns_of s es) ((step (after s es) (Collect caller call p)).turn ∷ []) in
+            omega (arith, all))
 
-pub collected : (s : Dimensions) (w : World) → IsLed s w → (caller call : ℕ) (p : ProcessId) → MayCome w (Collect caller call p) → (reply : Reply) → (step w (Collect caller call p)).turn.answer ≡ says.Reply reply
+pub collected : (s : Dimensions) (w : World) → IsLed s w → (caller call : ℕ) (p : ProcessId)
+    → MayCome w (Collect caller call p) → (reply : Reply) → (step w (Collect caller call p)).turn.answer
+    ≡ says.Reply reply
     → (op : Asked) × Contains (step w (Collect caller call p)).world.log (entry_of (record { caller = caller; call = call }) op reply)
-collected s w led caller call p = subst (λ (x : World). MayCome x (Collect caller call p) → (reply : Reply) → (step x (Collect caller call p)).turn.answer ≡ says.Reply reply
-    → (op : Asked) × Contains (step x (Collect caller call p)).world.log (entry_of (record { caller = caller; call = call }) op reply)) (sym led.is) (collected-after s led.events led.run caller call p)
+collected s w led caller call p =
+    subst (λ (x : World). MayCome x (Collect caller call p) → (reply : Reply)
+    → (step x (Collect caller call p)).turn.answer ≡ says.Reply reply
+    → (op : Asked) × Contains (step x (Collect caller call p)).world.log
+    (entry_of (record { caller = caller; call = call }) op reply)) (sym led.is)
+    (collected-after s led.events led.run caller call p)
 
 -- entries of one call, where no two are of one
 two-suffix : (xs ys : List Entry) → EachTwo NamesDiffer (xs ++ ys) → EachTwo NamesDiffer ys
@@ -147,17 +163,22 @@ two-suffix (x ∷ xs) ys two = two-suffix xs ys two.1
 no-two : (n : CallName) (op : Asked) (x y : Entry) (rest : List Entry) → EachTwo NamesDiffer (x ∷ y ∷ rest) → Each (IsOf n op) (x ∷ y ∷ rest) → ⊥
 no-two n op x y rest two all = two.0.0 (all.0.0 ∙ sym all.1.0.0)
 
-pub single : (log : List Entry) (n : CallName) (op : Asked) (xs : List Entry) (e : Entry) → EachTwo NamesDiffer (log ++ xs) → Each (IsOf n op) xs → Contains xs e → xs ≡ e ∷ []
+pub single : (log : List Entry) (n : CallName) (op : Asked) (xs : List Entry) (e : Entry)
+    → EachTwo NamesDiffer (log ++ xs) → Each (IsOf n op) xs → Contains xs e → xs ≡ e ∷ []
 single log n op [] e two all there = absurd (each-contained (λ _. ⊥) [] e tt there)
 single log n op (x ∷ []) e two all there = ap (λ (y : Entry). y ∷ []) (sym (each-contained (λ y. y ≡ x) (x ∷ []) e (refl, tt) there))
 single log n op (x ∷ y ∷ rest) e two all there = absurd (no-two n op x y rest (two-suffix log (x ∷ y ∷ rest) two) all)
 
-pub single-behind : (log : List Entry) (n : CallName) (op : Asked) (xs : List Entry) (e : Entry) → EachTwo NamesDiffer (log ++ xs) → Each (IsOf n op) xs → Each (λ y. name_of y ≢ n) log → name_of e ≡ n
+pub single-behind : (log : List Entry) (n : CallName) (op : Asked) (xs : List Entry) (e : Entry)
+    → EachTwo NamesDiffer (log ++ xs) → Each (IsOf n op) xs → Each (λ y. name_of y ≢ n) log → name_of e ≡ n
     → Contains (log ++ xs) e → xs ≡ e ∷ []
 single-behind log n op [] e two all others named there =
     absurd (each-contained (λ y. name_of y ≢ n) log e others (subst (λ (es : List Entry). Contains es e) (append-nil log) there) named)
 single-behind log n op (x ∷ []) e two all others named there = by
-    (each-contained (λ y. (name_of y ≢ n) ⊎ (y ≡ x)) (log ++ x ∷ []) e (each-append (λ y. (name_of y ≢ n) ⊎ (y ≡ x)) log (x ∷ []) (each-weaker (λ y. name_of y ≢ n) (λ y. (name_of y ≢ n) ⊎ (y ≡ x)) (λ y other. inl other) log others) (inr refl, tt)) there)
+    (each-contained (λ y. (name_of y ≢ n) ⊎ (y ≡ x)) (log ++ x ∷ []) e
+    (each-append (λ y. (name_of y ≢ n) ⊎ (y ≡ x)) log (x ∷ [])
+    (each-weaker (λ y. name_of y ≢ n) (λ y. (name_of y ≢ n) ⊎ (y ≡ x)) (λ y other. inl other) log others)
+    (inr refl, tt)) there)
   where
     by : (name_of e ≢ n) ⊎ (e ≡ x) → x ∷ [] ≡ e ∷ []
     by (inl other) = absurd (other named)

@@ -1,5 +1,6 @@
 -- Places only grow, by the runs of updates that are settled for the first time: where the log stays, so do they.
-use Rattle.std.proofs.Common.{ℕ, zero, suc, ◌≡◌, ◌≢◌, ◌+◌, ◌<◌, ◌≤◌, List, [], ◌∷◌, ◌++◌, length, map, ◌⊎◌, inl, inr, Option, refl, sym, ap, subst, ◌∙◌, append_assoc, append-nil, length-append, arith}
+use Rattle.std.proofs.Common.{ℕ, zero, suc, ◌≡◌, ◌≢◌, ◌+◌, ◌<◌, ◌≤◌, List, [], ◌∷◌, ◌++◌, length, map, ◌⊎◌, inl, inr}
+use Rattle.std.proofs.Common.{Option, refl, sym, ap, subst, ◌∙◌, append_assoc, append-nil, length-append, arith}
 use Rattle.std.specs.List.{range_with_len}
 use Rattle.std.proofs.lemmas.Bool.{cases_eq, cases_lt}
 use Rattle.std.proofs.lemmas.List.{length-map}
@@ -37,20 +38,27 @@ grows-then k a b c first then = record {
 }
 
 grows-at : (k : ℕ) (places : Places) (d : ℕ) (xs : List (Option Run)) → length places ≡ k → d < k → Grows k places (put [] places d (grown (at [] places d) xs))
-grows-at k places d xs long low = record { long = length-put [] places d (grown (at [] places d) xs) (omega (arith, long, low)) ∙ long; more = λ e. by e (cases_eq e d) } where
-  by : (e : ℕ) → (e ≡ d) ⊎ (e ≢ d) → (ys : List (Option Run)) × (at [] (put [] places d (grown (at [] places d) xs)) e ≡ at [] places e ++ ys)
-  by e (inl same) = (
-    xs,
-    ap (at [] (put [] places d (grown (at [] places d) xs))) same ∙ at-put [] [] places d (grown (at [] places d) xs) ∙ grown-is (at [] places d) xs ∙ ap (λ (i : ℕ). at [] places i ++ xs) (sym same),
-  )
-  by e (inr other) = ([], at-put-other [] places d e (grown (at [] places d) xs) other ∙ sym (append-nil (at [] places e)))
+grows-at k places d xs long low =
+    record {
+      long = length-put [] places d (grown (at [] places d) xs) (omega (arith, long, low)) ∙ long;
+      more = λ e. by e (cases_eq e d);
+    } where
+      by : (e : ℕ) → (e ≡ d) ⊎ (e ≢ d) → (ys : List (Option Run)) × (at [] (put [] places d (grown (at [] places d) xs)) e ≡ at [] places e ++ ys)
+      by e (inl same) = (
+        xs,
+        ap (at [] (put [] places d (grown (at [] places d) xs))) same ∙ at-put [] [] places d (grown (at [] places d) xs)
+            ∙ grown-is (at [] places d) xs ∙ ap (λ (i : ℕ). at [] places i ++ xs) (sym same),
+      )
+      by e (inr other) = ([], at-put-other [] places d e (grown (at [] places d) xs) other ∙ sym (append-nil (at [] places e)))
 
-ledger-grows : (tickets : List Ticket) (settled : List Settlement) (k n a : ℕ) (ledger : Ledger) → a + n ≤ k → length ledger.places ≡ k → Grows k ledger.places (ledger_after tickets settled (range_with_len a n) ledger).places
+ledger-grows : (tickets : List Ticket) (settled : List Settlement) (k n a : ℕ) (ledger : Ledger) → a + n ≤ k
+    → length ledger.places ≡ k → Grows k ledger.places (ledger_after tickets settled (range_with_len a n) ledger).places
 ledger-grows tickets settled k zero a ledger within long = grows-none k ledger.places long
 ledger-grows tickets settled k (suc n) a ledger within long =
     let news = new_ones (length (at [] ledger.places a)) (settled_in a settled) in
     let first = grows-at k ledger.places a (map (λ u. run_of u.body) news) long (omega (arith, within)) in
-    grows-then k ledger.places (ledger_with tickets a news ledger).places (ledger_after tickets settled (range_with_len (a + 1) n) (ledger_with tickets a news ledger)).places first
+    grows-then k ledger.places (ledger_with tickets a news ledger).places
+    (ledger_after tickets settled (range_with_len (a + 1) n) (ledger_with tickets a news ledger)).places first
     (ledger-grows tickets settled k n (a + 1) (ledger_with tickets a news ledger) (omega (arith, within)) first.long)
 
 pub step-grows : (w : World) (e : Event) → length w.places ≡ w.shape.k → Grows w.shape.k w.places (step w e).world.places
@@ -71,9 +79,11 @@ same-lists : (xs ys : Places) → length ys ≡ length xs → ((d : ℕ) → at 
 same-lists [] [] long same = refl
 same-lists [] (y ∷ ys) long same = absurd (omega (arith, long))
 same-lists (x ∷ xs) [] long same = absurd (omega (arith, long))
-same-lists (x ∷ xs) (y ∷ ys) long same = ap (λ (z : List (Option Run)). z ∷ ys) (same 0) ∙ ap (λ (zs : Places). x ∷ zs) (same-lists xs ys (omega (arith, long)) (λ d. same (suc d)))
+same-lists (x ∷ xs) (y ∷ ys) long same = ap (λ (z : List (Option Run)). z ∷ ys) (same 0)
+    ∙ ap (λ (zs : Places). x ∷ zs) (same-lists xs ys (omega (arith, long)) (λ d. same (suc d)))
 
-pub grows-same : (k : ℕ) (before now : Places) → length before ≡ k → Grows k before now → ((d : ℕ) → d < k → length (at [] now d) ≡ length (at [] before d)) → now ≡ before
+pub grows-same : (k : ℕ) (before now : Places) → length before ≡ k → Grows k before now
+    → ((d : ℕ) → d < k → length (at [] now d) ≡ length (at [] before d)) → now ≡ before
 grows-same k before now long grows same = same-lists before now (omega (arith, long, grows.long)) at-each where
   short : (d : ℕ) → length (at [] now d) ≡ length (at [] before d) → at [] now d ≡ at [] before d
   short d count =

@@ -1,5 +1,6 @@
 -- Reading places that were written.
-use Rattle.std.proofs.Common.{ℕ, zero, suc, ◌≡◌, ◌≢◌, ◌<◌, nat_lt, Bool, true, false, ◌&&◌, List, [], ◌∷◌, length, Option, Some, None, refl, sym, ap, ◌∙◌, arith}
+use Rattle.std.proofs.Common.{ℕ, zero, suc, ◌≡◌, ◌≢◌, ◌<◌, nat_lt, Bool, true, false, ◌&&◌, List, [], ◌∷◌, length}
+use Rattle.std.proofs.Common.{Option, Some, None, refl, sym, ap, ◌∙◌, arith}
 use Rattle.std.proofs.lemmas.Bool.{ltb-true}
 use Rattle.std.specs.Option.{is_none}
 use Rattle.std.specs.Prelude.{slice_set}
@@ -7,19 +8,22 @@ use Rattle.carry_words.specs.Carrying.{are_free, is_free, place_at}
 use Rattle.carry_words.specs.declared.transfer.Transfer.{Transfer}
 
 -- what is written where an item is stands there
-pub at-written : (at : ℕ) (places : List (Option Transfer)) (t : Transfer) (place : Option Transfer) → place_at at places ≡ Some t → place_at at (slice_set places at place) ≡ place
+pub at-written : (at : ℕ) (places : List (Option Transfer)) (t : Transfer) (place : Option Transfer)
+    → place_at at places ≡ Some t → place_at at (slice_set places at place) ≡ place
 at-written at [] t place is = absurd (cc is)
 at-written zero (p ∷ ps) t place is = refl
 at-written (suc at) (p ∷ ps) t place is = at-written at ps t place is
 
 -- what is written twice stands as it was written last
-pub at-rewritten : (at : ℕ) (places : List (Option Transfer)) (t : Transfer) (one two : Option Transfer) → place_at at places ≡ Some t → place_at at (slice_set (slice_set places at one) at two) ≡ two
+pub at-rewritten : (at : ℕ) (places : List (Option Transfer)) (t : Transfer) (one two : Option Transfer)
+    → place_at at places ≡ Some t → place_at at (slice_set (slice_set places at one) at two) ≡ two
 at-rewritten at [] t one two is = absurd (cc is)
 at-rewritten zero (p ∷ ps) t one two is = refl
 at-rewritten (suc at) (p ∷ ps) t one two is = at-rewritten at ps t one two is
 
 -- other places stay
-pub at-other : (at other : ℕ) (places : List (Option Transfer)) (place : Option Transfer) → at ≢ other → place_at at (slice_set places other place) ≡ place_at at places
+pub at-other : (at other : ℕ) (places : List (Option Transfer)) (place : Option Transfer) → at ≢ other
+    → place_at at (slice_set places other place) ≡ place_at at places
 at-other at other [] place apart = refl
 at-other zero zero (p ∷ ps) place apart = absurd (apart refl)
 at-other zero (suc other) (p ∷ ps) place apart = refl

@@ -1,5 +1,6 @@
 -- Coefficients that are made one after another, each of a piece's number.
-use Rattle.std.proofs.Common.{◌≡◌, ◌≢◌, ℕ, ◌+◌, ◌<◌, ◌≤◌, List, length, get_or, set, below_more, get_or-set_other, get_or-set_same, length-set, sym, ap, ◌∙◌, arith}
+use Rattle.std.proofs.Common.{◌≡◌, ◌≢◌, ℕ, ◌+◌, ◌<◌, ◌≤◌, List, length, get_or, set, below_more, get_or-set_other}
+use Rattle.std.proofs.Common.{get_or-set_same, length-set, sym, ap, ◌∙◌, arith}
 use Rattle.group_types.specs.Pieces.{numbers_of}
 use Rattle.group_types.specs.declared.piece_list.Piece.{Piece}
 use Rattle.group_types.proofs.Places.{number_at}

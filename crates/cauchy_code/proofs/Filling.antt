@@ -1,5 +1,6 @@
 -- Two columns that are written into their pieces part by part.
-use Rattle.std.proofs.Common.{◌≡◌, ◌≢◌, ℕ, ◌+◌, ◌-◌, ◌<◌, ◌≤◌, List, [], ◌∷◌, ◌++◌, length, take, drop, get_or, Contains, inl, inr, sym, ap, ◌∙◌, subst, refl, arith}
+use Rattle.std.proofs.Common.{◌≡◌, ◌≢◌, ℕ, ◌+◌, ◌-◌, ◌<◌, ◌≤◌, List, [], ◌∷◌, ◌++◌, length, take, drop, get_or}
+use Rattle.std.proofs.Common.{Contains, inl, inr, sym, ap, ◌∙◌, subst, refl, arith}
 use Rattle.std.proofs.lemmas.Bool.{cases_lt}
 use Rattle.std.proofs.lemmas.List.{length-append, length-take, length-drop, get_or-take, get_or-set_other, get_or_append_left, get_or-append-add}
 use Rattle.std.proofs.Math.Seq.{take-append_seam}
@@ -10,11 +11,13 @@ use Rattle.cauchy_code.specs.Columns.{KeepsOthers}
 use Rattle.cauchy_code.specs.Parts.{with_part}
 
 -- writing into a piece keeps those of other numbers
-pub keeps_written : (numbers : List ℕ) (pieces : List Piece) (d : ℕ) (bytes : List ℕ) → Contains numbers d → Contains (numbers_of pieces) d → KeepsOthers numbers pieces (with_bytes pieces d bytes)
+pub keeps_written : (numbers : List ℕ) (pieces : List Piece) (d : ℕ) (bytes : List ℕ) → Contains numbers d
+    → Contains (numbers_of pieces) d → KeepsOthers numbers pieces (with_bytes pieces d bytes)
 keeps_written numbers pieces d bytes listed found i p apart =
     let at = place_of pieces d in
     let within = place_within pieces d found in
-    let number : (get_or pieces at p).number ≡ d = sym (number_at pieces at p within) ∙ (number_at pieces at (record { number = d; bytes = [] }) within ∙ number_found pieces d found) in
+    let number : (get_or pieces at p).number ≡ d = sym (number_at pieces at p within)
+    ∙ (number_at pieces at (record { number = d; bytes = [] }) within ∙ number_found pieces d found) in
     let other : i ≢ at = λ same. apart (subst (λ n. Contains numbers n) (sym (ap (λ k. (get_or pieces k p).number) same ∙ number)) listed) in
     get_or-set_other pieces at i (record (piece_of pieces d) { bytes = overwritten (bytes_of pieces d) bytes }) p other
 
@@ -28,7 +31,8 @@ pub record IsBegun (n at : ℕ) (f : ℕ → ℕ) (bytes : List ℕ) : Type 0 wh
   pub long : length bytes ≡ n
   pub done : (k : ℕ) → k < at → get_or bytes k 0 ≡ f k
 
-module _ (at n : ℕ) (f : ℕ → ℕ) (part bytes : List ℕ) (within : at + length part ≤ n) (begun : IsBegun n at f bytes) (values : (k : ℕ) → k < length part → get_or part k 0 ≡ f (at + k)) where
+module _ (at n : ℕ) (f : ℕ → ℕ) (part bytes : List ℕ) (within : at + length part ≤ n) (begun : IsBegun n at f bytes)
+    (values : (k : ℕ) → k < length part → get_or part k 0 ≡ f (at + k)) where
   rest : List ℕ
   rest = drop (length part) (drop at bytes)
 
@@ -37,11 +41,21 @@ module _ (at n : ℕ) (f : ℕ → ℕ) (part bytes : List ℕ) (within : at + l
 
   whole_long : length (take at bytes ++ (part ++ rest)) ≡ n
   unfolding rest
-  whole_long = omega (arith, length-append (take at bytes) (part ++ drop (length part) (drop at bytes)), length-append part (drop (length part) (drop at bytes)), length-drop (length part) (drop at bytes), length-drop at bytes, front_long, begun.long, within)
+  whole_long = omega (
+    arith,
+    length-append (take at bytes) (part ++ drop (length part) (drop at bytes)),
+    length-append part (drop (length part) (drop at bytes)),
+    length-drop (length part) (drop at bytes),
+    length-drop at bytes,
+    front_long,
+    begun.long,
+    within,
+  )
 
   whole_done : (k : ℕ) → k < at + length part → get_or (take at bytes ++ (part ++ rest)) k 0 ≡ f k
   whole_done k below = elim (cases_lt k at) [
-    | inl early ↦ get_or_append_left (take at bytes) (part ++ rest) 0 k (omega (arith, front_long, early)) ∙ (get_or-take at bytes k 0 early ∙ begun.done k early)
+    | inl early ↦ get_or_append_left (take at bytes) (part ++ rest) 0 k (omega (arith, front_long, early))
+        ∙ (get_or-take at bytes k 0 early ∙ begun.done k early)
     | inr from ↦
         let i = k - at in
         let inside : i < length part = omega (arith, below, from) in
@@ -62,7 +76,8 @@ pub record AreBegun (start now : List Piece) (d e at n : ℕ) (f g : ℕ → ℕ
   pub second : IsBegun n at g (bytes_of now e)
   pub kept : KeepsOthers (d ∷ e ∷ []) start now
 
-pub not_begun : (start : List Piece) (d e n : ℕ) (f g : ℕ → ℕ) → length (bytes_of start d) ≡ n → length (bytes_of start e) ≡ n → AreBegun start start d e 0 n f g
+pub not_begun : (start : List Piece) (d e n : ℕ) (f g : ℕ → ℕ) → length (bytes_of start d) ≡ n
+    → length (bytes_of start e) ≡ n → AreBegun start start d e 0 n f g
 not_begun start d e n f g d_long e_long = record {
   numbers = refl;
   first = record { long = d_long; done = λ k below. absurd (omega (arith, below)) };
@@ -70,11 +85,22 @@ not_begun start d e n f g d_long e_long = record {
   kept = λ i p apart. refl;
 }
 
-pub part_long : (at n : ℕ) (f : ℕ → ℕ) (part bytes : List ℕ) → at + length part ≤ n → IsBegun n at f bytes → length (take at bytes ++ (part ++ drop (length part) (drop at bytes))) ≡ length bytes
+pub part_long : (at n : ℕ) (f : ℕ → ℕ) (part bytes : List ℕ) → at + length part ≤ n → IsBegun n at f bytes
+    → length (take at bytes ++ (part ++ drop (length part) (drop at bytes))) ≡ length bytes
 part_long at n f part bytes within begun =
-    omega (arith, length-append (take at bytes) (part ++ drop (length part) (drop at bytes)), length-append part (drop (length part) (drop at bytes)), length-drop (length part) (drop at bytes), length-drop at bytes, length-take at bytes, begun.long, within)
+    omega (
+      arith,
+      length-append (take at bytes) (part ++ drop (length part) (drop at bytes)),
+      length-append part (drop (length part) (drop at bytes)),
+      length-drop (length part) (drop at bytes),
+      length-drop at bytes,
+      length-take at bytes,
+      begun.long,
+      within,
+    )
 
-pub both_begun : (start now : List Piece) (d e at n : ℕ) (f g : ℕ → ℕ) (a b : List ℕ) → Contains (numbers_of start) d → Contains (numbers_of start) e → d ≢ e → at + length a ≤ n → length b ≡ length a
+pub both_begun : (start now : List Piece) (d e at n : ℕ) (f g : ℕ → ℕ) (a b : List ℕ) → Contains (numbers_of start) d
+    → Contains (numbers_of start) e → d ≢ e → at + length a ≤ n → length b ≡ length a
     → ((k : ℕ) → k < length a → get_or a k 0 ≡ f (at + k)) → ((k : ℕ) → k < length a → get_or b k 0 ≡ g (at + k)) → AreBegun start now d e at n f g
     → AreBegun start (with_part (with_part now d at a) e at b) d e (at + length a) n f g
 both_begun start now d e at n f g a b d_there e_there differ within same a_values b_values begun =
@@ -94,9 +120,14 @@ both_begun start now d e at n f g a b d_there e_there differ within same a_value
     record {
       numbers = numbers_kept next e _ e_next ∙ (next_numbers ∙ begun.numbers);
       first = rw (d_last, d_next) (begun_more at n f a (bytes_of now d) within begun.first a_values);
-      second = rw e_last (subst (λ m. IsBegun n m g (take at (bytes_of next e) ++ (b ++ drop (length b) (drop at (bytes_of next e))))) (ap (λ m. at + m) same) (begun_more at n g b (bytes_of next e) b_within e_begun (λ k below. b_values k (omega (arith, same, below)))));
+      second = rw e_last
+          (subst (λ m. IsBegun n m g (take at (bytes_of next e) ++ (b ++ drop (length b) (drop at (bytes_of next e)))))
+          (ap (λ m. at + m) same)
+          (begun_more at n g b (bytes_of next e) b_within e_begun
+          (λ k below. b_values k (omega (arith, same, below)))));
       kept = keeps_both (d ∷ e ∷ []) start now _ begun.kept
-          (keeps_both (d ∷ e ∷ []) now next _ (keeps_written (d ∷ e ∷ []) now d _ (here d (e ∷ [])) d_now) (keeps_written (d ∷ e ∷ []) next e _ (there d e []) e_next));
+          (keeps_both (d ∷ e ∷ []) now next _ (keeps_written (d ∷ e ∷ []) now d _ (here d (e ∷ [])) d_now)
+          (keeps_written (d ∷ e ∷ []) next e _ (there d e []) e_next));
     }
   where
     here : (x : ℕ) (xs : List ℕ) → Contains (x ∷ xs) x
@@ -106,7 +137,8 @@ both_begun start now d e at n f g a b d_there e_there differ within same a_value
     there x y ys = (1, omega arith, refl)
 
 -- the second column can be written once the first was
-pub second_ready : (start now : List Piece) (d e at n : ℕ) (f g : ℕ → ℕ) (a b : List ℕ) → Contains (numbers_of start) d → Contains (numbers_of start) e → d ≢ e → at + length b ≤ n → AreBegun start now d e at n f g
+pub second_ready : (start now : List Piece) (d e at n : ℕ) (f g : ℕ → ℕ) (a b : List ℕ) → Contains (numbers_of start) d
+    → Contains (numbers_of start) e → d ≢ e → at + length b ≤ n → AreBegun start now d e at n f g
     → Contains (numbers_of (with_part now d at a)) e × (at + length b ≤ length (bytes_of (with_part now d at a) e))
 second_ready start now d e at n f g a b d_there e_there differ within begun =
     let d_now : Contains (numbers_of now) d = rw begun.numbers d_there in

@@ -11,25 +11,30 @@ use Rattle.erasure_code.proofs.Lists.{All-right}
 use Rattle.cauchy_code.proofs.Terms.{content_at}
 
 -- a piece that has a length, among others of one length
-pub long_at : (before pieces : List Piece) (d : ℕ) → HaveOneLength (before ++ pieces) → Contains (numbers_of pieces) d → length (bytes_of pieces d) ≡ length_of (before ++ pieces)
+pub long_at : (before pieces : List Piece) (d : ℕ) → HaveOneLength (before ++ pieces) → Contains (numbers_of pieces) d
+    → length (bytes_of pieces d) ≡ length_of (before ++ pieces)
 long_at before pieces d long found =
-    All-right (λ (p : Piece). length p.bytes ≡ length_of (before ++ pieces)) before pieces long (place_of pieces d) (record { number = d; bytes = [] }) (place_within pieces d found)
+    All-right (λ (p : Piece). length p.bytes ≡ length_of (before ++ pieces)) before pieces long (place_of pieces d)
+    (record { number = d; bytes = [] }) (place_within pieces d found)
 
 bytes_at : (pieces : List Piece) (d i : ℕ) → i < length pieces → i ≡ place_of pieces d → bytes_of pieces d ≡ get_or (contents_of pieces) i []
 bytes_at pieces d i within place =
     ap (λ j. (get_or pieces j (record { number = d; bytes = [] })).bytes) (sym place) ∙ sym (content_at pieces i (record { number = d; bytes = [] }) within)
 
 -- a piece of the first list
-pub bytes_of_front : (xs ys : List Piece) (i : ℕ) → AreDifferent (numbers_of xs) → i < length xs → bytes_of (xs ++ ys) (get_or (numbers_of xs) i 0) ≡ get_or (contents_of xs) i []
+pub bytes_of_front : (xs ys : List Piece) (i : ℕ) → AreDifferent (numbers_of xs) → i < length xs
+    → bytes_of (xs ++ ys) (get_or (numbers_of xs) i 0) ≡ get_or (contents_of xs) i []
 bytes_of_front xs ys i differ within =
     let number = get_or (numbers_of xs) i 0 in
     let d : Piece = record { number = number; bytes = [] } in
     let long = length-append xs ys in
     let many = length-map xs (λ p. p.number) in
     let front : (k : ℕ) → k < length xs → get_or (numbers_of (xs ++ ys)) k 0 ≡ get_or (numbers_of xs) k 0 =
-    λ k below. ap (λ ns. get_or ns k 0) (map-append (λ p. p.number) xs ys) ∙ get_or_append_left (numbers_of xs) (numbers_of ys) 0 k (omega (arith, many, below)) in
+    λ k below. ap (λ ns. get_or ns k 0) (map-append (λ p. p.number) xs ys) ∙ get_or_append_left (numbers_of xs)
+    (numbers_of ys) 0 k (omega (arith, many, below)) in
     let here : (get_or (xs ++ ys) i d).number ≡ number = sym (number_at (xs ++ ys) i d (omega (arith, long, within))) ∙ front i within in
-    let missing : IsMissing (xs ++ ys) number i = λ k below same. differ k i 0 below (omega (arith, many, within)) (sym (front k (omega (arith, below, within))) ∙ same) in
+    let missing : IsMissing (xs ++ ys) number i = λ k below same. differ k i 0 below (omega (arith, many, within))
+    (sym (front k (omega (arith, below, within))) ∙ same) in
     let place = place_found (xs ++ ys) number i d (omega (arith, long, within)) here missing in
     bytes_at (xs ++ ys) number i (omega (arith, long, within)) place
     ∙ (ap (λ cs. get_or cs i []) (map-append (λ (p : Piece). p.bytes) xs ys)
@@ -43,9 +48,12 @@ bytes_of_back xs ys d missing found =
     let within = place_within ys d found in
     let long = length-append xs ys in
     let many = length-map xs (λ p. p.number) in
-    let here : (get_or (xs ++ ys) (length xs + at) none).number ≡ d = ap (λ (p : Piece). p.number) (get_or-append-add xs ys at none) ∙ number_found ys d found in
+    let here : (get_or (xs ++ ys) (length xs + at) none).number ≡ d =
+    ap (λ (p : Piece). p.number) (get_or-append-add xs ys at none) ∙ number_found ys d found in
     let all_missing : IsMissing (xs ++ ys) d (length xs + at) = λ k below same. elim (cases_lt k (length xs)) [
-      | inl front ↦ missing k front (sym (ap (λ ns. get_or ns k 0) (map-append (λ p. p.number) xs ys) ∙ get_or_append_left (numbers_of xs) (numbers_of ys) 0 k (omega (arith, many, front))) ∙ same)
+      | inl front ↦ missing k front
+          (sym (ap (λ ns. get_or ns k 0) (map-append (λ p. p.number) xs ys) ∙ get_or_append_left (numbers_of xs)
+          (numbers_of ys) 0 k (omega (arith, many, front))) ∙ same)
       | inr back ↦
           let there : get_or (numbers_of (xs ++ ys)) k 0 ≡ get_or (numbers_of ys) (k - length xs) 0 =
           ap (λ ns. get_or ns k 0) (map-append (λ p. p.number) xs ys) ∙ (ap (λ j. get_or (numbers_of xs ++ numbers_of ys) j 0) (omega (arith, many, back))

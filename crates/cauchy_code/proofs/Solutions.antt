@@ -15,7 +15,8 @@ use Rattle.erasure_code.specs.Columns.{AreDifferent}
 use Rattle.cauchy_code.specs.Solving.{AreBytesIn, IsSolved, lost_byte, lost_square, row_coefficient}
 
 -- a lost column reads as many weights as there are rows
-pub lost_byte_same : (m : ℕ) (v w : ℕ → ℕ) (rows known : List Piece) (at : ℕ) → ((a : ℕ) → a < length rows → v a ≡ w a) → lost_byte m v rows known at ≡ lost_byte m w rows known at
+pub lost_byte_same : (m : ℕ) (v w : ℕ → ℕ) (rows known : List Piece) (at : ℕ) → ((a : ℕ) → a < length rows → v a ≡ w a)
+    → lost_byte m v rows known at ≡ lost_byte m w rows known at
 lost_byte_same m v w rows known at same =
     ap₂ bit_xor (sum_same (length rows) _ _ (λ a below. ap (λ x. product x (entry (contents_of rows) a at)) (same a below)))
     (sum_same (length known) _ _ (λ j j_below. ap (λ x. product x (entry (contents_of known) j at))
@@ -23,13 +24,15 @@ lost_byte_same m v w rows known at same =
 
 -- what an inverse of the square gives
 pub solved_from : (f m n : ℕ) (lost : List ℕ) (rows known out : List Piece) (square inverse : Grid) → length lost ≡ f
-    → ((a b : ℕ) → a < f → b < f → square a b ≡ lost_square m lost rows a b) → HasBytes f inverse → IsIdentity f (times f inverse square) → IsIdentity f (times f square inverse)
+    → ((a b : ℕ) → a < f → b < f → square a b ≡ lost_square m lost rows a b) → HasBytes f inverse
+    → IsIdentity f (times f inverse square) → IsIdentity f (times f square inverse)
     → (0 < f → AreBytesIn rows × AreBytesIn known)
     → ((b : ℕ) → b < f → length (bytes_of out (get_or lost b 0)) ≡ n)
     → ((b at : ℕ) → b < f → get_or (bytes_of out (get_or lost b 0)) at 0 ≡ lost_byte m (inverse b) rows known at)
     → IsSolved m n lost rows known out
 solved_from f m n lost rows known out square inverse is entries bytes left right all_bytes long columns =
-    let same : (a b : ℕ) → a < length lost → b < length lost → lost_square m lost rows a b ≡ square a b = λ a b a_below b_below. sym (entries a b (omega (arith, is, a_below)) (omega (arith, is, b_below))) in
+    let same : (a b : ℕ) → a < length lost → b < length lost → lost_square m lost rows a b ≡ square a b =
+    λ a b a_below b_below. sym (entries a b (omega (arith, is, a_below)) (omega (arith, is, b_below))) in
     record {
       weights = inverse;
       bytes = λ i j i_below j_below. bytes i j (omega (arith, is, i_below)) (omega (arith, is, j_below));

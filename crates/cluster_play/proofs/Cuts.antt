@@ -1,5 +1,6 @@
 -- Where a line has its first space.
-use Rattle.std.proofs.Common.{ℕ, zero, suc, ◌≡◌, ◌+◌, ◌<◌, ◌==◌, Bool, true, false, List, [], ◌∷◌, length, take, drop, slice_index, Some, None, if◌then◌else◌, refl, ap, ◌∙◌, arith}
+use Rattle.std.proofs.Common.{ℕ, zero, suc, ◌≡◌, ◌+◌, ◌<◌, ◌==◌, Bool, true, false, List, [], ◌∷◌, length, take, drop}
+use Rattle.std.proofs.Common.{slice_index, Some, None, if◌then◌else◌, refl, ap, ◌∙◌, arith}
 use Rattle.cluster_run.specs.Meaning.{behind, cut_at_space}
 
 false_of : (b : Bool) → (b ≡ true → ⊥) → b ≡ false

@@ -1,5 +1,7 @@
 -- The deliveries of a drain in one group of a cluster, and in one group after the other.
-use Rattle.std.proofs.Common.{ℕ, zero, suc, ◌≡◌, ◌+◌, ◌-◌, ◌*◌, ◌^◌, ◌≤◌, ◌<◌, Bool, true, false, if◌then◌else◌, codes, List, [], ◌∷◌, ◌++◌, length, map, Option, Some, None, refl, sym, ap, ◌∙◌, subst, append_assoc, append-nil, length-append, arith}
+use Rattle.std.proofs.Common.{ℕ, zero, suc, ◌≡◌, ◌+◌, ◌-◌, ◌*◌, ◌^◌, ◌≤◌, ◌<◌, Bool, true, false, if◌then◌else◌, codes}
+use Rattle.std.proofs.Common.{List, [], ◌∷◌, ◌++◌, length, map, Option, Some, None, refl, sym, ap, ◌∙◌, subst}
+use Rattle.std.proofs.Common.{append_assoc, append-nil, length-append, arith}
 use Rattle.std.specs.Fmt.{decimal}
 use Rattle.std.specs.List.{range_with_len}
 use Rattle.group_calls.specs.declared.event.Event.{Event}
@@ -24,13 +26,16 @@ use Rattle.cluster_play.specs.Doing.{IsReadyFor}
 
 pub entries-append : (a b : List ClusterEntry) → cluster_entries_text (a ++ b) ≡ cluster_entries_text a ++ cluster_entries_text b
 entries-append [] b = refl
-entries-append (x ∷ a) b = ap (λ (ys : List ℕ). cluster_entry_text x ++ 10 ∷ ys) (entries-append a b) ∙ sym (append_assoc (cluster_entry_text x) (10 ∷ cluster_entries_text a) (cluster_entries_text b))
+entries-append (x ∷ a) b = ap (λ (ys : List ℕ). cluster_entry_text x ++ 10 ∷ ys) (entries-append a b)
+    ∙ sym (append_assoc (cluster_entry_text x) (10 ∷ cluster_entries_text a) (cluster_entries_text b))
 
 -- what events write that they log
 abbrev pub written_by : Cluster → List ClusterEvent → List ℕ
 written_by c es = cluster_entries_text (log_of (turns_from c es))
 
-written-more : (c : Cluster) (e : ClusterEvent) (es : List ClusterEvent) → written_by c (e ∷ es) ≡ cluster_entries_text (logged_in (cluster_step c e).turns) ++ written_by (cluster_step c e).cluster es
+written-more : (c : Cluster) (e : ClusterEvent) (es : List ClusterEvent)
+    → written_by c (e ∷ es) ≡ cluster_entries_text (logged_in (cluster_step c e).turns)
+    ++ written_by (cluster_step c e).cluster es
 written-more c e es = entries-append (logged_in (cluster_step c e).turns) (log_of (turns_from (cluster_step c e).cluster es))
 
 -- deliveries of a group, as events of its cluster
@@ -142,7 +147,8 @@ module _ (c : Cluster) (j : ℕ) where
       split = one-left (load_of (world_in c.groups j) - count) (load_of (world_in c.groups j) - (count + 1)) v e fewer is
           ∙ ap (λ (x : World). e ∷ drain_events (load_of (world_in c.groups j) - (count + 1)) x) (sym one.own)
 
-  module _ (d : Cluster) (before text : List ℕ) (count : ℕ) (made : Made d before text count) (up : ¬ (IsDown (world_in c.groups j))) (is : next_delivery (world_in d.groups j) ≡ None) where
+  module _ (d : Cluster) (before text : List ℕ) (count : ℕ) (made : Made d before text count)
+      (up : ¬ (IsDown (world_in c.groups j))) (is : next_delivery (world_in d.groups j) ≡ None) where
     none : left_in d count ≡ []
     none = none-left (load_of (world_in c.groups j) - count) (world_in d.groups j) is
 
@@ -154,7 +160,8 @@ module _ (c : Cluster) (j : ℕ) where
     all-delivered = sym (ap (λ (es : List Event). cluster_after d (ours j es)) none) ∙ made.after ∙ sym (ap (cluster_after c) all)
 
     pub all-written : text ≡ before ++ written_by c (deliveries_in c j)
-    all-written = sym (append-nil text) ∙ sym (ap (λ (es : List Event). text ++ written_by d (ours j es)) none) ∙ made.written ∙ sym (ap (λ (es : List ClusterEvent). before ++ written_by c es) all)
+    all-written = sym (append-nil text) ∙ sym (ap (λ (es : List Event). text ++ written_by d (ours j es)) none)
+        ∙ made.written ∙ sym (ap (λ (es : List ClusterEvent). before ++ written_by c es) all)
 
     pub all-counted : count ≡ length (deliveries_in c j)
     all-counted =
@@ -171,18 +178,26 @@ down-none c j down = ap (map (InGroup j)) (draining-down (world_in c.groups j) d
 -- the deliveries of groups, one behind the other
 log-append : (ts us : List ClusterTurn) → log_of (ts ++ us) ≡ log_of ts ++ log_of us
 log-append [] us = refl
-log-append (t ∷ ts) us = ap (λ (xs : List ClusterEntry). logged_in t.turns ++ xs) (log-append ts us) ∙ sym (append_assoc (logged_in t.turns) (log_of ts) (log_of us))
+log-append (t ∷ ts) us = ap (λ (xs : List ClusterEntry). logged_in t.turns ++ xs) (log-append ts us)
+    ∙ sym (append_assoc (logged_in t.turns) (log_of ts) (log_of us))
 
 written-append : (c : Cluster) (es fs : List ClusterEvent) → written_by c (es ++ fs) ≡ written_by c es ++ written_by (cluster_after c es) fs
 written-append c es fs =
-    ap (λ (ts : List ClusterTurn). cluster_entries_text (log_of ts)) (turns-append c es fs) ∙ ap cluster_entries_text (log-append (turns_from c es) (turns_from (cluster_after c es) fs))
+    ap (λ (ts : List ClusterTurn). cluster_entries_text (log_of ts)) (turns-append c es fs)
+    ∙ ap cluster_entries_text (log-append (turns_from c es) (turns_from (cluster_after c es) fs))
     ∙ entries-append (log_of (turns_from c es)) (log_of (turns_from (cluster_after c es) fs))
 
 -- events that add to no group leave it ready
 led-after : (n : ℕ) (c : Cluster) (j : ℕ) → (ready : IsReadyFor n c) → j < length c.groups.worlds → IsLedTo ready.plan (cluster_after c (deliveries_in c j))
 led-after n c j ready low =
     let there : j < ready.plan.groups = subst (λ (k : ℕ). j < k) (led-even ready.plan c ready.led).many low in
-    led-on ready.plan c (cluster_after c (deliveries_in c j)) _ ready.led (record { events = deliveries_in c j; may = (group-drains ready.plan c j ready.led there).may; turns_are = refl; to = refl })
+    led-on ready.plan c (cluster_after c (deliveries_in c j)) _ ready.led
+    (record {
+      events = deliveries_in c j;
+      may = (group-drains ready.plan c j ready.led there).may;
+      turns_are = refl;
+      to = refl;
+    })
 
 pub still-ready : (n : ℕ) (c : Cluster) (j : ℕ) → IsReadyFor n c → j < length c.groups.worlds → IsReadyFor n (cluster_after c (deliveries_in c j))
 still-ready n c j ready low =
@@ -195,7 +210,8 @@ still-ready n c j ready low =
     }
 
 -- the number of groups stays
-pub same-many : (n : ℕ) (c : Cluster) (j : ℕ) → IsReadyFor n c → j < length c.groups.worlds → length (cluster_after c (deliveries_in c j)).groups.worlds ≡ length c.groups.worlds
+pub same-many : (n : ℕ) (c : Cluster) (j : ℕ) → IsReadyFor n c → j < length c.groups.worlds
+    → length (cluster_after c (deliveries_in c j)).groups.worlds ≡ length c.groups.worlds
 same-many n c j ready low =
     (led-even ready.plan (cluster_after c (deliveries_in c j)) (led-after n c j ready low)).many ∙ sym (led-even ready.plan c ready.led).many
 
@@ -203,7 +219,8 @@ same-many n c j ready low =
 drain-short : (n : ℕ) (w : World) → length (drain_events n w) ≤ n
 drain-short zero w = omega arith
 drain-short (suc n) w = by (next_delivery w) (λ v. drain-short n v) where
-  by : (next : Option Event) → ((v : World) → length (drain_events n v) ≤ n) → length {A = Event} (elim next [ None ↦ [] | Some e ↦ e ∷ drain_events n (step w e).world ]) ≤ suc n
+  by : (next : Option Event) → ((v : World) → length (drain_events n v) ≤ n)
+      → length {A = Event} (elim next [ None ↦ [] | Some e ↦ e ∷ drain_events n (step w e).world ]) ≤ suc n
   by None later = omega arith
   by (Some e) later = let less = later (step w e).world in omega (arith, less)
 
@@ -260,31 +277,34 @@ module _ (c : Cluster) where
     more : length c.groups.worlds - i ≡ suc (length c.groups.worlds - (i + 1))
     more = omega (arith, low)
 
-  pub Drained-more : (d e : Cluster) (i : ℕ) (before text more : List ℕ) (count made : ℕ) → Drained d i before text count → i < length c.groups.worlds → e ≡ cluster_after d (deliveries_in d i)
+  pub Drained-more : (d e : Cluster) (i : ℕ) (before text more : List ℕ) (count made : ℕ)
+      → Drained d i before text count → i < length c.groups.worlds → e ≡ cluster_after d (deliveries_in d i)
       → more ≡ text ++ written_by d (deliveries_in d i) → made ≡ length (deliveries_in d i) → Drained e (i + 1) before more (count + made)
-  Drained-more d e i before text more count made drained low is written many = subst (λ (x : Cluster). Drained x (i + 1) before more (count + made)) (sym is) (record {
-    ready = still-ready (2 ^ 59) d i drained.ready there;
-    many = same-many (2 ^ 59) d i drained.ready there ∙ drained.many;
-    after = sym (after-append d here rest) ∙ ap (cluster_after d) (sym split) ∙ drained.after;
-    written = ap (λ (xs : List ℕ). xs ++ written_by next rest) written ∙ append_assoc text (written_by d here) (written_by next rest) ∙ ap (λ (xs : List ℕ). text ++ xs) (sym (written-append d here rest))
-        ∙ ap (λ (es : List ClusterEvent). text ++ written_by d es) (sym split) ∙ drained.written;
-    counted = let same = ap length split ∙ length-append here rest in let all = drained.counted in omega (arith, same, all, many);
-    few = let before = drained.few in let here = few-deliveries d i drained.ready there in omega (arith, before, here, many);
-  }) where
-    there : i < length d.groups.worlds
-    there = let same = drained.many in omega (arith, low, same)
+  Drained-more d e i before text more count made drained low is written many =
+      subst (λ (x : Cluster). Drained x (i + 1) before more (count + made)) (sym is) (record {
+        ready = still-ready (2 ^ 59) d i drained.ready there;
+        many = same-many (2 ^ 59) d i drained.ready there ∙ drained.many;
+        after = sym (after-append d here rest) ∙ ap (cluster_after d) (sym split) ∙ drained.after;
+        written = ap (λ (xs : List ℕ). xs ++ written_by next rest) written ∙ append_assoc text (written_by d here)
+            (written_by next rest) ∙ ap (λ (xs : List ℕ). text ++ xs) (sym (written-append d here rest))
+            ∙ ap (λ (es : List ClusterEvent). text ++ written_by d es) (sym split) ∙ drained.written;
+        counted = let same = ap length split ∙ length-append here rest in let all = drained.counted in omega (arith, same, all, many);
+        few = let before = drained.few in let here = few-deliveries d i drained.ready there in omega (arith, before, here, many);
+      }) where
+        there : i < length d.groups.worlds
+        there = let same = drained.many in omega (arith, low, same)
 
-    here : List ClusterEvent
-    here = deliveries_in d i
+        here : List ClusterEvent
+        here = deliveries_in d i
 
-    next : Cluster
-    next = cluster_after d here
+        next : Cluster
+        next = cluster_after d here
 
-    rest : List ClusterEvent
-    rest = deliveries next (groups_from (i + 1))
+        rest : List ClusterEvent
+        rest = deliveries next (groups_from (i + 1))
 
-    split : deliveries d (groups_from i) ≡ here ++ rest
-    split = ap (deliveries d) (next-group i low)
+        split : deliveries d (groups_from i) ≡ here ++ rest
+        split = ap (deliveries d) (next-group i low)
 
   module _ (d : Cluster) (i : ℕ) (before text : List ℕ) (count : ℕ) (drained : Drained d i before text count) (last : length c.groups.worlds ≤ i) where
     no-groups : groups_from i ≡ []
@@ -306,7 +326,8 @@ turns-many : (c : Cluster) (es : List ClusterEvent) → length (turns_from c es)
 turns-many c [] = refl
 turns-many c (e ∷ es) = ap suc (turns-many (cluster_step c e).cluster es)
 
-pub drained-is : (c : Cluster) (es : List ClusterEvent) (count : ℕ) (text end whole : List ℕ) → count ≡ length es → text ≡ written_by c es → end ≡ codes "drained " ++ (decimal count ++ codes "\n") → whole ≡ text ++ end
+pub drained-is : (c : Cluster) (es : List ClusterEvent) (count : ℕ) (text end whole : List ℕ) → count ≡ length es
+    → text ≡ written_by c es → end ≡ codes "drained " ++ (decimal count ++ codes "\n") → whole ≡ text ++ end
     → whole ≡ drained_text (turns_from c es)
 drained-is c es count text end whole many text_is end_is is =
     is ∙ ap (λ (xs : List ℕ). xs ++ end) text_is

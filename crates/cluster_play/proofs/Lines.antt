@@ -1,5 +1,6 @@
 -- What a line of a script of several groups comes to.
-use Rattle.std.proofs.Common.{◌≡◌, ℕ, ◌+◌, ◌*◌, ◌⊎◌, inl, inr, List, [], ◌∷◌, ◌++◌, length, Option, Some, None, Ok, Err, refl, sym, ap, ◌∙◌, subst, append_assoc, length-append, arith}
+use Rattle.std.proofs.Common.{◌≡◌, ℕ, ◌+◌, ◌*◌, ◌⊎◌, inl, inr, List, [], ◌∷◌, ◌++◌, length, Option, Some, None, Ok, Err}
+use Rattle.std.proofs.Common.{refl, sym, ap, ◌∙◌, subst, append_assoc, length-append, arith}
 use Rattle.group_layout.specs.Cluster.{Cluster, ClusterEntry, GroupTurn, Groups, Move, logged_in, turns_made}
 use Rattle.group_layout.proofs.Happening.{all_moves, groups-after, turns-after}
 use Rattle.group_layout.proofs.Moves.{log-moved}
@@ -30,8 +31,13 @@ record Went (before now : Option ClusterPlay) (bytes text : List ℕ) : Type 0 w
   turns : List ClusterTurn
   next : next_of before bytes ≡ Goes now turns text
 
-went_by : (before : Option ClusterPlay) (next : ClusterNext) (now : Option ClusterPlay) (text : List ℕ) → HasDone before next now (Ok (Some text)) → (turns : List ClusterTurn) × (next ≡ Goes now turns text)
-went_by before (Goes play turns written) now text done = (turns, ap (λ (p : Option ClusterPlay). Goes p turns written) (sym done.0) ∙ ap (λ (xs : List ℕ). Goes now turns xs) (sym done.1))
+went_by : (before : Option ClusterPlay) (next : ClusterNext) (now : Option ClusterPlay) (text : List ℕ)
+    → HasDone before next now (Ok (Some text)) → (turns : List ClusterTurn) × (next ≡ Goes now turns text)
+went_by before (Goes play turns written) now text done = (
+  turns,
+  ap (λ (p : Option ClusterPlay). Goes p turns written) (sym done.0) ∙ ap (λ (xs : List ℕ). Goes now turns xs)
+      (sym done.1),
+)
 went_by before Ends now text done = absurd done
 went_by before (Refused fault) now text done = absurd done
 
@@ -43,7 +49,8 @@ ended before (Goes play turns text) now done = absurd done
 ended before Ends now done = (refl, done)
 ended before (Refused fault) now done = absurd done
 
-refused : (before : Option ClusterPlay) (next : ClusterNext) (now : Option ClusterPlay) (cause : ClusterFault) → HasDone before next now (Err cause) → (cause ≡ Want) ⊎ (next ≡ Refused cause)
+refused : (before : Option ClusterPlay) (next : ClusterNext) (now : Option ClusterPlay) (cause : ClusterFault)
+    → HasDone before next now (Err cause) → (cause ≡ Want) ⊎ (next ≡ Refused cause)
 refused before next now Want done = inl refl
 refused before (Refused fault) now BadLine done = inr (ap Refused (sym done))
 refused before (Refused fault) now (BadLayout bad) done = inr (ap Refused (sym done))
@@ -66,9 +73,11 @@ many-append ts us = ap length (all ts) ∙ length-append (log_of ts) (log_of us)
 leads-log : (c d : Cluster) (turns : List ClusterTurn) → Leads c d turns → length d.groups.log ≡ length c.groups.log + many turns
 leads-log c d turns leads =
     let moves : List Move = all_moves c leads.events in
-    let grown = ap (λ (x : Cluster). length x.groups.log) (sym leads.to) ∙ ap (λ (g : Groups). length g.log) (groups-after c leads.events) ∙ ap length (log-moved c.groups moves)
+    let grown = ap (λ (x : Cluster). length x.groups.log) (sym leads.to)
+    ∙ ap (λ (g : Groups). length g.log) (groups-after c leads.events) ∙ ap length (log-moved c.groups moves)
     ∙ length-append c.groups.log (logged_in (turns_made c.groups moves)) in
-    let all = ap (λ (ts : List GroupTurn). length (logged_in ts)) (sym (turns-after c leads.events)) ∙ ap length (logged-all c leads.events) ∙ ap many leads.turns_are in
+    let all = ap (λ (ts : List GroupTurn). length (logged_in ts)) (sym (turns-after c leads.events))
+    ∙ ap length (logged-all c leads.events) ∙ ap many leads.turns_are in
     omega (arith, grown, all)
 
 -- what a line leaves
@@ -83,7 +92,9 @@ opening-light plan n j low =
     let none = load-opening plan.shape in
     omega (arith, same, none)
 
-opens-left : (n : ℕ) (now : Option ClusterPlay) (turns : List ClusterTurn) → turns ≡ [] → (now ≡ None) ⊎ ((plan : Plan) × IsPlan plan × (now ≡ Some (record { cluster = opening_of plan; moment = 0 }))) → Left n None now turns
+opens-left : (n : ℕ) (now : Option ClusterPlay) (turns : List ClusterTurn) → turns ≡ [] → (now ≡ None)
+    ⊎ ((plan : Plan) × IsPlan plan × (now ≡ Some (record { cluster = opening_of plan; moment = 0 })))
+    → Left n None now turns
 opens-left n now turns quiet (inl none) = record {
   ready = subst (ClusterGoesOn (n + 1)) (sym none) tt;
   logged = let here = ap log_len none in let silent = ap many quiet in omega (arith, here, silent);
@@ -93,7 +104,9 @@ opens-left n now turns quiet (inr (plan, limits, some)) = record {
   logged = let here = ap log_len some in let silent = ap many quiet in omega (arith, here, silent);
 }
 
-goes-left : (n : ℕ) (p : ClusterPlay) (now : Option ClusterPlay) (turns : List ClusterTurn) → (ready : IsReadyFor (n * most_of_a_line) p.cluster) → GoesOn ready.plan p.cluster now turns → Left n (Some p) now turns
+goes-left : (n : ℕ) (p : ClusterPlay) (now : Option ClusterPlay) (turns : List ClusterTurn)
+    → (ready : IsReadyFor (n * most_of_a_line) p.cluster) → GoesOn ready.plan p.cluster now turns
+    → Left n (Some p) now turns
 goes-left n p now turns ready on = record {
   ready = subst (ClusterGoesOn (n + 1)) (sym on.is) (record {
     plan = ready.plan;
@@ -117,11 +130,13 @@ tells-refusal n field.Nodes = tt
 tells-refusal n (field.Shape f) = tt
 
 module _ (n : ℕ) (before now : Option ClusterPlay) (bytes : List ℕ) where
-  pub treated-on : (text : List ℕ) → ClusterGoesOn n before → HasDone before (next_of before bytes) now (Ok (Some text)) → HasTreatedLine tells n before now bytes (Ok (Some text))
+  pub treated-on : (text : List ℕ) → ClusterGoesOn n before → HasDone before (next_of before bytes) now (Ok (Some text))
+      → HasTreatedLine tells n before now bytes (Ok (Some text))
   treated-on text ready done =
       let on : Went before now bytes text = went before now bytes text done in
       let behind : Left n before now on.turns = left n before now bytes text ready on in
-      treating.goes-on next_of BadLine told_at log_len many ClusterGoesOn n before now bytes on.turns text on.next (many-append on.turns) behind.logged behind.ready
+      treating.goes-on next_of BadLine told_at log_len many ClusterGoesOn n before now bytes on.turns text on.next
+      (many-append on.turns) behind.logged behind.ready
 
   pub treated-last : HasDone before (next_of before bytes) now (Ok None) → HasTreatedLine tells n before now bytes (Ok None)
   treated-last done =
@@ -130,14 +145,16 @@ module _ (n : ℕ) (before now : Option ClusterPlay) (bytes : List ℕ) where
         treating.ends-entries next_of BadLine told_at log_len many ClusterGoesOn before now bytes end.0 end.1,
       )
 
-  pub treated-refused : (cause : ClusterFault) → HasDone before (next_of before bytes) now (Err cause) → HasTreatedLine tells n before now bytes (Err (told_at n cause))
+  pub treated-refused : (cause : ClusterFault) → HasDone before (next_of before bytes) now (Err cause)
+      → HasTreatedLine tells n before now bytes (Err (told_at n cause))
   treated-refused Want done = inl refl
   treated-refused BadLine done = which (refused before (next_of before bytes) now BadLine done) where
     which : (BadLine ≡ Want) ⊎ (next_of before bytes ≡ Refused BadLine) → HasTreatedLine tells n before now bytes (Err (told_at n BadLine))
     which (inl want) = absurd (cc want)
     which (inr next) = inr (tt, treating.refused-at next_of BadLine told_at log_len many ClusterGoesOn n before bytes BadLine next)
   treated-refused (BadLayout bad) done = which (refused before (next_of before bytes) now (BadLayout bad) done) where
-    which : (BadLayout bad ≡ Want) ⊎ (next_of before bytes ≡ Refused (BadLayout bad)) → HasTreatedLine tells n before now bytes (Err (told_at n (BadLayout bad)))
+    which : (BadLayout bad ≡ Want) ⊎ (next_of before bytes ≡ Refused (BadLayout bad))
+        → HasTreatedLine tells n before now bytes (Err (told_at n (BadLayout bad)))
     which (inl want) = absurd (cc want)
     which (inr next) = inr (tells-refusal n bad, treating.refused-at next_of BadLine told_at log_len many ClusterGoesOn n before bytes (BadLayout bad) next)
 

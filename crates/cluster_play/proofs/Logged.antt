@@ -1,6 +1,8 @@
 -- What an event of a cluster logged stands last in its group's log.
 use Rattle.std.specs.declared.alloc.Global.{Global}
-use Rattle.std.proofs.Common.{IfOk, Vec, Result, Ok, Err, ℕ, suc, ◌≡◌, ◌+◌, ◌-◌, ◌≤◌, Bool, true, false, List, [], ◌∷◌, ◌++◌, length, drop, Option, Some, None, if◌then◌else◌, refl, sym, ap, ◌∙◌, append_assoc, append-nil, arith}
+use Rattle.std.proofs.Common.{IfOk, Vec, Result, Ok, Err, ℕ, suc, ◌≡◌, ◌+◌, ◌-◌, ◌≤◌, Bool, true, false, List, [], ◌∷◌}
+use Rattle.std.proofs.Common.{◌++◌, length, drop, Option, Some, None, if◌then◌else◌, refl, sym, ap, ◌∙◌, append_assoc}
+use Rattle.std.proofs.Common.{append-nil, arith}
 use Rattle.std.specs.List.{range_with_len}
 use Rattle.group_types.specs.Dimensions.{Dimensions}
 use Rattle.group_types.specs.Lists.{at}
@@ -11,7 +13,9 @@ use Rattle.group_calls.specs.declared.event.Event.{Event}
 use Rattle.group_calls.specs.declared.event.Event.TheVariants.{Fail}
 use Rattle.group_run.specs.World.{Ledger, Ticket, World, all_change, ledger_after, ledger_with, new_ones, node_of, settled_in, step}
 use Rattle.law_moves.proofs.Reading.{grown-is}
-use Rattle.group_layout.specs.Cluster.{Cluster, ClusterEntry, Groups, Move, all_moved, cluster_step, failure_of, failures, logged_in, move_unless, moved, node_failure, other_group, tagged, turns_made, world_in}
+use Rattle.group_layout.specs.Cluster.{Cluster, ClusterEntry, Groups, Move, all_moved, cluster_step, failure_of}
+use Rattle.group_layout.specs.Cluster.{failures, logged_in, move_unless, moved, node_failure, other_group, tagged}
+use Rattle.group_layout.specs.Cluster.{turns_made, world_in}
 use Rattle.group_layout.specs.Layout.{process_on}
 use Rattle.group_layout.specs.declared.event.ClusterEvent.{ClusterEvent}
 use Rattle.group_layout.specs.declared.event.ClusterAnswer.{ClusterAnswer}
@@ -55,10 +59,15 @@ module _ (g : Groups) (j : ℕ) (e : Event) where
 
   abbrev EndsAs : Option ℕ → Type 0
   EndsAs o = (length (logged o) ≤ length (world_in (after o) j).log)
-      × (marked_entries (group_mark j) (drop (length (world_in (after o) j).log - length (logged o)) (world_in (after o) j).log) ≡ cluster_entries_text (logged o))
+      × (marked_entries (group_mark j) (drop (length (world_in (after o) j).log - length (logged o))
+      (world_in (after o) j).log) ≡ cluster_entries_text (logged o))
 
   ends : (o : Option ℕ) → EndsAs o
-  ends (Some own) = (omega arith, ap (λ (k : ℕ). marked_entries (group_mark j) (drop k (world_in g j).log)) none ∙ ap (marked_entries (group_mark j)) (drop-all (world_in g j).log)) where
+  ends (Some own) = (
+    omega arith,
+    ap (λ (k : ℕ). marked_entries (group_mark j) (drop k (world_in g j).log)) none
+        ∙ ap (marked_entries (group_mark j)) (drop-all (world_in g j).log),
+  ) where
     none : length (world_in g j).log - 0 ≡ length (world_in g j).log
     none = omega arith
   ends None =
@@ -67,14 +76,19 @@ module _ (g : Groups) (j : ℕ) (e : Event) where
       let many : length (logged None) ≡ length (step w e).turn.logged = tagged-many j (step w e).turn.logged in
       let few = last-few w e in
       let long = ap length own in
-      let last = ap (λ (xs : List Entry). drop (length xs - length (logged None)) xs) own ∙ ap (λ (k : ℕ). drop (length (step w e).world.log - k) (step w e).world.log) many ∙ last-logged w e in
+      let last = ap (λ (xs : List Entry). drop (length xs - length (logged None)) xs) own
+      ∙ ap (λ (k : ℕ). drop (length (step w e).world.log - k) (step w e).world.log) many ∙ last-logged w e in
       (omega (arith, few, long, many), ap (marked_entries (group_mark j)) last ∙ sym (tagged-text j (step w e).turn.logged))
 
-pub last-in : (c : Cluster) (j : ℕ) (e : Event) (d : Cluster) (log : List Entry) (n : ℕ) → d ≡ (cluster_step c (InGroup j e)).cluster → log ≡ (world_in d.groups j).log → n ≡ logged_by (cluster_step c (InGroup j e)) → Last c j e log n
+pub last-in : (c : Cluster) (j : ℕ) (e : Event) (d : Cluster) (log : List Entry) (n : ℕ)
+    → d ≡ (cluster_step c (InGroup j e)).cluster → log ≡ (world_in d.groups j).log
+    → n ≡ logged_by (cluster_step c (InGroup j e)) → Last c j e log n
 last-in c j e d log n is same count = record {
   few = let both = ap length whole in let low = made.0 in omega (arith, both, low, count);
   text = ap (λ (xs : List Entry). marked_entries (group_mark j) (drop (length xs - n) xs)) whole
-      ∙ ap (λ (k : ℕ). marked_entries (group_mark j) (drop (length (world_in (cluster_step c (InGroup j e)).cluster.groups j).log - k) (world_in (cluster_step c (InGroup j e)).cluster.groups j).log)) count
+      ∙ ap (λ (k : ℕ). marked_entries (group_mark j)
+      (drop (length (world_in (cluster_step c (InGroup j e)).cluster.groups j).log - k)
+      (world_in (cluster_step c (InGroup j e)).cluster.groups j).log)) count
       ∙ made.1;
 } where
   made : EndsAs c.groups j e (other_group c.groups j e)
@@ -87,7 +101,8 @@ last-in c j e d log n is same count = record {
 quiet : (tickets : List Ticket) (ds : List ℕ) (ledger : Ledger) → ledger.logged ≡ [] → (ledger_after tickets [] ds ledger).logged ≡ []
 quiet tickets [] ledger is = is
 quiet tickets (d ∷ ds) ledger is =
-    quiet tickets ds (ledger_with tickets d (new_ones (length (at [] ledger.places d)) (settled_in d [])) ledger) (grown-is ledger.logged [] ∙ append-nil ledger.logged ∙ is)
+    quiet tickets ds (ledger_with tickets d (new_ones (length (at [] ledger.places d)) (settled_in d [])) ledger)
+    (grown-is ledger.logged [] ∙ append-nil ledger.logged ∙ is)
 
 -- a failure logs nothing
 fail-logs : (w : World) (p : ProcessId) (keep : ℕ) → (step w (Fail p keep)).turn.logged ≡ []
@@ -119,13 +134,16 @@ fail-silent c node keep = by (at false c.failed node) where
   by false = failures-log c.groups c.groups.shape (length c.failed) node keep (range_with_len 0 (length c.groups.worlds))
 
 -- the answer on a line, and what the event logged
-pub turn-written : (c : Cluster) (e : ClusterEvent) (answer : ClusterAnswer) (front line entries text : List ℕ) → front ≡ cluster_answer_text answer → answer ≡ (cluster_step c e).answer → line ≡ front ++ 10 ∷ []
+pub turn-written : (c : Cluster) (e : ClusterEvent) (answer : ClusterAnswer) (front line entries text : List ℕ)
+    → front ≡ cluster_answer_text answer → answer ≡ (cluster_step c e).answer → line ≡ front ++ 10 ∷ []
     → text ≡ line ++ entries → entries ≡ cluster_entries_text (logged_in (cluster_step c e).turns) → text ≡ turn_text (turn_of c e)
 turn-written c e answer front line entries text front_is answer_is line_is text_is entries_is =
     text_is ∙ ap (λ (xs : List ℕ). xs ++ entries) line_is ∙ append_assoc front (10 ∷ []) entries
-    ∙ ap (λ (xs : List ℕ). xs ++ 10 ∷ entries) (front_is ∙ ap cluster_answer_text answer_is) ∙ ap (λ (xs : List ℕ). cluster_answer_text (cluster_step c e).answer ++ 10 ∷ xs) entries_is
+    ∙ ap (λ (xs : List ℕ). xs ++ 10 ∷ entries) (front_is ∙ ap cluster_answer_text answer_is)
+    ∙ ap (λ (xs : List ℕ). cluster_answer_text (cluster_step c e).answer ++ 10 ∷ xs) entries_is
 
 -- a text that was written is the one that was to be
-pub line-is : {E : Type 0} (result : Result (Vec ℕ Global) E) (line wanted : List ℕ) → IfOk result (λ text. text.items ≡ line) → line ≡ wanted → IfOk result (λ text. text.items ≡ wanted)
+pub line-is : {E : Type 0} (result : Result (Vec ℕ Global) E) (line wanted : List ℕ)
+    → IfOk result (λ text. text.items ≡ line) → line ≡ wanted → IfOk result (λ text. text.items ≡ wanted)
 line-is (Ok text) line wanted is same = is ∙ same
 line-is (Err e) line wanted is same = tt

@@ -1,5 +1,6 @@
 -- Groups of numbers that are within their limits, or the first of them that is not.
-use Rattle.std.proofs.Common.{◌≡◌, ◌<◌, ◌≤◌, ◌+◌, ◌&&◌, ◌⊎◌, inl, inr, Bool, true, false, nat_le, nat_lt, Option, Some, None, Result, Ok, Err, if◌then◌else◌, refl, sym, ap, ◌∙◌, arith}
+use Rattle.std.proofs.Common.{◌≡◌, ◌<◌, ◌≤◌, ◌+◌, ◌&&◌, ◌⊎◌, inl, inr, Bool, true, false, nat_le, nat_lt, Option, Some}
+use Rattle.std.proofs.Common.{None, Result, Ok, Err, if◌then◌else◌, refl, sym, ap, ◌∙◌, arith}
 use Rattle.std.proofs.lemmas.Bool.Decides.{nat_tests}
 use Rattle.group_types.specs.Dimensions.{Dimensions}
 use Rattle.group_types.specs.Shape.{IsFirstOutOfRange, IsShape}
@@ -43,7 +44,8 @@ module _ (p : Plan) where
   abbrev rest : Option LayoutField → Bool → Bool → Option LayoutField
   rest o a b = if a then (if b then o else Some Nodes) else Some Groups
 
-  judged : (a b : Bool) (o : Option LayoutField) → (nat_le 1 p.groups && nat_le p.groups 16) ≡ a → (nat_le (p.shape.k + p.shape.m) p.nodes && nat_le p.nodes 64) ≡ b
+  judged : (a b : Bool) (o : Option LayoutField) → (nat_le 1 p.groups && nat_le p.groups 16) ≡ a
+      → (nat_le (p.shape.k + p.shape.m) p.nodes && nat_le p.nodes 64) ≡ b
       → field_of_shape p (first_out_of_range p.shape) ≡ o → first_bad p ≡ rest o a b
   judged a b o isa isb iso =
       ap (λ (t : Bool). rest (field_of_shape p (first_out_of_range p.shape)) t (nat_le (p.shape.k + p.shape.m) p.nodes && nat_le p.nodes 64)) isa
@@ -69,10 +71,12 @@ module _ (p : Plan) where
     by true is = absurd (bad.1 (grind (arith, nat_tests), grind (arith, nat_tests)))
     by false is = judged true false _ (groups-in bad.0) is refl
   plan-some (Shape field) bad = judged true true (Some (Shape field)) (groups-in bad.0) (nodes-in bad.1) (by bad.2) where
-    by : IsFirstOutOfRange p.shape field ⊎ ((field ≡ Blocks) × IsShape p.shape × (most_bytes < bytes_of p)) → field_of_shape p (first_out_of_range p.shape) ≡ Some (Shape field)
+    by : IsFirstOutOfRange p.shape field ⊎ ((field ≡ Blocks) × IsShape p.shape × (most_bytes < bytes_of p))
+        → field_of_shape p (first_out_of_range p.shape) ≡ Some (Shape field)
     by (inl out) = ap (field_of_shape p) (shape-some p.shape field out)
     by (inr (same, limits, large)) =
-        ap (field_of_shape p) (shape-none p.shape limits) ∙ ap (λ (t : Bool). if t then Some (Shape Blocks) else None) (many large) ∙ ap (λ (f : Field). Some (Shape f)) (sym same)
+        ap (field_of_shape p) (shape-none p.shape limits) ∙ ap (λ (t : Bool). if t then Some (Shape Blocks) else None)
+        (many large) ∙ ap (λ (f : Field). Some (Shape f)) (sym same)
 
 pub plan_within-ok : (p q : Plan) → q ≡ p → IsPlan p → plan_within p ≡ Ok q
 unfolding plan_within

@@ -20,7 +20,8 @@ ready-some c ready = let many = (led-even ready.plan c ready.led).many in let so
 pub shape-of-first : (c : Cluster) → IsReadyFor (2 ^ 59) c → (world_in c.groups 0).shape ≡ c.groups.shape
 shape-of-first c ready = let even = led-even ready.plan c ready.led in even.worlds 0 ∙ sym even.shape
 
-pub within-there : (c : Cluster) (j : ℕ) (l m : Line) → IsReadyFor (2 ^ 59) c → IsLineOf (Some c.groups.shape) l → l ≡ m → IsWithin (world_in c.groups j).shape m
+pub within-there : (c : Cluster) (j : ℕ) (l m : Line) → IsReadyFor (2 ^ 59) c → IsLineOf (Some c.groups.shape) l → l ≡ m
+    → IsWithin (world_in c.groups j).shape m
 within-there c j l m ready within is =
     let even = led-even ready.plan c ready.led in
     subst (λ (x : Line). IsWithin (world_in c.groups j).shape x) is (subst (λ (s : Dimensions). IsLineOf (Some s) l) (even.shape ∙ sym (even.worlds j)) within)
@@ -33,7 +34,8 @@ pub few-all : (c : Cluster) → IsReadyFor (2 ^ 59) c → AllHaveFew c.groups
 few-all c ready j low = few-in c j ready low
 
 -- the number of groups stays
-pub there-after : (c : Cluster) (j : ℕ) (e : Event) (d : Cluster) → d ≡ (cluster_step c (InGroup j e)).cluster → j < length c.groups.worlds → j < length d.groups.worlds
+pub there-after : (c : Cluster) (j : ℕ) (e : Event) (d : Cluster) → d ≡ (cluster_step c (InGroup j e)).cluster
+    → j < length c.groups.worlds → j < length d.groups.worlds
 there-after c j e d is low = subst (λ (x : Cluster). j < length x.groups.worlds) (sym is) (by (other_group c.groups j e)) where
   by : (o : Option ℕ) → j < length (all_moved c.groups (move_unless o (record { group = j; event = e }))).worlds
   by (Some own) = low

@@ -1,5 +1,6 @@
 -- A drain of a cluster: its deliveries may happen, and each lightens its group.
-use Rattle.std.proofs.Common.{ℕ, zero, suc, ◌≡◌, ◌<◌, ◌≤◌, ◌+◌, Bool, true, false, List, [], ◌∷◌, length, map, inl, inr, Option, Some, None, if◌then◌else◌, refl, sym, ap, subst, ◌∙◌, arith}
+use Rattle.std.proofs.Common.{ℕ, zero, suc, ◌≡◌, ◌<◌, ◌≤◌, ◌+◌, Bool, true, false, List, [], ◌∷◌, length, map, inl, inr}
+use Rattle.std.proofs.Common.{Option, Some, None, if◌then◌else◌, refl, sym, ap, subst, ◌∙◌, arith}
 use Rattle.std.specs.List.{range_with_len}
 use Rattle.group_calls.specs.declared.event.Event.{Event}
 use Rattle.group_calls.specs.declared.event.Event.TheVariants.{Ask, Collect, Deliver, Fail, Flush, Trace}
@@ -68,21 +69,27 @@ module _ (plan : Plan) where
   behind n w (Some e) = e ∷ drain_events n (step w e).world
 
   -- the deliveries of one group
-  in-group : (n : ℕ) (c : Cluster) (j : ℕ) → IsLedTo plan c → j < plan.groups → ¬ (IsDown (world_in c.groups j)) → Drains c (map (InGroup j) (drain_events n (world_in c.groups j)))
+  in-group : (n : ℕ) (c : Cluster) (j : ℕ) → IsLedTo plan c → j < plan.groups → ¬ (IsDown (world_in c.groups j))
+      → Drains c (map (InGroup j) (drain_events n (world_in c.groups j)))
   in-group zero c j led low up = record { may = tt; light = λ i. omega arith }
   in-group (suc n) c j led low up = by (next_delivery (world_in c.groups j)) refl (λ d. in-group n d j) where
     w : World
     w = world_in c.groups j
 
-    by : (next : Option Event) → next_delivery w ≡ next → ((d : Cluster) → IsLedTo plan d → j < plan.groups → ¬ (IsDown (world_in d.groups j)) → Drains d (map (InGroup j) (drain_events n (world_in d.groups j))))
+    by : (next : Option Event) → next_delivery w ≡ next
+        → ((d : Cluster) → IsLedTo plan d → j < plan.groups → ¬ (IsDown (world_in d.groups j))
+        → Drains d (map (InGroup j) (drain_events n (world_in d.groups j))))
         → Drains c (map (InGroup j) (behind n w next))
     by None is later = record { may = tt; light = λ i. omega arith }
     by (Some e) is later =
         let lighter : Lightens w e = lightens plan.shape w e (led-group plan c j led low) up is in
         let one : Delivered c j e = delivered c j e led low (next-delivers plan.shape w e (led-group plan c j led low) up is) lighter in
         let d : Cluster = (cluster_step c (InGroup j e)).cluster in
-        let rest : Drains d (map (InGroup j) (drain_events n (world_in d.groups j))) = later d (led-on plan c d _ led (one-leads c (InGroup j e) one.may)) low (subst (λ (v : World). ¬ (IsDown v)) (sym one.own) lighter.up) in
-        let same : Drains d (map (InGroup j) (drain_events n (step w e).world)) = subst (λ (v : World). Drains d (map (InGroup j) (drain_events n v))) one.own rest in
+        let rest : Drains d (map (InGroup j) (drain_events n (world_in d.groups j))) =
+        later d (led-on plan c d _ led (one-leads c (InGroup j e) one.may)) low
+        (subst (λ (v : World). ¬ (IsDown v)) (sym one.own) lighter.up) in
+        let same : Drains d (map (InGroup j) (drain_events n (step w e).world)) =
+        subst (λ (v : World). Drains d (map (InGroup j) (drain_events n v))) one.own rest in
         record { may = (one.may, same.may); light = λ i. (let first = one.light i in let behind = same.light i in omega (arith, first, behind)) }
 
   pub group-drains : (c : Cluster) (j : ℕ) → IsLedTo plan c → j < plan.groups → Drains c (deliveries_in c j)
@@ -113,8 +120,11 @@ module _ (plan : Plan) where
       let rest : Drains d (deliveries d js) = drained d js (led-on plan c d _ led leads) there.1 in
       record {
         may = may-append c es (deliveries d js) first.may rest.may;
-        light = λ i. (let same = ap (λ (x : Cluster). burden (world_in x.groups i)) (after-append c es (deliveries d js)) in let less = first.light i in let more = rest.light i in omega (arith, same, less, more));
+        light = λ i. (let same = ap (λ (x : Cluster). burden (world_in x.groups i))
+            (after-append c es (deliveries d js)) in let less = first.light i in let more = rest.light i in
+            omega (arith, same, less, more));
       }
 
   pub all-drained : (c : Cluster) → IsLedTo plan c → Drains c (all_deliveries c)
-  all-drained c led = let many = (led-even plan c led).many in drained c (range_with_len 0 (length c.groups.worlds)) led (range-there 0 (length c.groups.worlds) (omega (arith, many)))
+  all-drained c led = let many = (led-even plan c led).many in drained c (range_with_len 0 (length c.groups.worlds)) led
+      (range-there 0 (length c.groups.worlds) (omega (arith, many)))

@@ -1,5 +1,6 @@
 -- How much the events of a cluster add to each of its groups.
-use Rattle.std.proofs.Common.{ℕ, zero, suc, ◌≡◌, ◌≤◌, ◌+◌, ◌*◌, ◌^◌, ◌==◌, Bool, true, false, List, [], ◌∷◌, length, Option, Some, None, if◌then◌else◌, refl, ap, length-append, arith}
+use Rattle.std.proofs.Common.{ℕ, zero, suc, ◌≡◌, ◌≤◌, ◌+◌, ◌*◌, ◌^◌, ◌==◌, Bool, true, false, List, [], ◌∷◌, length}
+use Rattle.std.proofs.Common.{Option, Some, None, if◌then◌else◌, refl, ap, length-append, arith}
 use Rattle.std.specs.List.{range_with_len}
 use Rattle.group_types.specs.Dimensions.{Dimensions}
 use Rattle.group_types.specs.Lists.{at}
@@ -68,7 +69,8 @@ few-moves s count c (FailNode node keep) even few = by (at false c.failed node) 
       let many = even.many in
       omega (arith, most, long, many, few)
 
-pub event-adds : (s : Dimensions) (count : ℕ) (c : Cluster) (e : ClusterEvent) (j : ℕ) → Even s count c.groups → count ≤ 16 → IsLedTo s (world_in c.groups j) → MayHappen c e
+pub event-adds : (s : Dimensions) (count : ℕ) (c : Cluster) (e : ClusterEvent) (j : ℕ) → Even s count c.groups
+    → count ≤ 16 → IsLedTo s (world_in c.groups j) → MayHappen c e
     → burden (world_in (cluster_step c e).cluster.groups j) ≤ burden (world_in c.groups j) + most_added
 event-adds s count c e j even few led may =
     let moves : List Move = moves_of c e in

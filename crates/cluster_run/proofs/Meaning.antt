@@ -1,5 +1,6 @@
 -- What is read of a line is within the limits of the groups.
-use Rattle.std.proofs.Common.{ℕ, ◌≡◌, ◌<◌, ◌+◌, ◌==◌, ◌&&◌, Bool, true, false, nat_le, nat_lt, List, [], ◌∷◌, codes, length, Option, Some, None, Ok, Err, if◌then◌else◌, refl, sym, subst, ◌∙◌, arith}
+use Rattle.std.proofs.Common.{ℕ, ◌≡◌, ◌<◌, ◌+◌, ◌==◌, ◌&&◌, Bool, true, false, nat_le, nat_lt, List, [], ◌∷◌, codes}
+use Rattle.std.proofs.Common.{length, Option, Some, None, Ok, Err, if◌then◌else◌, refl, sym, subst, ◌∙◌, arith}
 use Rattle.std.proofs.lemmas.Bool.Decides.{nat_tests}
 use Rattle.std.specs.Str.{bytes_eq}
 use Rattle.group_types.specs.declared.shape.Field.{Field}
@@ -16,7 +17,8 @@ use Rattle.scenario_text.specs.Meaning.{first_out_of_range}
 use Rattle.scenario_text.specs.Words.{keep_of_word, number_below}
 use Rattle.scenario_text.proofs.Limits.{shape-of}
 use Rattle.scenario_text.proofs.Read.{bound, mapped, passed}
-use Rattle.cluster_run.specs.Meaning.{cut_at_space, failure_line, field_of_shape, first_bad, group_of_word, groups_line, in_group, named_by, plan_of, plan_unless, plan_within, within_or_bad}
+use Rattle.cluster_run.specs.Meaning.{cut_at_space, failure_line, field_of_shape, first_bad, group_of_word, groups_line}
+use Rattle.cluster_run.specs.Meaning.{in_group, named_by, plan_of, plan_unless, plan_within, within_or_bad}
 use Rattle.cluster_run.specs.declared.fault.ClusterFault.TheVariants.{BadLine}
 
 -- a number below a limit
@@ -34,9 +36,12 @@ number_below-under limit word n is = if_below-under limit (number_of word) n is
 
 module _ (p : Plan) where
   -- groups in range
-  fits : (b c d : Bool) → (nat_le 1 p.groups && nat_le p.groups 16) ≡ b → (nat_le (p.shape.k + p.shape.m) p.nodes && nat_le p.nodes 64) ≡ c → nat_lt most_bytes (bytes_of p) ≡ d
+  fits : (b c d : Bool) → (nat_le 1 p.groups && nat_le p.groups 16) ≡ b
+      → (nat_le (p.shape.k + p.shape.m) p.nodes && nat_le p.nodes 64) ≡ c → nat_lt most_bytes (bytes_of p) ≡ d
       → (o : Option Field) → first_out_of_range p.shape ≡ o
-      → (if b then (if c then elim o [ Some field ↦ Some (Shape field) | None ↦ (if d then Some (Shape Blocks) else None) ] else Some Nodes) else Some Groups) ≡ None → IsPlan p
+      → (if b then (if c then elim o
+      [ Some field ↦ Some (Shape field) | None ↦ (if d then Some (Shape Blocks) else None) ] else Some Nodes) else
+      Some Groups) ≡ None → IsPlan p
   fits true true false isb isc isd None is same = record {
     groups = (grind (arith, nat_tests), grind (arith, nat_tests));
     nodes = (grind (arith, nat_tests), grind (arith, nat_tests));
@@ -51,8 +56,14 @@ module _ (p : Plan) where
 plan-fits : (p : Plan) → first_bad p ≡ None → IsPlan p
 plan-fits p is = fits p _ _ _ refl refl refl (first_out_of_range p.shape) refl (sym (by (first_out_of_range p.shape)) ∙ is) where
   by : (o : Option Field)
-      → (if nat_le 1 p.groups && nat_le p.groups 16 then (if nat_le (p.shape.k + p.shape.m) p.nodes && nat_le p.nodes 64 then field_of_shape p o else Some Nodes) else Some Groups)
-      ≡ (if nat_le 1 p.groups && nat_le p.groups 16 then (if nat_le (p.shape.k + p.shape.m) p.nodes && nat_le p.nodes 64 then elim o [ Some field ↦ Some (Shape field) | None ↦ (if nat_lt most_bytes (bytes_of p) then Some (Shape Blocks) else None) ] else Some Nodes) else Some Groups)
+      → (if nat_le 1 p.groups && nat_le p.groups 16 then (if nat_le (p.shape.k + p.shape.m) p.nodes && nat_le p.nodes 64
+      then field_of_shape p o else Some Nodes) else Some Groups)
+      ≡ (if nat_le 1 p.groups && nat_le p.groups 16 then (if nat_le (p.shape.k + p.shape.m) p.nodes && nat_le p.nodes 64
+      then elim o [
+        | Some field ↦ Some (Shape field)
+        | None ↦
+            (if nat_lt most_bytes (bytes_of p) then Some (Shape Blocks) else None)
+      ] else Some Nodes) else Some Groups)
   by (Some field) = refl
   by None = refl
 

@@ -1,5 +1,6 @@
 -- Every script's cluster keeps the promises of the headline.
-use Rattle.std.proofs.Common.{ℕ, zero, suc, ◌≡◌, ◌<◌, ◌+◌, ◌⊎◌, inl, inr, List, [], ◌∷◌, ◌++◌, length, map, take, All, Option, Some, None, Result, Ok, Err, refl, sym, ap, subst, ◌∙◌, append_assoc}
+use Rattle.std.proofs.Common.{ℕ, zero, suc, ◌≡◌, ◌<◌, ◌+◌, ◌⊎◌, inl, inr, List, [], ◌∷◌, ◌++◌, length, map, take, All}
+use Rattle.std.proofs.Common.{Option, Some, None, Result, Ok, Err, refl, sym, ap, subst, ◌∙◌, append_assoc}
 use Rattle.group_types.specs.Dimensions.{Dimensions}
 use Rattle.group_types.specs.Shape.{IsShape}
 use Rattle.group_run.specs.Shown.{HoldsTruth, held}
@@ -56,7 +57,9 @@ module _ (plan : Plan) where
   runs : (p : ClusterPlay) (lines : List (List ℕ)) → IsLedTo plan p.cluster → Runs p.cluster (turns_in next_of (Some p) lines)
   runs p [] led = none p.cluster
   runs p (line ∷ lines) led = by (next_of (Some p) line) refl (λ q. runs q lines) where
-    by : (next : ClusterNext) → next_of (Some p) line ≡ next → ((q : ClusterPlay) → IsLedTo plan q.cluster → Runs q.cluster (turns_in next_of (Some q) lines)) → Runs p.cluster (turns_after next_of next lines)
+    by : (next : ClusterNext) → next_of (Some p) line ≡ next
+        → ((q : ClusterPlay) → IsLedTo plan q.cluster → Runs q.cluster (turns_in next_of (Some q) lines))
+        → Runs p.cluster (turns_after next_of next lines)
     by Ends is later = none p.cluster
     by (Refused fault) is later = none p.cluster
     by (Goes next turns text) is later =
@@ -72,7 +75,8 @@ module _ (plan : Plan) where
   truth : (c : Cluster) (j : ℕ) → IsLedTo plan c → j < plan.groups → HoldsTruth (world_in c.groups j)
   truth c j led low = let own = led-group plan c j led low in subst HoldsTruth (sym own.is) (truth_always plan.shape own.events own.run)
 
-  true-in : (p : ClusterPlay) (j : ℕ) (l : Result Line LineFault) (next : Option ClusterPlay) (turns : List ClusterTurn) (text : List ℕ) → IsLedTo plan p.cluster → j < plan.groups
+  true-in : (p : ClusterPlay) (j : ℕ) (l : Result Line LineFault) (next : Option ClusterPlay) (turns : List ClusterTurn)
+      (text : List ℕ) → IsLedTo plan p.cluster → j < plan.groups
       → ((l' : Line) → l ≡ Ok l' → IsLineOf (Some (group_in p j).shape) l') → by_line (then_in p j) l ≡ Goes next turns text → IsTrueIn p j l text
   true-in p j (Err fault) next turns text led low within is = tt
   true-in p j (Ok (Show from run)) next turns text led low within is =
@@ -91,13 +95,15 @@ module _ (plan : Plan) where
   true-in p j (Ok (Time moment)) next turns text led low within is = tt
   true-in p j (Ok Stop) next turns text led low within is = tt
 
-  true-named : (p : ClusterPlay) (line : List ℕ) (named : Option (ℕ × List ℕ)) (failure : Option ClusterEvent) (next : Option ClusterPlay) (turns : List ClusterTurn) (text : List ℕ) → IsLedTo plan p.cluster
+  true-named : (p : ClusterPlay) (line : List ℕ) (named : Option (ℕ × List ℕ)) (failure : Option ClusterEvent)
+      (next : Option ClusterPlay) (turns : List ClusterTurn) (text : List ℕ) → IsLedTo plan p.cluster
       → ((x : ℕ × List ℕ) → named ≡ Some x → x.0 < plan.groups) → by_words p line named failure ≡ Goes next turns text → IsTrueNamed p named text
   true-named p line None failure next turns text led there is = tt
   true-named p line (Some x) failure next turns text led there is =
       let even = led-even plan p.cluster led in
       true-in p x.0 (line_of (Some p.cluster.groups.shape) x.1) next turns text led (there x refl)
-      (λ l reads. subst (λ (s : Dimensions). IsLineOf (Some s) l) (even.shape ∙ sym (even.worlds x.0)) (line_of-within (Some p.cluster.groups.shape) x.1 l reads)) is
+      (λ l reads. subst (λ (s : Dimensions). IsLineOf (Some s) l) (even.shape ∙ sym (even.worlds x.0))
+      (line_of-within (Some p.cluster.groups.shape) x.1 l reads)) is
 
   true-lines : (p : ClusterPlay) (lines : List (List ℕ)) → IsLedTo plan p.cluster → AreTrueLines (Some p) lines
   true-lines p [] led = tt
@@ -107,12 +113,17 @@ module _ (plan : Plan) where
         true-named p line (in_group (length p.cluster.groups.worlds) line) (failure_line (length p.cluster.failed) (words_of line)) next turns text led
         (λ x names. subst (λ (n : ℕ). x.0 < n) many (in_group-below (length p.cluster.groups.worlds) line x names)) is
 
-    by : (next : ClusterNext) → next_of (Some p) line ≡ next → ((q : ClusterPlay) → IsLedTo plan q.cluster → AreTrueLines (Some q) lines) → TrueAfter (Some p) line next lines
+    by : (next : ClusterNext) → next_of (Some p) line ≡ next
+        → ((q : ClusterPlay) → IsLedTo plan q.cluster → AreTrueLines (Some q) lines)
+        → TrueAfter (Some p) line next lines
     by Ends is later = tt
     by (Refused fault) is later = tt
     by (Goes next turns text) is later =
-        let on = line-leads plan p line next turns text led is in
-        (here next turns text is, subst (λ (q : Option ClusterPlay). AreTrueLines q lines) (sym on.is) (later on.play (led-on plan p.cluster on.play.cluster turns led on.leads)))
+        let on = line-leads plan p line next turns text led is in (
+          here next turns text is,
+          subst (λ (q : Option ClusterPlay). AreTrueLines q lines) (sym on.is)
+              (later on.play (led-on plan p.cluster on.play.cluster turns led on.leads)),
+        )
 
 -- a script that names its groups
 record Named (lines : List (List ℕ)) : Type 0 where
@@ -133,7 +144,9 @@ opening-plan plan limits =
 begins : (n : ℕ) (lines : List (List ℕ)) → fault_in next_of BadLine n None lines ≡ None → Named lines
 begins n [] ends = absurd (cc ends)
 begins n (line ∷ lines) ends = by (next_of None line) refl ends (begins (n + 1) lines) where
-  begun : (next : Option ClusterPlay) (turns : List ClusterTurn) (text : List ℕ) → next_of None line ≡ Goes next turns text → Opens next turns text → fault_in next_of BadLine (n + 1) next lines ≡ None
+  begun : (next : Option ClusterPlay) (turns : List ClusterTurn) (text : List ℕ)
+      → next_of None line ≡ Goes next turns text → Opens next turns text → fault_in next_of BadLine (n + 1) next lines
+      ≡ None
       → (fault_in next_of BadLine (n + 1) None lines ≡ None → Named lines) → Named (line ∷ lines)
   begun next turns text is opens rest later = either opens.is where
     turns_are : (q : Option ClusterPlay) → next ≡ q → turns_in next_of None (line ∷ lines) ≡ turns_in next_of q lines
@@ -144,7 +157,8 @@ begins n (line ∷ lines) ends = by (next_of None line) refl ends (begins (n + 1
     plan_is q same = ap plan_in (named-line next_of line lines (Goes next turns text) is ∙ ap (λ (x : Option ClusterPlay). named_in next_of x lines) same)
 
     true_then : (q : Option ClusterPlay) → next ≡ q → AreTrueLines q lines → AreTrueLines None (line ∷ lines)
-    true_then q same truth = subst (λ (x : ClusterNext). TrueAfter None line x lines) (sym is) (tt, subst (λ (x : Option ClusterPlay). AreTrueLines x lines) (sym same) truth)
+    true_then q same truth = subst (λ (x : ClusterNext). TrueAfter None line x lines) (sym is)
+        (tt, subst (λ (x : Option ClusterPlay). AreTrueLines x lines) (sym same) truth)
 
     either : (next ≡ None) ⊎ ((plan : Plan) × IsPlan plan × (next ≡ Some (record { cluster = opening_of plan; moment = 0 }))) → Named (line ∷ lines)
     either (inl nothing) =
@@ -166,10 +180,12 @@ begins n (line ∷ lines) ends = by (next_of None line) refl ends (begins (n + 1
           true_lines = true_then (Some p) some (true-lines plan p lines (opened plan limits));
         }
 
-  by : (next : ClusterNext) → next_of None line ≡ next → fault_in next_of BadLine n None (line ∷ lines) ≡ None → (fault_in next_of BadLine (n + 1) None lines ≡ None → Named lines) → Named (line ∷ lines)
+  by : (next : ClusterNext) → next_of None line ≡ next → fault_in next_of BadLine n None (line ∷ lines) ≡ None
+      → (fault_in next_of BadLine (n + 1) None lines ≡ None → Named lines) → Named (line ∷ lines)
   by Ends is ends later = absurd (never-ends line is)
   by (Refused fault) is ends later = absurd (cc (sym (ap (λ (x : ClusterNext). fault_after next_of BadLine n x lines) is) ∙ ends))
-  by (Goes next turns text) is ends later = begun next turns text is (line-opens line next turns text is) (sym (ap (λ (x : ClusterNext). fault_after next_of BadLine n x lines) is) ∙ ends) later
+  by (Goes next turns text) is ends later = begun next turns text is (line-opens line next turns text is)
+      (sym (ap (λ (x : ClusterNext). fault_after next_of BadLine n x lines) is) ∙ ends) later
 
 -- the first of events that may happen
 may-front : (c : Cluster) (n : ℕ) (es : List ClusterEvent) → MayAllHappen c es → MayAllHappen c (take n es)
@@ -186,7 +202,8 @@ events-are c (e ∷ es) = ap (λ (xs : List ClusterEvent). e ∷ xs) (events-are
 pub logged-append : (ts us : List GroupTurn) → logged_in (ts ++ us) ≡ logged_in ts ++ logged_in us
 logged-append [] us = refl
 logged-append (t ∷ ts) us =
-    ap (λ (xs : List ClusterEntry). tagged t.group t.turn.logged ++ xs) (logged-append ts us) ∙ sym (append_assoc (tagged t.group t.turn.logged) (logged_in ts) (logged_in us))
+    ap (λ (xs : List ClusterEntry). tagged t.group t.turn.logged ++ xs) (logged-append ts us)
+    ∙ sym (append_assoc (tagged t.group t.turn.logged) (logged_in ts) (logged_in us))
 
 pub logged-all : (c : Cluster) (es : List ClusterEvent) → logged_in (cluster_turns c es) ≡ log_of (turns_from c es)
 logged-all c [] = refl
@@ -233,7 +250,8 @@ scripts_keep_promises text whole = record {
   turns = ap (turns_from (opening_of plan)) (sym same) ∙ leads.turns_are
 
   log : (end_of plan (events_of text)).groups.log ≡ log_of (turns_of text)
-  log = (clusters_are_runs plan.shape plan.nodes plan.groups (events_of text) limits layout may).log ∙ logged-all (opening_of plan) (events_of text) ∙ ap log_of turns
+  log = (clusters_are_runs plan.shape plan.nodes plan.groups (events_of text) limits layout may).log
+      ∙ logged-all (opening_of plan) (events_of text) ∙ ap log_of turns
 
   holds : (n : ℕ) → HoldsAfter plan (take n (events_of text))
   holds n =

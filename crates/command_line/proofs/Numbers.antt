@@ -1,5 +1,6 @@
 -- A number that is read is the one that its text writes.
-use Rattle.std.proofs.Common.{ℕ, suc, ◌≡◌, ◌<◌, ◌^◌, Bool, true, false, List, Option, Some, None, Result, Ok, Err, if◌then◌else◌, option_and_then, refl, sym, ap, ◌∙◌, arith}
+use Rattle.std.proofs.Common.{ℕ, suc, ◌≡◌, ◌<◌, ◌^◌, Bool, true, false, List, Option, Some, None, Result, Ok, Err}
+use Rattle.std.proofs.Common.{if◌then◌else◌, option_and_then, refl, sym, ap, ◌∙◌, arith}
 use Rattle.std.specs.Str.Parse.{ParsesUnsigned, digits_value, without_leading_plus}
 use Rattle.clap.specs.ValueTests.{is_unsigned_in}
 use Rattle.clap.specs.Words.{IsUnsignedIn, ReadsOne, Text, one_text, rows_of}
@@ -16,7 +17,9 @@ module _ (E : Type 0) (Gives : List ℕ → Result ℕ E → Type 0) (k most : �
   read-so text (Some v) gives =
       let parsed = unsigned text (Ok v) gives in
       let inside : IsUnsignedIn 0 most text = (parsed.0.0, omega (arith, parsed.0.1, fits, small), omega arith, omega (arith, parsed.0.1, fits)) in
-      ap Some parsed.1 ∙ sym (ap (λ (b : Bool). if b then Some (digits_value 10 (without_leading_plus text)) else None) (Accepts-accepts false (Unsigned 0 most) text inside))
+      ap Some parsed.1
+      ∙ sym (ap (λ (b : Bool). if b then Some (digits_value 10 (without_leading_plus text)) else None)
+      (Accepts-accepts false (Unsigned 0 most) text inside))
   read-so text None gives = by (is_unsigned_in 0 most text) refl where
     by : (b : Bool) → is_unsigned_in 0 most text ≡ b → None ≡ (if b then Some (digits_value 10 (without_leading_plus text)) else None)
     by false is = refl

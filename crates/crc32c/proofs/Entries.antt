@@ -91,7 +91,8 @@ eight_is n below = eqb-true _ _ (agree_below_at test_eight always 256 n eight_pa
 -- the tables of a register's bytes, the lowest first
 abbrev bytes_of : ℕ → List ℕ
 bytes_of w =
-    w % 256 ∷ w / 256 % 256 ∷ w / 65536 % 256 ∷ w / 16777216 % 256 ∷ w / 4294967296 % 256 ∷ w / 1099511627776 % 256 ∷ w / 281474976710656 % 256 ∷ w / 72057594037927936 % 256 ∷ []
+    w % 256 ∷ w / 256 % 256 ∷ w / 65536 % 256 ∷ w / 16777216 % 256 ∷ w / 4294967296 % 256 ∷ w / 1099511627776 % 256
+    ∷ w / 281474976710656 % 256 ∷ w / 72057594037927936 % 256 ∷ []
 
 same_sums : (a b c d e f g h p q r s t u v w : ℕ) → a ≡ p → b ≡ q → c ≡ r → d ≡ s → e ≡ t → f ≡ u → g ≡ v → h ≡ w
     → sum_of_eight a b c d e f g h ≡ sum_of_eight p q r s t u v w
@@ -113,7 +114,8 @@ entry_out : (table : List ℕ) (n byte b entry : ℕ) → ((i : ℕ) → i < 256
     → entry ≡ slice_index table b → b ≡ byte % 256 → entry ≡ low_out n byte
 entry_out table n byte b entry is_table is_entry is_byte = is_entry ∙ ap (slice_index table) is_byte ∙ is_table (byte % 256) (omega arith)
 
-pub tables_sum : (w : ℕ) (bytes : List ℕ) (eight seven six five four three two one : ℕ) → w < 2 ^ 64 → bytes ≡ bytes_of w → AreEntries bytes eight seven six five four three two one
+pub tables_sum : (w : ℕ) (bytes : List ℕ) (eight seven six five four three two one : ℕ) → w < 2 ^ 64
+    → bytes ≡ bytes_of w → AreEntries bytes eight seven six five four three two one
     → sum_of_eight eight seven six five four three two one ≡ shifted_by 64 w
 tables_sum w bytes eight seven six five four three two one lt is_bytes e =
     let eight_out : eight ≡ low_out 64 w = entry_out EIGHT 64 w _ eight eight_is e.is_eight (ap (λ b. get_or b 0 0) is_bytes) in
@@ -121,7 +123,8 @@ tables_sum w bytes eight seven six five four three two one lt is_bytes e =
     let six_out : six ≡ low_out 48 (w / 65536) = entry_out SIX 48 (w / 65536) _ six six_is e.is_six (ap (λ b. get_or b 2 0) is_bytes) in
     let five_out : five ≡ low_out 40 (w / 16777216) = entry_out FIVE 40 (w / 16777216) _ five five_is e.is_five (ap (λ b. get_or b 3 0) is_bytes) in
     let four_out : four ≡ low_out 32 (w / 4294967296) = entry_out FOUR 32 (w / 4294967296) _ four four_is e.is_four (ap (λ b. get_or b 4 0) is_bytes) in
-    let three_out : three ≡ low_out 24 (w / 1099511627776) = entry_out THREE 24 (w / 1099511627776) _ three three_is e.is_three (ap (λ b. get_or b 5 0) is_bytes) in
+    let three_out : three ≡ low_out 24 (w / 1099511627776) = entry_out THREE 24 (w / 1099511627776) _ three three_is
+    e.is_three (ap (λ b. get_or b 5 0) is_bytes) in
     let two_out : two ≡ low_out 16 (w / 281474976710656) = entry_out TWO 16 (w / 281474976710656) _ two two_is e.is_two (ap (λ b. get_or b 6 0) is_bytes) in
     let one_out : one ≡ low_out 8 (w / 72057594037927936) = entry_out ONE 8 (w / 72057594037927936) _ one one_is e.is_one (ap (λ b. get_or b 7 0) is_bytes) in
     same_sums _ _ _ _ _ _ _ _ _ _ _ _ _ _ _ _ eight_out seven_out six_out five_out four_out three_out two_out one_out ∙ sym (all_out w lt)

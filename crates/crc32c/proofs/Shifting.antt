@@ -1,5 +1,6 @@
 -- A register is shifted bit by bit as the sum of its parts is.
-use Rattle.std.proofs.Common.{◌≡◌, ℕ, zero, suc, ◌+◌, ◌*◌, ◌/◌, ◌%◌, ◌^◌, ◌<◌, List, [], ◌∷◌, ◌++◌, ◌≤◌, length, drop, slice_index, bit_xor, refl, sym, ap, ◌∙◌, arith}
+use Rattle.std.proofs.Common.{◌≡◌, ℕ, zero, suc, ◌+◌, ◌*◌, ◌/◌, ◌%◌, ◌^◌, ◌<◌, List, [], ◌∷◌, ◌++◌, ◌≤◌, length, drop}
+use Rattle.std.proofs.Common.{slice_index, bit_xor, refl, sym, ap, ◌∙◌, arith}
 use Rattle.std.specs.Int.{w64, from_le_bytes}
 use Rattle.std.specs.Int.Bits.{xor_assoc, xor_self, xor_zero_l, xor_zero_r}
 use Rattle.std.proofs.lemmas.Nat.{xor_comm, xor_shr, xor_mod, xor_block}
@@ -7,7 +8,9 @@ use Rattle.crc32c.specs.Register.{shifted_once, shifted_by, after_bytes, all_one
 
 -- the second and the third of four terms change places
 sum_swap : (a b c d : ℕ) → bit_xor (bit_xor a b) (bit_xor c d) ≡ bit_xor (bit_xor a c) (bit_xor b d)
-sum_swap a b c d = xor_assoc a b (bit_xor c d) ∙ (ap (bit_xor a) (sym (xor_assoc b c d) ∙ (ap (λ x. bit_xor x d) (xor_comm b c) ∙ xor_assoc c b d)) ∙ sym (xor_assoc a c (bit_xor b d)))
+sum_swap a b c d = xor_assoc a b (bit_xor c d)
+    ∙ (ap (bit_xor a) (sym (xor_assoc b c d) ∙ (ap (λ x. bit_xor x d) (xor_comm b c) ∙ xor_assoc c b d))
+    ∙ sym (xor_assoc a c (bit_xor b d)))
 
 -- a bit times the polynomial
 bit_times : (a b : ℕ) → a < 2 → b < 2 → (n : ℕ) → bit_xor a b * n ≡ bit_xor (a * n) (b * n)
@@ -61,7 +64,8 @@ shifted_byte n a =
     let e6 : a * 8 ≡ a * 4 * 2 = omega arith in
     let e7 : a * 4 ≡ a * 2 * 2 = omega arith in
     ap (shifted_by n) (
-    ap (λ x. shifted_once (shifted_once (shifted_once (shifted_once (shifted_once (shifted_once (shifted_once x))))))) (ap shifted_once e1 ∙ shifted_even (a * 128))
+    ap (λ x. shifted_once (shifted_once (shifted_once (shifted_once (shifted_once (shifted_once (shifted_once x)))))))
+    (ap shifted_once e1 ∙ shifted_even (a * 128))
     ∙ ap (λ x. shifted_once (shifted_once (shifted_once (shifted_once (shifted_once (shifted_once x)))))) (ap shifted_once e2 ∙ shifted_even (a * 64))
     ∙ ap (λ x. shifted_once (shifted_once (shifted_once (shifted_once (shifted_once x))))) (ap shifted_once e3 ∙ shifted_even (a * 32))
     ∙ ap (λ x. shifted_once (shifted_once (shifted_once (shifted_once x)))) (ap shifted_once e4 ∙ shifted_even (a * 16))
@@ -102,7 +106,8 @@ fold : (n r b x : ℕ) → b < 256 → shifted_by n (bit_xor (shifted_by 8 (bit_
 fold n r b x lt =
     let low : (b + x * 256) % 256 ≡ b = omega arith in
     let high : (b + x * 256) / 256 ≡ x = omega arith in
-    let apart : b + x * 256 ≡ bit_xor b (x * 256) = bytes_apart (b + x * 256) ∙ ap (λ k. bit_xor k ((b + x * 256) / 256 * 256)) low ∙ ap (λ k. bit_xor b (k * 256)) high in
+    let apart : b + x * 256 ≡ bit_xor b (x * 256) = bytes_apart (b + x * 256)
+    ∙ ap (λ k. bit_xor k ((b + x * 256) / 256 * 256)) low ∙ ap (λ k. bit_xor b (k * 256)) high in
     ap (λ k. shifted_by n (bit_xor (shifted_by 8 (bit_xor r b)) k)) (sym (shifted_byte zero x ∙ shifted_by_none x))
     ∙ ap (shifted_by n) (sym (shifted_by_sum 8 (bit_xor r b) (x * 256)))
     ∙ sym (eight_more n (bit_xor (bit_xor r b) (x * 256)))
@@ -132,7 +137,8 @@ eight_added r a b c d e f g h la lb lc ld le lf lg rest =
     )
 
 pub eight_behind : (r a b c d e f g h : ℕ) → a < 256 → b < 256 → c < 256 → d < 256 → e < 256 → f < 256 → g < 256 → (rest : List ℕ)
-    → after_bytes r (a ∷ b ∷ c ∷ d ∷ e ∷ f ∷ g ∷ h ∷ rest) ≡ after_bytes (shifted_by 64 (bit_xor r (from_le_bytes w64 (a ∷ b ∷ c ∷ d ∷ e ∷ f ∷ g ∷ h ∷ [])))) rest
+    → after_bytes r (a ∷ b ∷ c ∷ d ∷ e ∷ f ∷ g ∷ h ∷ rest)
+    ≡ after_bytes (shifted_by 64 (bit_xor r (from_le_bytes w64 (a ∷ b ∷ c ∷ d ∷ e ∷ f ∷ g ∷ h ∷ [])))) rest
 eight_behind r a b c d e f g h la lb lc ld le lf lg rest =
     let number : lowest_first a b c d e f g h ≡ from_le_bytes w64 (a ∷ b ∷ c ∷ d ∷ e ∷ f ∷ g ∷ h ∷ []) = omega arith in
     eight_added r a b c d e f g h la lb lc ld le lf lg rest ∙ ap (λ k. after_bytes (shifted_by 64 (bit_xor r k)) rest) number
@@ -144,7 +150,8 @@ byte_step r b lt =
     let none : b / 256 ≡ 0 = omega arith in
     let high : bit_xor r b / 256 ≡ r / 256 = xor_shr r b 8 ∙ ap (bit_xor (r / 256)) none ∙ xor_zero_r (r / 256) in
     let out = shifted_by 8 (bit_xor (r % 256) b) in
-    sym (byte_out zero (bit_xor r b) ∙ ap (λ k. bit_xor (shifted_by 8 k) (shifted_by 0 (bit_xor r b / 256))) low ∙ ap (bit_xor out) (shifted_by_none (bit_xor r b / 256) ∙ high))
+    sym (byte_out zero (bit_xor r b) ∙ ap (λ k. bit_xor (shifted_by 8 k) (shifted_by 0 (bit_xor r b / 256))) low
+    ∙ ap (bit_xor out) (shifted_by_none (bit_xor r b / 256) ∙ high))
 
 -- the lowest byte of a number, shifted out by n bits
 abbrev pub low_out : ℕ → ℕ → ℕ
@@ -154,7 +161,8 @@ abbrev pub sum_of_eight : (a b c d e f g h : ℕ) → ℕ
 sum_of_eight a b c d e f g h = bit_xor (bit_xor (bit_xor (bit_xor (bit_xor (bit_xor (bit_xor a b) c) d) e) f) g) h
 
 -- a byte more is shifted out
-one_further : (sum n w next : ℕ) → w / 256 ≡ next → bit_xor sum (shifted_by (byte_more n) w) ≡ bit_xor (bit_xor sum (low_out (byte_more n) w)) (shifted_by n next)
+one_further : (sum n w next : ℕ) → w / 256 ≡ next → bit_xor sum (shifted_by (byte_more n) w)
+    ≡ bit_xor (bit_xor sum (low_out (byte_more n) w)) (shifted_by n next)
 one_further sum n w next is =
     ap (bit_xor sum) (byte_out n w ∙ ap (λ k. bit_xor (low_out (byte_more n) w) (shifted_by n k)) is)
     ∙ sym (xor_assoc sum (low_out (byte_more n) w) (shifted_by n next))

@@ -48,7 +48,8 @@ bytes-added v d us within =
     ap (λ (rebuilt : List (List (Option (List ℕ)))). record p { as_leader = record p.as_leader { rebuilt = rebuilt } }) (stays v.space.shape d us within)
 
 -- one update adds what it has to the space
-pub update-added : (number : ℕ) (old new : Space) (d : ℕ) (u : Update) → d < old.shape.k → new.shape ≡ old.shape → new.bytes ≡ space_added old.shape (DataNode number) d u.body old.bytes
+pub update-added : (number : ℕ) (old new : Space) (d : ℕ) (u : Update) → d < old.shape.k → new.shape ≡ old.shape
+    → new.bytes ≡ space_added old.shape (DataNode number) d u.body old.bytes
     → process_of (record { number = number; space = new }) ≡ bytes_after old.shape d (u ∷ []) (process_of (record { number = number; space = old }))
 update-added number old new d u within shape bytes =
     ap (λ (s : Dimensions). record (opening_process s (DataNode number)) { space = new.bytes }) shape
@@ -56,7 +57,8 @@ update-added number old new d u within shape bytes =
     ∙ sym (bytes-added (record { number = number; space = old }) d (u ∷ []) within)
 
 -- an update that is no put adds nothing
-pub nothing-added : (s : Dimensions) (number d : ℕ) (body : Body) (bytes : List ℕ) → ((flags : ℕ) (until : Option ℕ) (run : Run) (delta : List ℕ) → body ≡ Put flags until run delta → ⊥)
+pub nothing-added : (s : Dimensions) (number d : ℕ) (body : Body) (bytes : List ℕ)
+    → ((flags : ℕ) (until : Option ℕ) (run : Run) (delta : List ℕ) → body ≡ Put flags until run delta → ⊥)
     → bytes ≡ space_added s (DataNode number) d body bytes
 nothing-added s number d (Put flags until run delta) bytes other = absurd (other flags until run delta refl)
 nothing-added s number d Remove bytes other = refl

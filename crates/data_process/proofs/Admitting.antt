@@ -35,7 +35,8 @@ told-of v p {b = b} {from = from} {m = m} is view told =
 
 -- what is told of a question for a block
 pub read-told : (v : Serving) (w : Holding) (b : Bool) (session : Session) (block : ℕ) (rows : List ℕ) {made : List ℕ} {now : Standing}
-    → standing v (process_of w) made ≡ now → w.number < v.shape.k → (IsTrue b ↔ CanAsk v.shape session block rows) → IsTrue b ↔ ReadFits now.shape now.process session block rows
+    → standing v (process_of w) made ≡ now → w.number < v.shape.k → (IsTrue b ↔ CanAsk v.shape session block rows)
+    → IsTrue b ↔ ReadFits now.shape now.process session block rows
 read-told v w b session block rows view within told =
     subst (λ (x : Standing). IsTrue b ↔ ReadFits x.shape x.process session block rows) view (
       λ yes. let can = told.0 yes in record {

@@ -9,7 +9,8 @@ use Rattle.group_run.specs.Fitting.{Fits}
 use Rattle.group_run.specs.Process.{Process}
 use Rattle.data_process.specs.Steps.{ComesToData, IsForData}
 
-pub fitting-comes : (s : Dimensions) (from : ProcessId) (message : Message) (p : Process) → IsForData message → Fits s from message p → ComesToData s from message p
+pub fitting-comes : (s : Dimensions) (from : ProcessId) (message : Message) (p : Process) → IsForData message
+    → Fits s from message p → ComesToData s from message p
 fitting-comes s from (tells.Ack r d n) p kind fits = (subst (λ (x : ProcessId). IsProcess s x) (sym fits.sender.1) fits.sender.2, fits.ranked.partition)
 fitting-comes s from (tells.ReadBlock session block rows) p kind fits = fits.inside
 fitting-comes s from (tells.Notice dead) p kind fits = (fits.1.process, fits.1.news)

@@ -23,15 +23,19 @@ opening-ready s number within = record {
     shape = refl;
     name = refl;
     blocks = length-replicate s.k _;
-    ready = λ d inside. subst (λ (r : Replica). All (IsReady (no_values s number) d) r.log) (sym (at-replicate empty_replica s.k d)) (All-nil (IsReady (no_values s number) d));
+    ready = λ d inside. subst (λ (r : Replica). All (IsReady (no_values s number) d) r.log)
+        (sym (at-replicate empty_replica s.k d)) (All-nil (IsReady (no_values s number) d));
   };
   within = within;
 }
 
 -- at the start nothing has to be ready
-pub starts-ready : (s : Dimensions) (number : ℕ) (v : Serving) (h : Holding) → number < s.k → v ≡ at_start s (DataNode number) → h ≡ no_values s number → IsReadyFor v h
+pub starts-ready : (s : Dimensions) (number : ℕ) (v : Serving) (h : Holding) → number < s.k
+    → v ≡ at_start s (DataNode number) → h ≡ no_values s number → IsReadyFor v h
 starts-ready s number v h within service values =
-    subst (λ (x : Serving). IsReadyFor x h) (sym service) (subst (λ (x : Holding). IsReadyFor (at_start s (DataNode number)) x) (sym values) (opening-ready s number within))
+    subst (λ (x : Serving). IsReadyFor x h) (sym service)
+    (subst (λ (x : Holding). IsReadyFor (at_start s (DataNode number)) x) (sym values)
+    (opening-ready s number within))
 
 -- the values are ready for the same replicas
 pub same-replicas : (v w : Serving) (h : Holding) → w.shape ≡ v.shape → w.name ≡ v.name → w.replicas ≡ v.replicas → IsReadyFor v h → IsReadyFor w h

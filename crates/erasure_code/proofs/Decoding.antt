@@ -1,5 +1,6 @@
 -- The lost columns of those that agree with rows and known columns are what these decode to.
-use Rattle.std.proofs.Common.{◌≡◌, ◌≢◌, ℕ, zero, suc, ◌+◌, ◌<◌, List, [], ◌∷◌, length, get_or, replicate, All, bit_xor, inl, inr, sym, ap, ap₂, ◌∙◌, refl, arith}
+use Rattle.std.proofs.Common.{◌≡◌, ◌≢◌, ℕ, zero, suc, ◌+◌, ◌<◌, List, [], ◌∷◌, length, get_or, replicate, All, bit_xor}
+use Rattle.std.proofs.Common.{inl, inr, sym, ap, ap₂, ◌∙◌, refl, arith}
 use Rattle.std.specs.Int.Bits.{xor_assoc, xor_self, xor_zero_l, xor_zero_r}
 use Rattle.std.proofs.lemmas.Bool.{cases_lt}
 use Rattle.std.proofs.lemmas.Grind.{same_number_lists}
@@ -55,26 +56,35 @@ with_columns_at m i n [] bytes at long longs = sym (xor_zero_r (get_or bytes at 
 with_columns_at m i n (p ∷ ps) bytes at long longs =
     let same : length p.bytes ≡ length bytes = All-head (λ (p : Column). length p.bytes ≡ n) p ps longs ∙ sym long in
     let c = coefficient m i p.number in
-    with_columns_at m i n ps (add_bytes bytes (scale c p.bytes)) at (length-add_scaled c p.bytes bytes same ∙ long) (All-tail (λ (p : Column). length p.bytes ≡ n) p ps longs)
+    with_columns_at m i n ps (add_bytes bytes (scale c p.bytes)) at (length-add_scaled c p.bytes bytes same ∙ long)
+    (All-tail (λ (p : Column). length p.bytes ≡ n) p ps longs)
     ∙ (ap (λ x. bit_xor x (part m i ps at)) (get_or-add_scaled c p.bytes bytes at same)
     ∙ (xor_assoc (get_or bytes at 0) (product c (get_or p.bytes at 0)) (part m i ps at)
-    ∙ ap (bit_xor (get_or bytes at 0)) (sym (sum_front (length ps) (λ j. product (coefficient m i (get_or (numbers_of (p ∷ ps)) j 0)) (get_or (get_or (p ∷ ps) j no_column).bytes at 0))))))
+    ∙ ap (bit_xor (get_or bytes at 0))
+    (sym (sum_front (length ps) (λ j. product (coefficient m i (get_or (numbers_of (p ∷ ps)) j 0))
+    (get_or (get_or (p ∷ ps) j no_column).bytes at 0))))))
 
-pub with_columns_long : (m i n : ℕ) (known : List Column) (bytes : List ℕ) → length bytes ≡ n → All (λ p. length p.bytes ≡ n) known → length (with_columns m i known bytes) ≡ n
+pub with_columns_long : (m i n : ℕ) (known : List Column) (bytes : List ℕ) → length bytes ≡ n
+    → All (λ p. length p.bytes ≡ n) known → length (with_columns m i known bytes) ≡ n
 with_columns_long m i n [] bytes long longs = long
 with_columns_long m i n (p ∷ ps) bytes long longs =
     let same : length p.bytes ≡ length bytes = All-head (λ (p : Column). length p.bytes ≡ n) p ps longs ∙ sym long in
-    with_columns_long m i n ps _ (length-add_scaled (coefficient m i p.number) p.bytes bytes same ∙ long) (All-tail (λ (p : Column). length p.bytes ≡ n) p ps longs)
+    with_columns_long m i n ps _ (length-add_scaled (coefficient m i p.number) p.bytes bytes same ∙ long)
+    (All-tail (λ (p : Column). length p.bytes ≡ n) p ps longs)
 
-weighted_long : (m n : ℕ) (xs lost : List ℕ) (l : ℕ) (known rows : List Column) (sum : List ℕ) → length sum ≡ n → All (λ p. length p.bytes ≡ n) known → All (λ p. length p.bytes ≡ n) rows
+weighted_long : (m n : ℕ) (xs lost : List ℕ) (l : ℕ) (known rows : List Column) (sum : List ℕ) → length sum ≡ n
+    → All (λ p. length p.bytes ≡ n) known → All (λ p. length p.bytes ≡ n) rows
     → length (weighted m xs lost l known rows sum) ≡ n
 weighted_long m n xs lost l known [] sum long known_long rows_long = long
 weighted_long m n xs lost l known (p ∷ ps) sum long known_long rows_long =
     let row = with_columns m p.number known p.bytes in
-    let same : length row ≡ length sum = with_columns_long m p.number n known p.bytes (All-head (λ (p : Column). length p.bytes ≡ n) p ps rows_long) known_long ∙ sym long in
-    weighted_long m n xs lost l known ps _ (length-add_scaled (weight m xs lost l p.number) row sum same ∙ long) known_long (All-tail (λ (p : Column). length p.bytes ≡ n) p ps rows_long)
+    let same : length row ≡ length sum = with_columns_long m p.number n known p.bytes
+    (All-head (λ (p : Column). length p.bytes ≡ n) p ps rows_long) known_long ∙ sym long in
+    weighted_long m n xs lost l known ps _ (length-add_scaled (weight m xs lost l p.number) row sum same ∙ long)
+    known_long (All-tail (λ (p : Column). length p.bytes ≡ n) p ps rows_long)
 
-weighted_at : (m n : ℕ) (xs lost : List ℕ) (l : ℕ) (known rows : List Column) (sum : List ℕ) (at : ℕ) (v : ℕ → ℕ) → length sum ≡ n → All (λ p. length p.bytes ≡ n) known → All (λ p. length p.bytes ≡ n) rows
+weighted_at : (m n : ℕ) (xs lost : List ℕ) (l : ℕ) (known rows : List Column) (sum : List ℕ) (at : ℕ) (v : ℕ → ℕ)
+    → length sum ≡ n → All (λ p. length p.bytes ≡ n) known → All (λ p. length p.bytes ≡ n) rows
     → All (λ p. get_or (with_columns m p.number known p.bytes) at 0 ≡ v p.number) rows
     → get_or (weighted m xs lost l known rows sum) at 0 ≡ bit_xor (get_or sum at 0) (sum_over (numbers_of rows) (λ i. product (weight m xs lost l i) (v i)))
 unfolding sum_over
@@ -83,11 +93,14 @@ weighted_at m n xs lost l known (p ∷ ps) sum at v long known_long rows_long va
     let row = with_columns m p.number known p.bytes in
     let w = weight m xs lost l p.number in
     let rest = sum_over (numbers_of ps) (λ i. product (weight m xs lost l i) (v i)) in
-    let same : length row ≡ length sum = with_columns_long m p.number n known p.bytes (All-head (λ (p : Column). length p.bytes ≡ n) p ps rows_long) known_long ∙ sym long in
-    weighted_at m n xs lost l known ps _ at v (length-add_scaled w row sum same ∙ long) known_long (All-tail (λ (p : Column). length p.bytes ≡ n) p ps rows_long)
+    let same : length row ≡ length sum = with_columns_long m p.number n known p.bytes
+    (All-head (λ (p : Column). length p.bytes ≡ n) p ps rows_long) known_long ∙ sym long in
+    weighted_at m n xs lost l known ps _ at v (length-add_scaled w row sum same ∙ long) known_long
+    (All-tail (λ (p : Column). length p.bytes ≡ n) p ps rows_long)
     (All-tail (λ (p : Column). get_or (with_columns m p.number known p.bytes) at 0 ≡ v p.number) p ps values)
     ∙ (ap (λ x. bit_xor x rest) (get_or-add_scaled w row sum at same
-    ∙ ap (λ x. bit_xor (get_or sum at 0) (product w x)) (All-head (λ (p : Column). get_or (with_columns m p.number known p.bytes) at 0 ≡ v p.number) p ps values))
+    ∙ ap (λ x. bit_xor (get_or sum at 0) (product w x))
+    (All-head (λ (p : Column). get_or (with_columns m p.number known p.bytes) at 0 ≡ v p.number) p ps values))
     ∙ xor_assoc (get_or sum at 0) (product w (v p.number)) rest)
 
 -- ---- sums of sums
@@ -108,7 +121,8 @@ over_times_r (x ∷ xs) c f bytes =
     let rest = λ (y : ℕ) (there : Among y xs). bytes y (inr there) in
     ap (bit_xor (product (f x) c)) (over_times_r xs c f rest) ∙ sym (product_sum_l (f x) (sum_over xs f) c (bytes x (inl refl)) (over_byte xs f rest))
 
-module _ (m n : ℕ) (lost : List ℕ) (rows known : List Column) (l : ℕ) (nodes : AreNodes (numbers_of rows)) (lost_apart : Apart lost) (lost_bytes : (c : ℕ) → Among c lost → m + c < 256)
+module _ (m n : ℕ) (lost : List ℕ) (rows known : List Column) (l : ℕ) (nodes : AreNodes (numbers_of rows))
+    (lost_apart : Apart lost) (lost_bytes : (c : ℕ) → Among c lost → m + c < 256)
     (separate : (i c : ℕ) → Among i (numbers_of rows) → Among c lost → i ≢ m + c) (as_many : length (numbers_of rows) ≡ length lost) (l_lost : Among l lost)
     (rows_long : All (λ p. length p.bytes ≡ n) rows) (known_long : All (λ p. length p.bytes ≡ n) known) where
   -- the weighted sum of what the lost columns have in the rows
@@ -140,7 +154,8 @@ module _ (m n : ℕ) (lost : List ℕ) (rows known : List Column) (l : ℕ) (nod
       let zeros : List ℕ = replicate n 0 in
       let none = length-replicate n 0 in
       same_number_lists _ _ (long ∙ sym (weighted_long m n xs lost l known rows zeros none known_long rows_long)) (λ at at_below.
-      is at ∙ sym (weighted_at m n xs lost l known rows zeros at (λ i. sum_over lost (λ c. product (coefficient m i c) (v at c))) none known_long rows_long (values at)
+      is at ∙ sym (weighted_at m n xs lost l known rows zeros at
+      (λ i. sum_over lost (λ c. product (coefficient m i c) (v at c))) none known_long rows_long (values at)
       ∙ (ap₂ bit_xor (get_or-zeros n at) (combined (v at) (v_bytes at)) ∙ xor_zero_l (v at l))))
 
 module _ (k m n : ℕ) (lost : List ℕ) (rows known : List Column) (can : CanDecode k m lost rows known) where
@@ -154,7 +169,9 @@ module _ (k m n : ℕ) (lost : List ℕ) (rows known : List Column) (can : CanDe
   lost_below b below = All-get_or (λ x. x < k) lost b 0 below (All-left (λ x. x < k) lost (numbers_of known) can.partitions.below)
 
   known_below : (j : ℕ) → j < length known → get_or (numbers_of known) j 0 < k
-  known_below j below = All-get_or (λ x. x < k) (numbers_of known) j 0 (omega (arith, length-map known (λ column. column.number), below)) (All-right (λ x. x < k) lost (numbers_of known) can.partitions.below)
+  known_below j below = All-get_or (λ x. x < k) (numbers_of known) j 0
+      (omega (arith, length-map known (λ column. column.number), below))
+      (All-right (λ x. x < k) lost (numbers_of known) can.partitions.below)
 
   lost_number : (c : ℕ) → Among c lost → c < k
   lost_number c there =
@@ -183,14 +200,20 @@ module _ (k m n : ℕ) (lost : List ℕ) (rows known : List Column) (can : CanDe
     rows_long a d below = ap length (agree.codes a d below) ∙ coded_long m _ n columns agree.long
 
     -- a row without the known columns is the sum of what the lost ones have in it
-    lost_in_row : (at : ℕ) → All (λ p. get_or (with_columns m p.number known p.bytes) at 0 ≡ sum_over lost (λ c. product (coefficient m p.number c) (entry columns c at))) rows
+    lost_in_row : (at : ℕ)
+        → All (λ p. get_or (with_columns m p.number known p.bytes) at 0
+        ≡ sum_over lost (λ c. product (coefficient m p.number c) (entry columns c at))) rows
     lost_in_row at a d below =
         let number = (get_or rows a d).number in
         let lost_sum = field_sum (length lost) (λ b. product (coefficient m number (get_or lost b 0)) (entry columns (get_or lost b 0) at)) in
         let split : get_or (coded m number n columns) at 0 ≡ bit_xor lost_sum (part m number known at) =
         coded_split k m number n at lost (numbers_of known) columns can.partitions agree.many agree.long
-        ∙ ap (bit_xor lost_sum) (ap (λ k. field_sum k (λ j. product (coefficient m number (get_or (numbers_of known) j 0)) (entry columns (get_or (numbers_of known) j 0) at))) (length-map known (λ column. column.number))
-        ∙ sum_same (length known) _ _ (λ j j_below. ap (λ (bytes : List ℕ). product (coefficient m number (get_or (numbers_of known) j 0)) (get_or bytes at 0)) (known_at j no_column j_below))) in
+        ∙ ap (bit_xor lost_sum)
+        (ap (λ k. field_sum k (λ j. product (coefficient m number (get_or (numbers_of known) j 0))
+        (entry columns (get_or (numbers_of known) j 0) at))) (length-map known (λ column. column.number))
+        ∙ sum_same (length known) _ _
+        (λ j j_below. ap (λ (bytes : List ℕ). product (coefficient m number (get_or (numbers_of known) j 0))
+        (get_or bytes at 0)) (known_at j no_column j_below))) in
         with_columns_at m number n known (get_or rows a d).bytes at (rows_long a d below) known_long
         ∙ (ap (λ x. bit_xor x (part m number known at)) (ap (λ (bytes : List ℕ). get_or bytes at 0) (agree.codes a d below) ∙ split)
         ∙ (twice lost_sum (part m number known at) ∙ sym (sum_over_places lost (λ c. product (coefficient m number c) (entry columns c at)))))
@@ -198,18 +221,25 @@ module _ (k m n : ℕ) (lost : List ℕ) (rows known : List Column) (can : CanDe
     pub lost_is : AreOfBytes columns → (b : ℕ) → b < length lost → get_or columns (get_or lost b 0) [] ≡ decoded m n lost rows known (get_or lost b 0)
     lost_is of_bytes b below =
         decoded_is m n lost rows known (get_or lost b 0) nodes (apart_from lost (differ_left lost (numbers_of known) can.partitions.different))
-        (λ c there. let less = lost_number c there in omega (arith, less, can.processes)) (λ i c i_there c_there same. let less = row_number i i_there in omega (arith, less, same))
-        (length-map rows (λ row. row.number) ∙ can.as_many) (at_among lost b below) rows_long known_long (get_or columns (get_or lost b 0) []) (λ at c. entry columns c at)
+        (λ c there. let less = lost_number c there in omega (arith, less, can.processes))
+        (λ i c i_there c_there same. let less = row_number i i_there in omega (arith, less, same))
+        (length-map rows (λ row. row.number) ∙ can.as_many) (at_among lost b below) rows_long known_long
+        (get_or columns (get_or lost b 0) []) (λ at c. entry columns c at)
         (agree.long _ [] (omega (arith, agree.many, lost_below b below))) (λ at. refl)
         (λ at c there. byte of_bytes c at (lost_number c there)) lost_in_row
 
   -- two families of columns that agree are one, where those that have something lost consist of bytes
-  pub same_columns : (columns others : List (List ℕ)) → (0 < length lost → AreOfBytes columns) → (0 < length lost → AreOfBytes others) → Agree k m n rows known columns → Agree k m n rows known others → others ≡ columns
+  pub same_columns : (columns others : List (List ℕ)) → (0 < length lost → AreOfBytes columns)
+      → (0 < length lost → AreOfBytes others) → Agree k m n rows known columns → Agree k m n rows known others
+      → others ≡ columns
   same_columns columns others of_bytes others_of_bytes agree others_agree =
       ext_get_or [] others columns (others_agree.many ∙ sym agree.many) (λ d below.
       either k lost (numbers_of known) (λ d. get_or others d [] ≡ get_or columns d []) can.partitions
-      (λ b b_below. let some : 0 < length lost = omega (arith, b_below) in lost_is others others_agree (others_of_bytes some) b b_below ∙ sym (lost_is columns agree (of_bytes some) b b_below))
-      (λ j j_below. let within : j < length known = omega (arith, length-map known (λ column. column.number), j_below) in known_at others others_agree j no_column within ∙ sym (known_at columns agree j no_column within))
+      (λ b b_below. let some : 0 < length lost = omega (arith, b_below) in
+      lost_is others others_agree (others_of_bytes some) b b_below
+      ∙ sym (lost_is columns agree (of_bytes some) b b_below))
+      (λ j j_below. let within : j < length known = omega (arith, length-map known (λ column. column.number), j_below)
+      in known_at others others_agree j no_column within ∙ sym (known_at columns agree j no_column within))
       d (omega (arith, others_agree.many, below)))
 
 pub lost_are_decoded : LostAreDecoded
@@ -217,4 +247,5 @@ lost_are_decoded k m n lost rows known columns can of_bytes agree b d below =
     rw (get_or_default lost b d 0 below) (lost_is k m n lost rows known can columns agree of_bytes b below)
 
 pub only_one_agrees : OnlyOneAgrees
-only_one_agrees k m n lost rows known columns others can of_bytes others_of_bytes = same_columns k m n lost rows known can columns others (λ some. of_bytes) (λ some. others_of_bytes)
+only_one_agrees k m n lost rows known columns others can of_bytes others_of_bytes =
+    same_columns k m n lost rows known can columns others (λ some. of_bytes) (λ some. others_of_bytes)

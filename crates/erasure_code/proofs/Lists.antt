@@ -42,7 +42,9 @@ same_place xs differ i j i_below j_below same = elim (cases_lt i j) [
 ]
 
 -- each number below k is in the one list or the other
-pub either : (k : ℕ) (xs ys : List ℕ) (P : ℕ → Type 0) → IsEachBelow k (xs ++ ys) → ((i : ℕ) → i < length xs → P (get_or xs i 0)) → ((j : ℕ) → j < length ys → P (get_or ys j 0)) → (d : ℕ) → d < k → P d
+pub either : (k : ℕ) (xs ys : List ℕ) (P : ℕ → Type 0) → IsEachBelow k (xs ++ ys)
+    → ((i : ℕ) → i < length xs → P (get_or xs i 0)) → ((j : ℕ) → j < length ys → P (get_or ys j 0)) → (d : ℕ) → d < k
+    → P d
 either k xs ys P each of_xs of_ys d below = elim (Contains-append_cases xs ys d (each.all d below)) [
   | inl here ↦ rw (← get_or_default xs here.0 0 d here.1 ∙ here.2) (of_xs here.0 here.1)
   | inr here ↦ rw (← get_or_default ys here.0 0 d here.1 ∙ here.2) (of_ys here.0 here.1)

@@ -6,7 +6,9 @@ use Rattle.std.proofs.lemmas.Bool.{cases_eq, eq-eqb, ne_eqb}
 use Rattle.std.proofs.lemmas.Nat.{xor_comm}
 use Rattle.field_byte.specs.Field.{product, inverse}
 use Rattle.field_byte.proofs.Sums.{sum_lt, sum_swap, sum_cancel, same_from_sum_zero}
-use Rattle.field_byte.proofs.Products.{product_lt, product_zero_l, product_zero_r, product_comm, product_assoc, product_sum_l, product_sum_r, product_one_l, product_nonzero, product_inverse, inverse_lt, inverse_is}
+use Rattle.field_byte.proofs.Products.{product_lt, product_zero_l, product_zero_r, product_comm, product_assoc}
+use Rattle.field_byte.proofs.Products.{product_sum_l, product_sum_r, product_one_l, product_nonzero, product_inverse}
+use Rattle.field_byte.proofs.Products.{inverse_lt, inverse_is}
 use Rattle.erasure_code.specs.Code.{product_over, others_than}
 use Rattle.erasure_code.proofs.Partitions.{sum_over}
 
@@ -46,7 +48,8 @@ unfolding sum_over
 over_times [] c f c_byte bytes = sym (product_zero_r c)
 over_times (x ∷ xs) c f c_byte bytes =
     let rest = λ (y : ℕ) (there : Among y xs). bytes y (inr there) in
-    ap (bit_xor (product c (f x))) (over_times xs c f c_byte rest) ∙ sym (product_sum_r c (f x) (sum_over xs f) c_byte (bytes x (inl refl)) (over_byte xs f rest))
+    ap (bit_xor (product c (f x))) (over_times xs c f c_byte rest)
+    ∙ sym (product_sum_r c (f x) (sum_over xs f) c_byte (bytes x (inl refl)) (over_byte xs f rest))
 
 pub product_byte : (xs : List ℕ) (f : ℕ → ℕ) → GivesBytes xs f → product_over xs f < 256
 product_byte [] f bytes = omega arith
@@ -56,7 +59,8 @@ pub product_is_nonzero : (xs : List ℕ) (f : ℕ → ℕ) → GivesBytes xs f �
 product_is_nonzero [] f bytes nonzero = λ (e : 1 ≡ 0). omega (arith, e)
 product_is_nonzero (x ∷ xs) f bytes nonzero =
     let rest = λ (y : ℕ) (there : Among y xs). bytes y (inr there) in
-    product_nonzero (f x) (product_over xs f) (bytes x (inl refl)) (product_byte xs f rest) (nonzero x (inl refl)) (product_is_nonzero xs f rest (λ y there. nonzero y (inr there)))
+    product_nonzero (f x) (product_over xs f) (bytes x (inl refl)) (product_byte xs f rest) (nonzero x (inl refl))
+    (product_is_nonzero xs f rest (λ y there. nonzero y (inr there)))
 
 -- ---- the others of a list
 pub others_here : (z : ℕ) (xs : List ℕ) → others_than z (z ∷ xs) ≡ others_than z xs
@@ -111,13 +115,15 @@ others_swap w z (x ∷ xs) = elim (cases_eq x z) [
 pub others_length : (z : ℕ) (xs : List ℕ) → Apart xs → Among z xs → length xs ≡ suc (length (others_than z xs))
 others_length z [] apart there = absurd there
 others_length z (x ∷ xs) apart (inl same) =
-    ap suc (sym (ap length (others_none z xs (λ there. apart.0 (rw (sym same) there))))) ∙ sym (ap (λ ys. suc (length ys)) (ap (λ y. others_than z (y ∷ xs)) (sym same) ∙ others_here z xs))
+    ap suc (sym (ap length (others_none z xs (λ there. apart.0 (rw (sym same) there)))))
+    ∙ sym (ap (λ ys. suc (length ys)) (ap (λ y. others_than z (y ∷ xs)) (sym same) ∙ others_here z xs))
 others_length z (x ∷ xs) apart (inr there) =
     let other : x ≢ z = λ same. apart.0 (rw same there) in
     ap suc (others_length z xs apart.1 there) ∙ sym (ap (λ ys. suc (length ys)) (others_there z x xs other))
 
 -- one factor, or one term, taken out
-pub product_out : (z : ℕ) (xs : List ℕ) (f : ℕ → ℕ) → Apart xs → Among z xs → GivesBytes xs f → product_over xs f ≡ product (f z) (product_over (others_than z xs) f)
+pub product_out : (z : ℕ) (xs : List ℕ) (f : ℕ → ℕ) → Apart xs → Among z xs → GivesBytes xs f
+    → product_over xs f ≡ product (f z) (product_over (others_than z xs) f)
 product_out z [] f apart there bytes = absurd there
 product_out z (x ∷ xs) f apart (inl same) bytes =
     ap₂ (λ a ys. product (f a) (product_over ys f)) (sym same)
@@ -182,7 +188,9 @@ inverse_product a b a_byte b_byte a_some b_some =
     let x_byte = inverse_lt a in
     let y_byte = inverse_lt b in
     let inner : product b (product x y) ≡ x =
-    ap (product b) (product_comm x y x_byte y_byte) ∙ (sym (product_assoc b y x b_byte y_byte x_byte) ∙ (ap (λ p. product p x) (product_inverse b b_byte b_some) ∙ product_one_l x x_byte)) in
+    ap (product b) (product_comm x y x_byte y_byte)
+    ∙ (sym (product_assoc b y x b_byte y_byte x_byte)
+    ∙ (ap (λ p. product p x) (product_inverse b b_byte b_some) ∙ product_one_l x x_byte)) in
     let unit : product (product a b) (product x y) ≡ 1 =
     product_assoc a b (product x y) a_byte b_byte (product_lt x y x_byte) ∙ (ap (product a) inner ∙ product_inverse a a_byte a_some) in
     sym (inverse_is (product a b) (product x y) (product_lt a b a_byte) (product_lt x y x_byte) unit)
@@ -198,11 +206,13 @@ cancelled a f g a_byte f_byte g_byte a_some g_some =
     ∙ (ap (product f) (product_inverse a a_byte a_some) ∙ (product_comm f 1 f_byte (omega arith) ∙ product_one_l f f_byte)))))
 
 -- a node's own factor takes the node out
-pub taken_out : (zs : List ℕ) (z : ℕ) (f : ℕ → ℕ) → AreNodes zs → Among z zs → GivesBytes zs f → difference zs (λ w. product (bit_xor w z) (f w)) ≡ difference (others_than z zs) f
+pub taken_out : (zs : List ℕ) (z : ℕ) (f : ℕ → ℕ) → AreNodes zs → Among z zs → GivesBytes zs f
+    → difference zs (λ w. product (bit_xor w z) (f w)) ≡ difference (others_than z zs) f
 taken_out zs z f nodes there bytes =
     let z_byte = nodes.1 z there in
     sum_out z zs _ nodes.0 there
-    ∙ (ap₂ bit_xor (ap (λ x. product (product x (f z)) (inverse (gaps zs z))) (xor_self z) ∙ (ap (λ x. product x (inverse (gaps zs z))) (product_zero_l (f z)) ∙ product_zero_l (inverse (gaps zs z))))
+    ∙ (ap₂ bit_xor (ap (λ x. product (product x (f z)) (inverse (gaps zs z))) (xor_self z)
+    ∙ (ap (λ x. product x (inverse (gaps zs z))) (product_zero_l (f z)) ∙ product_zero_l (inverse (gaps zs z))))
     (over_same (others_than z zs) _ _ (λ w among.
     let was = among_others z w zs among in
     let w_byte = nodes.1 w was.0 in
@@ -211,7 +221,8 @@ taken_out zs z f nodes there bytes =
     (gap_bytes w (others_than w zs) w_byte (others_nodes w zs nodes).1)
     ∙ ap (λ ys. product (bit_xor w z) (product_over ys (λ r. bit_xor w r))) (others_swap z w zs) in
     ap (λ g. product (product (bit_xor w z) (f w)) (inverse g)) split
-    ∙ cancelled (bit_xor w z) (f w) (gaps (others_than z zs) w) (sum_lt w z w_byte z_byte) (bytes w was.0) (gaps_byte (others_than z zs) w (others_nodes z zs nodes) among)
+    ∙ cancelled (bit_xor w z) (f w) (gaps (others_than z zs) w) (sum_lt w z w_byte z_byte) (bytes w was.0)
+    (gaps_byte (others_than z zs) w (others_nodes z zs nodes) among)
     (sum_nonzero w z was.1) (gaps_nonzero (others_than z zs) w (others_nodes z zs nodes) among)))
     ∙ xor_zero_l (difference (others_than z zs) f))
 
@@ -230,4 +241,5 @@ one_factor zs z c f nodes there c_byte bytes =
     ∙ (ap (λ x. product x g) (product_sum_l (bit_xor w z) k (f w) (sum_lt w z w_byte z_byte) k_byte)
     ∙ (product_sum_l (product (bit_xor w z) (f w)) (product k (f w)) g (product_lt _ _ (sum_lt w z w_byte z_byte)) (product_lt k (f w) k_byte)
     ∙ ap (bit_xor (product (product (bit_xor w z) (f w)) g)) (product_assoc k (f w) g k_byte (bytes w among) (inverse_lt _)))))
-    ∙ (over_sums zs _ _ ∙ ap₂ bit_xor (taken_out zs z f nodes there bytes) (over_times zs k (λ w. product (f w) (inverse (gaps zs w))) k_byte (λ w among. product_lt _ _ (bytes w among))))
+    ∙ (over_sums zs _ _ ∙ ap₂ bit_xor (taken_out zs z f nodes there bytes)
+    (over_times zs k (λ w. product (f w) (inverse (gaps zs w))) k_byte (λ w among. product_lt _ _ (bytes w among))))

@@ -1,5 +1,6 @@
 -- The sum over all partitions as a sum over lost and known ones, and the code as such a sum.
-use Rattle.std.proofs.Common.{◌≡◌, ℕ, zero, suc, ◌+◌, ◌<◌, ◌==◌, true, false, if◌then◌else◌, List, [], ◌∷◌, ◌++◌, length, get_or, replicate, All, bit_xor, inl, inr, sym, ap, ap₂, ◌∙◌, refl, arith}
+use Rattle.std.proofs.Common.{◌≡◌, ℕ, zero, suc, ◌+◌, ◌<◌, ◌==◌, true, false, if◌then◌else◌, List, [], ◌∷◌, ◌++◌}
+use Rattle.std.proofs.Common.{length, get_or, replicate, All, bit_xor, inl, inr, sym, ap, ap₂, ◌∙◌, refl, arith}
 use Rattle.std.specs.List.{AllByRecursion, IsDistinct, list_any}
 use Rattle.std.specs.Int.Bits.{xor_assoc, xor_zero_l, xor_zero_r}
 use Rattle.std.proofs.lemmas.Bool.{cases_eq, eq-eqb, ne_eqb}
@@ -58,7 +59,8 @@ among (x ∷ xs) (suc i) d within is = elim (cases_eq d x) [
 ]
 
 -- the term of the first number, and those of the rest
-those_split : (x : ℕ) (xs : List ℕ) (f : ℕ → ℕ) (d : ℕ) → list_any (λ y. x == y) xs ≡ false → at_those (x ∷ xs) f d ≡ bit_xor (if d == x then f d else 0) (at_those xs f d)
+those_split : (x : ℕ) (xs : List ℕ) (f : ℕ → ℕ) (d : ℕ) → list_any (λ y. x == y) xs ≡ false
+    → at_those (x ∷ xs) f d ≡ bit_xor (if d == x then f d else 0) (at_those xs f d)
 unfolding at_those
 those_split x xs f d apart = elim (cases_eq d x) [
   | inl here ↦
@@ -92,25 +94,31 @@ partition_sum n lost known f each =
 
 -- the code at a place
 coded_from_at : (m i d n at : ℕ) (sum : List ℕ) (columns : List (List ℕ)) → length sum ≡ n → All (λ column. length column ≡ n) columns
-    → get_or (coded_from m i d sum columns) at 0 ≡ bit_xor (get_or sum at 0) (field_sum (length columns) (λ j. product (coefficient m i (d + j)) (entry columns j at)))
+    → get_or (coded_from m i d sum columns) at 0 ≡ bit_xor (get_or sum at 0)
+    (field_sum (length columns) (λ j. product (coefficient m i (d + j)) (entry columns j at)))
 unfolding field_sum
 coded_from_at m i d n at sum [] long longs = sym (xor_zero_r (get_or sum at 0))
 coded_from_at m i d n at sum (column ∷ columns) long longs =
     let same : length column ≡ length sum = All-head (λ (bytes : List ℕ). length bytes ≡ n) column columns longs ∙ sym long in
     let next : List ℕ = add_bytes sum (scale (coefficient m i d) column) in
     let f : ℕ → ℕ = λ j. product (coefficient m i (d + j)) (entry (column ∷ columns) j at) in
-    coded_from_at m i (d + 1) n at next columns (length-add_scaled (coefficient m i d) column sum same ∙ long) (All-tail (λ (bytes : List ℕ). length bytes ≡ n) column columns longs)
+    coded_from_at m i (d + 1) n at next columns (length-add_scaled (coefficient m i d) column sum same ∙ long)
+    (All-tail (λ (bytes : List ℕ). length bytes ≡ n) column columns longs)
     ∙ (ap₂ bit_xor (get_or-add_scaled (coefficient m i d) column sum at same)
     (sum_same (length columns) _ (λ j. f (suc j)) (λ j within. ap (λ e. product (coefficient m i e) (entry columns j at)) (omega arith)))
     ∙ (xor_assoc (get_or sum at 0) (product (coefficient m i d) (get_or column at 0)) (field_sum (length columns) (λ j. f (suc j)))
-    ∙ ap (bit_xor (get_or sum at 0)) (ap (λ e. bit_xor (product (coefficient m i e) (get_or column at 0)) (field_sum (length columns) (λ j. f (suc j)))) (omega arith)
+    ∙ ap (bit_xor (get_or sum at 0))
+    (ap (λ e. bit_xor (product (coefficient m i e) (get_or column at 0))
+    (field_sum (length columns) (λ j. f (suc j)))) (omega arith)
     ∙ sym (sum_front (length columns) f))))
 
-coded_from_long : (m i d n : ℕ) (sum : List ℕ) (columns : List (List ℕ)) → length sum ≡ n → All (λ column. length column ≡ n) columns → length (coded_from m i d sum columns) ≡ n
+coded_from_long : (m i d n : ℕ) (sum : List ℕ) (columns : List (List ℕ)) → length sum ≡ n
+    → All (λ column. length column ≡ n) columns → length (coded_from m i d sum columns) ≡ n
 coded_from_long m i d n sum [] long longs = long
 coded_from_long m i d n sum (column ∷ columns) long longs =
     let same : length column ≡ length sum = All-head (λ (bytes : List ℕ). length bytes ≡ n) column columns longs ∙ sym long in
-    coded_from_long m i (d + 1) n _ columns (length-add_scaled (coefficient m i d) column sum same ∙ long) (All-tail (λ (bytes : List ℕ). length bytes ≡ n) column columns longs)
+    coded_from_long m i (d + 1) n _ columns (length-add_scaled (coefficient m i d) column sum same ∙ long)
+    (All-tail (λ (bytes : List ℕ). length bytes ≡ n) column columns longs)
 
 pub coded_long : (m i n : ℕ) (columns : List (List ℕ)) → All (λ column. length column ≡ n) columns → length (coded m i n columns) ≡ n
 coded_long m i n columns longs = coded_from_long m i 0 n (replicate n 0) columns (length-replicate n 0) longs
@@ -123,7 +131,8 @@ coded_at m i n at columns longs =
     ∙ sum_same (length columns) _ _ (λ d below. ap (λ e. product (coefficient m i e) (entry columns d at)) (omega arith))))
 
 -- the same over lost and known columns
-pub coded_split : (k m i n at : ℕ) (lost known : List ℕ) (columns : List (List ℕ)) → IsEachBelow k (lost ++ known) → length columns ≡ k → All (λ column. length column ≡ n) columns
+pub coded_split : (k m i n at : ℕ) (lost known : List ℕ) (columns : List (List ℕ)) → IsEachBelow k (lost ++ known)
+    → length columns ≡ k → All (λ column. length column ≡ n) columns
     → get_or (coded m i n columns) at 0
     ≡ bit_xor (field_sum (length lost) (λ b. product (coefficient m i (get_or lost b 0)) (entry columns (get_or lost b 0) at)))
     (field_sum (length known) (λ j. product (coefficient m i (get_or known j 0)) (entry columns (get_or known j 0) at)))

@@ -1,8 +1,10 @@
 -- A space to which differences were added is their sum.
-use Rattle.std.proofs.Common.{◌≡◌, ℕ, ◌+◌, ◌-◌, ◌<◌, ◌≤◌, List, [], ◌∷◌, ◌++◌, All, length, take, drop, get_or, replicate, bit_xor, inl, inr, sym, ap, ap₂, ◌∙◌, refl, arith}
+use Rattle.std.proofs.Common.{◌≡◌, ℕ, ◌+◌, ◌-◌, ◌<◌, ◌≤◌, List, [], ◌∷◌, ◌++◌, All, length, take, drop, get_or}
+use Rattle.std.proofs.Common.{replicate, bit_xor, inl, inr, sym, ap, ap₂, ◌∙◌, refl, arith}
 use Rattle.std.specs.Int.Bits.{xor_assoc, xor_zero_l, xor_zero_r}
 use Rattle.std.proofs.lemmas.Bool.{cases_lt}
-use Rattle.std.proofs.lemmas.List.{length-append, length-replicate, length-take, length-drop, get_or-take, get_or-drop, get_or_append_left, get_or-append-add, get_or_past}
+use Rattle.std.proofs.lemmas.List.{length-append, length-replicate, length-take, length-drop, get_or-take, get_or-drop}
+use Rattle.std.proofs.lemmas.List.{get_or_append_left, get_or-append-add, get_or_past}
 use Rattle.std.proofs.lemmas.List.Elements.{All-head, All-tail}
 use Rattle.field_byte.specs.Vectors.{add_bytes}
 use Rattle.field_byte.proofs.Vectors.{get_or-add_bytes, length-add_bytes}
@@ -71,21 +73,30 @@ module _ (at : ℕ) (bytes space : List ℕ) (within : at + length bytes ≤ len
 
   pub byte_added : (a : ℕ) → get_or (added_at at bytes space) a 0 ≡ bit_xor (get_or space a 0) (get_or (replicate at 0 ++ bytes) a 0)
   byte_added a = ap (λ (l : List ℕ). get_or l a 0) added_is ∙ elim (cases_lt a at) [
-    | inl early ↦ before a early ∙ sym (ap (bit_xor (get_or space a 0)) (get_or_append_left (replicate at 0) bytes 0 a (omega (arith, length-replicate {A = ℕ} at 0, early)) ∙ get_or-zeros at a) ∙ xor_zero_r (get_or space a 0))
+    | inl early ↦ before a early
+        ∙ sym (ap (bit_xor (get_or space a 0))
+        (get_or_append_left (replicate at 0) bytes 0 a (omega (arith, length-replicate {A = ℕ} at 0, early))
+        ∙ get_or-zeros at a) ∙ xor_zero_r (get_or space a 0))
     | inr from ↦ elim (cases_lt a (at + length bytes)) [
       | inl to ↦
           let place : at + (a - at) ≡ a = omega (arith, from) in
           ap (λ k. get_or ((front ++ sum) ++ back) k 0) (sym place)
-          ∙ (inside (a - at) (omega (arith, from, to)) ∙ (ap (bit_xor (get_or space (at + (a - at)) 0)) (sym (own (a - at))) ∙ ap (λ k. bit_xor (get_or space k 0) (get_or (replicate at 0 ++ bytes) k 0)) place))
+          ∙ (inside (a - at) (omega (arith, from, to))
+          ∙ (ap (bit_xor (get_or space (at + (a - at)) 0)) (sym (own (a - at)))
+          ∙ ap (λ k. bit_xor (get_or space k 0) (get_or (replicate at 0 ++ bytes) k 0)) place))
       | inr past ↦
           let place : at + length bytes + (a - (at + length bytes)) ≡ a = omega (arith, past) in
           ap (λ k. get_or ((front ++ sum) ++ back) k 0) (sym place)
           ∙ (behind (a - (at + length bytes)) ∙ (ap (λ k. get_or space k 0) place
-          ∙ sym (ap (bit_xor (get_or space a 0)) (get_or_past (replicate at 0 ++ bytes) a 0 (omega (arith, length-append (replicate at 0) bytes, length-replicate {A = ℕ} at 0, past))) ∙ xor_zero_r (get_or space a 0))))
+          ∙ sym (ap (bit_xor (get_or space a 0))
+          (get_or_past (replicate at 0 ++ bytes) a 0
+          (omega (arith, length-append (replicate at 0) bytes, length-replicate {A = ℕ} at 0, past)))
+          ∙ xor_zero_r (get_or space a 0))))
     ]
   ]
 
-sums_from : (ds : List Difference) (space : List ℕ) → All (λ d. d.at + length d.bytes ≤ length space) ds → (a : ℕ) → get_or (all_added ds space) a 0 ≡ bit_xor (get_or space a 0) (sum_at ds a)
+sums_from : (ds : List Difference) (space : List ℕ) → All (λ d. d.at + length d.bytes ≤ length space) ds → (a : ℕ)
+    → get_or (all_added ds space) a 0 ≡ bit_xor (get_or space a 0) (sum_at ds a)
 sums_from [] space within a = sym (xor_zero_r (get_or space a 0))
 sums_from (d ∷ ds) space within a =
     let here = All-head (λ (d : Difference). d.at + length d.bytes ≤ length space) d ds within in

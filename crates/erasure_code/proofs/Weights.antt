@@ -4,10 +4,15 @@ use Rattle.std.specs.Int.Bits.{xor_assoc, xor_self, xor_zero_l, xor_zero_r}
 use Rattle.std.proofs.lemmas.Nat.{xor_comm}
 use Rattle.field_byte.specs.Field.{product, inverse}
 use Rattle.field_byte.proofs.Sums.{sum_lt, same_from_sum_zero}
-use Rattle.field_byte.proofs.Products.{product_lt, product_zero_r, product_comm, product_assoc, product_one_l, product_one_r, product_nonzero, zero_factor, product_inverse, inverse_lt}
+use Rattle.field_byte.proofs.Products.{product_lt, product_zero_r, product_comm, product_assoc, product_one_l}
+use Rattle.field_byte.proofs.Products.{product_one_r, product_nonzero, zero_factor, product_inverse, inverse_lt}
 use Rattle.erasure_code.specs.Code.{coefficient, others_than, product_over, weight}
 use Rattle.erasure_code.proofs.Partitions.{sum_over}
-use Rattle.erasure_code.proofs.Nodes.{Among, Apart, AreNodes, GivesBytes, among_others, difference, gaps, gaps_byte, gaps_nonzero, inverse_product, one_factor, others_among, others_apart, others_here, others_length, others_nodes, others_none, others_there, over_same, over_times, product_byte, product_is_nonzero, product_out, product_same, taken_out, over_byte}
+use Rattle.erasure_code.proofs.Nodes.{Among, Apart, AreNodes, GivesBytes, among_others, difference, gaps, gaps_byte}
+use Rattle.erasure_code.proofs.Nodes.{gaps_nonzero, inverse_product, one_factor, others_among, others_apart}
+use Rattle.erasure_code.proofs.Nodes.{others_here, others_length, others_nodes, others_none, others_there, over_same}
+use Rattle.erasure_code.proofs.Nodes.{over_times, product_byte, product_is_nonzero, product_out, product_same}
+use Rattle.erasure_code.proofs.Nodes.{taken_out, over_byte}
 
 -- the difference of a constant over so many nodes more than one
 level : ℕ → ℕ
@@ -36,7 +41,9 @@ constants (suc n) (z ∷ x ∷ xs) long nodes =
     let none : product (bit_xor z x) (difference zs one) ≡ 0 =
     sym (xor_zero_l _) ∙ (ap (λ v. bit_xor v (product (bit_xor z x) (difference zs one))) (sym (xor_self (level n)))
     ∙ (xor_assoc (level n) (level n) _ ∙ (ap (bit_xor (level n)) (sym both) ∙ xor_self (level n)))) in
-    elim (zero_factor (bit_xor z x) (difference zs one) (sum_lt z x z_byte x_byte) (over_byte zs (λ w. product 1 (inverse (gaps zs w))) (λ w among. product_lt 1 (inverse (gaps zs w)) (omega arith))) none) [
+    elim (zero_factor (bit_xor z x) (difference zs one) (sum_lt z x z_byte x_byte)
+    (over_byte zs (λ w. product 1 (inverse (gaps zs w)))
+    (λ w among. product_lt 1 (inverse (gaps zs w)) (omega arith))) none) [
       | inl same ↦ absurd (nodes.0.0 (inl (same_from_sum_zero z x same)))
       | inr zero_difference ↦ zero_difference
     ]
@@ -80,9 +87,11 @@ term b q r g h b_byte q_byte r_byte g_byte h_byte b_some g_some h_some =
     let gh_some = product_nonzero g h g_byte h_byte g_some h_some in
     let bq_byte = product_lt b q b_byte in
     let qr_byte = product_lt q r q_byte in
-    ap (product (product (product b q) r)) (inverse_product b (product g h) b_byte (product_lt g h g_byte) b_some gh_some ∙ ap (product b') (inverse_product g h g_byte h_byte g_some h_some))
+    ap (product (product (product b q) r)) (inverse_product b (product g h) b_byte (product_lt g h g_byte) b_some
+    gh_some ∙ ap (product b') (inverse_product g h g_byte h_byte g_some h_some))
     ∙ (sym (product_assoc (product (product b q) r) b' (product g' h') (product_lt _ r bq_byte) (inverse_lt b) (product_lt g' h' (inverse_lt g)))
-    ∙ (ap (λ x. product x (product g' h')) (swap_last (product b q) r b' bq_byte r_byte (inverse_lt b) ∙ ap (λ x. product x r) (divided b q b_byte q_byte b_some))
+    ∙ (ap (λ x. product x (product g' h')) (swap_last (product b q) r b' bq_byte r_byte (inverse_lt b)
+    ∙ ap (λ x. product x r) (divided b q b_byte q_byte b_some))
     ∙ (sym (product_assoc (product q r) g' h' qr_byte (inverse_lt g) (inverse_lt h))
     ∙ (ap (λ x. product x h') (swap_last q r g' q_byte r_byte (inverse_lt g))
     ∙ product_assoc (product q g') r h' (product_lt q g' q_byte) r_byte (inverse_lt h)))))
@@ -105,7 +114,8 @@ module _ (m : ℕ) (rows lost : List ℕ) (l : ℕ) (nodes : AreNodes rows) (los
 
   above_some : above ≢ 0
   unfolding above
-  above_some = product_is_nonzero rows _ (λ r there. sum_lt r (m + l) (nodes.1 r there) y_byte) (λ r there zero_sum. separate r l there l_lost (same_from_sum_zero r (m + l) zero_sum))
+  above_some = product_is_nonzero rows _ (λ r there. sum_lt r (m + l) (nodes.1 r there) y_byte)
+      (λ r there zero_sum. separate r l there l_lost (same_from_sum_zero r (m + l) zero_sum))
 
   other_bytes : (c : ℕ) → Among c (others_than l lost) → m + c < 256
   other_bytes c there = lost_bytes c (among_others l c lost there).0
@@ -126,18 +136,24 @@ module _ (m : ℕ) (rows lost : List ℕ) (l : ℕ) (nodes : AreNodes rows) (los
   root_some i c there c_there zero_sum = separate i c there c_there (same_from_sum_zero i (m + c) zero_sum)
 
   -- the weight of a row
-  weight_is : (i : ℕ) → Among i rows → weight m rows lost l i ≡ product (product (roots m (others_than l lost) i) (inverse (gaps rows i))) (product above (inverse below))
+  weight_is : (i : ℕ) → Among i rows
+      → weight m rows lost l i ≡ product (product (roots m (others_than l lost) i) (inverse (gaps rows i)))
+      (product above (inverse below))
   unfolding above below
   weight_is i there =
-      ap (λ x. product (product x above) (inverse (product (bit_xor i (m + l)) (product (gaps rows i) below)))) (product_out l lost _ lost_apart l_lost (root_bytes i there))
-      ∙ term (bit_xor i (m + l)) (roots m (others_than l lost) i) above (gaps rows i) below (root_bytes i there l l_lost) (roots_byte m (others_than l lost) i (nodes.1 i there) other_bytes) above_byte
+      ap (λ x. product (product x above) (inverse (product (bit_xor i (m + l)) (product (gaps rows i) below))))
+      (product_out l lost _ lost_apart l_lost (root_bytes i there))
+      ∙ term (bit_xor i (m + l)) (roots m (others_than l lost) i) above (gaps rows i) below
+      (root_bytes i there l l_lost) (roots_byte m (others_than l lost) i (nodes.1 i there) other_bytes) above_byte
       (gaps_byte rows i nodes there) below_byte (root_some i l there l_lost) (gaps_nonzero rows i nodes there) below_some
 
   pub weight_byte : (i : ℕ) → Among i rows → weight m rows lost l i < 256
   weight_byte i there = rw (weight_is i there) (product_lt _ _ (product_lt _ _ (roots_byte m (others_than l lost) i (nodes.1 i there) other_bytes)))
 
   -- a weight by the coefficient of its own column
-  own_term : (i : ℕ) → Among i rows → product (weight m rows lost l i) (coefficient m i l) ≡ product (product above (inverse below)) (product (roots m (others_than l lost) i) (inverse (product (bit_xor i (m + l)) (gaps rows i))))
+  own_term : (i : ℕ) → Among i rows → product (weight m rows lost l i) (coefficient m i l)
+      ≡ product (product above (inverse below))
+      (product (roots m (others_than l lost) i) (inverse (product (bit_xor i (m + l)) (gaps rows i))))
   own_term i there =
       let p = roots m (others_than l lost) i in
       let g' = inverse (gaps rows i) in
@@ -148,13 +164,16 @@ module _ (m : ℕ) (rows lost : List ℕ) (l : ℕ) (nodes : AreNodes rows) (los
       let pg_byte = product_lt p g' p_byte in
       ap (λ x. product x (inverse b)) (weight_is i there)
       ∙ (swap_last (product p g') k (inverse b) pg_byte k_byte (inverse_lt b)
-      ∙ (ap (λ x. product x k) (product_assoc p g' (inverse b) p_byte (inverse_lt _) (inverse_lt b) ∙ ap (product p) (product_comm g' (inverse b) (inverse_lt _) (inverse_lt b)
-      ∙ sym (inverse_product b (gaps rows i) (root_bytes i there l l_lost) (gaps_byte rows i nodes there) (root_some i l there l_lost) (gaps_nonzero rows i nodes there))))
+      ∙ (ap (λ x. product x k) (product_assoc p g' (inverse b) p_byte (inverse_lt _) (inverse_lt b)
+      ∙ ap (product p) (product_comm g' (inverse b) (inverse_lt _) (inverse_lt b)
+      ∙ sym (inverse_product b (gaps rows i) (root_bytes i there l l_lost) (gaps_byte rows i nodes there)
+      (root_some i l there l_lost) (gaps_nonzero rows i nodes there))))
       ∙ product_comm _ k (product_lt p _ p_byte) k_byte))
 
   -- and of another column
   other_term : (i j : ℕ) → Among i rows → Among j lost → j ≢ l
-      → product (weight m rows lost l i) (coefficient m i j) ≡ product (product above (inverse below)) (product (roots m (others_than j (others_than l lost)) i) (inverse (gaps rows i)))
+      → product (weight m rows lost l i) (coefficient m i j) ≡ product (product above (inverse below))
+      (product (roots m (others_than j (others_than l lost)) i) (inverse (gaps rows i)))
   other_term i j there j_lost differ =
       let a = bit_xor i (m + j) in
       let q = roots m (others_than j (others_than l lost)) i in
@@ -162,12 +181,15 @@ module _ (m : ℕ) (rows lost : List ℕ) (l : ℕ) (nodes : AreNodes rows) (los
       let k = product above (inverse below) in
       let a_byte = root_bytes i there j j_lost in
       let k_byte = product_lt above (inverse below) above_byte in
-      let q_byte = roots_byte m (others_than j (others_than l lost)) i (nodes.1 i there) (λ c among. other_bytes c (among_others j c (others_than l lost) among).0) in
+      let q_byte = roots_byte m (others_than j (others_than l lost)) i (nodes.1 i there)
+      (λ c among. other_bytes c (among_others j c (others_than l lost) among).0) in
       let aq_byte = product_lt a q a_byte in
       ap (λ x. product x (inverse a)) (weight_is i there
-      ∙ ap (λ x. product (product x g') k) (product_out j (others_than l lost) _ (others_apart l lost lost_apart) (others_among l j lost j_lost differ) (λ c among. root_bytes i there c (among_others l c lost among).0)))
+      ∙ ap (λ x. product (product x g') k) (product_out j (others_than l lost) _ (others_apart l lost lost_apart)
+      (others_among l j lost j_lost differ) (λ c among. root_bytes i there c (among_others l c lost among).0)))
       ∙ (swap_last (product (product a q) g') k (inverse a) (product_lt _ g' aq_byte) k_byte (inverse_lt a)
-      ∙ (ap (λ x. product x k) (swap_last (product a q) g' (inverse a) aq_byte (inverse_lt _) (inverse_lt a) ∙ ap (λ x. product x g') (divided a q a_byte q_byte (root_some i j there j_lost)))
+      ∙ (ap (λ x. product x k) (swap_last (product a q) g' (inverse a) aq_byte (inverse_lt _) (inverse_lt a)
+      ∙ ap (λ x. product x g') (divided a q a_byte q_byte (root_some i j there j_lost)))
       ∙ product_comm (product q g') k (product_lt q g' q_byte) k_byte))
 
   pub at_other : (j : ℕ) → Among j lost → j ≢ l → sum_over rows (λ i. product (weight m rows lost l i) (coefficient m i j)) ≡ 0
@@ -175,7 +197,8 @@ module _ (m : ℕ) (rows lost : List ℕ) (l : ℕ) (nodes : AreNodes rows) (los
       let k = product above (inverse below) in
       let few = others_length l lost lost_apart l_lost in
       let fewer = others_length j (others_than l lost) (others_apart l lost lost_apart) (others_among l j lost j_lost differ) in
-      let bytes : (c : ℕ) → Among c (others_than j (others_than l lost)) → m + c < 256 = λ c among. other_bytes c (among_others j c (others_than l lost) among).0 in
+      let bytes : (c : ℕ) → Among c (others_than j (others_than l lost)) → m + c < 256 =
+      λ c among. other_bytes c (among_others j c (others_than l lost) among).0 in
       over_same rows _ _ (λ i there. other_term i j there j_lost differ)
       ∙ (over_times rows k _ (product_lt above (inverse below) above_byte) (λ i there. product_lt _ _ (roots_byte m _ i (nodes.1 i there) bytes))
       ∙ (ap (product k) (vanish m rows (others_than j (others_than l lost)) nodes bytes (omega (arith, as_many, few, fewer))) ∙ product_zero_r k))
@@ -195,7 +218,9 @@ module _ (m : ℕ) (rows lost : List ℕ) (l : ℕ) (nodes : AreNodes rows) (los
       let head_gaps : gaps (y ∷ rows) y ≡ above =
       ap (λ ys. product_over ys (λ r. bit_xor y r)) (others_here y rows ∙ others_none y rows apart) ∙ product_same rows _ _ (λ r there. xor_comm y r) in
       let rest : sum_over rows (λ i. product (roots m others i) (inverse (gaps (y ∷ rows) i))) ≡ sum_over rows f =
-      over_same rows _ _ (λ i there. ap (λ ys. product (roots m others i) (inverse (product_over ys (λ r. bit_xor i r)))) (others_there i y rows (λ same. apart (rw same there)))) in
+      over_same rows _ _
+      (λ i there. ap (λ ys. product (roots m others i) (inverse (product_over ys (λ r. bit_xor i r))))
+      (others_there i y rows (λ same. apart (rw same there)))) in
       let value : sum_over rows f ≡ product below (inverse above) =
       sym (same_from_sum_zero _ _ (ap₂ bit_xor (ap (λ g. product below (inverse g)) (sym head_gaps)) (sym rest) ∙ none)) in
       over_same rows _ _ (λ i there. own_term i there)
@@ -203,5 +228,6 @@ module _ (m : ℕ) (rows lost : List ℕ) (l : ℕ) (nodes : AreNodes rows) (los
       ∙ (ap (product k) value
       ∙ (sym (product_assoc k below (inverse above) k_byte below_byte (inverse_lt above))
       ∙ (ap (λ x. product x (inverse above)) (product_assoc above (inverse below) below above_byte (inverse_lt below) below_byte
-      ∙ (ap (product above) (product_comm (inverse below) below (inverse_lt below) below_byte ∙ product_inverse below below_byte below_some) ∙ product_one_r above above_byte))
+      ∙ (ap (product above) (product_comm (inverse below) below (inverse_lt below) below_byte
+      ∙ product_inverse below below_byte below_some) ∙ product_one_r above above_byte))
       ∙ product_inverse above above_byte above_some))))

@@ -1,5 +1,6 @@
 -- Every byte but 0 is a power of 2, so the laws of powers are the laws of the product.
-use Rattle.std.proofs.Common.{add_comm, inl, inr, ◌≡◌, ◌≢◌, ℕ, zero, suc, ◌+◌, ◌-◌, ◌<◌, ◌%◌, Bool, true, not, ◌&&◌, ◌||◌, ◌==◌, nat_lt, slice_index, sym, ap, ◌∙◌, refl, arith}
+use Rattle.std.proofs.Common.{add_comm, inl, inr, ◌≡◌, ◌≢◌, ℕ, zero, suc, ◌+◌, ◌-◌, ◌<◌, ◌%◌, Bool, true, not, ◌&&◌}
+use Rattle.std.proofs.Common.{◌||◌, ◌==◌, nat_lt, slice_index, sym, ap, ◌∙◌, refl, arith}
 use Rattle.std.proofs.lemmas.Bool.{agree_below, agree_below_at, eqb-true, eq-eqb, cases_lt}
 use Rattle.std.proofs.lemmas.Bool.Decides.{nat_tests}
 use Rattle.field_byte.specs.Field.{double, product_of_bits, product, power}

@@ -107,7 +107,8 @@ found_below (suc n) a b below inverts = elim (cases_eq (product a n) 1) [
 inverse_below_lt : (n a : ℕ) → n ≤ 256 → inverse_below n a < 256
 unfolding inverse_below
 inverse_below_lt zero a small = omega arith
-inverse_below_lt (suc n) a small = cond_both (product a n == 1) n (inverse_below n a) (λ x. x < 256) (λ yes. omega arith) (λ no. inverse_below_lt n a (omega arith))
+inverse_below_lt (suc n) a small = cond_both (product a n == 1) n (inverse_below n a) (λ x. x < 256)
+    (λ yes. omega arith) (λ no. inverse_below_lt n a (omega arith))
 
 -- also of 0, which has none
 pub inverse_lt : (a : ℕ) → inverse a < 256

@@ -9,7 +9,9 @@ sum_lt a b a_byte b_byte = xor_of_8 a b a_byte b_byte
 
 -- the second and the third of four terms change places
 pub sum_swap : (a b c d : ℕ) → bit_xor (bit_xor a b) (bit_xor c d) ≡ bit_xor (bit_xor a c) (bit_xor b d)
-sum_swap a b c d = xor_assoc a b (bit_xor c d) ∙ (ap (bit_xor a) (sym (xor_assoc b c d) ∙ (ap (λ x. bit_xor x d) (xor_comm b c) ∙ xor_assoc c b d)) ∙ sym (xor_assoc a c (bit_xor b d)))
+sum_swap a b c d = xor_assoc a b (bit_xor c d)
+    ∙ (ap (bit_xor a) (sym (xor_assoc b c d) ∙ (ap (λ x. bit_xor x d) (xor_comm b c) ∙ xor_assoc c b d))
+    ∙ sym (xor_assoc a c (bit_xor b d)))
 
 -- what is added twice is gone
 pub sum_cancel : (a b : ℕ) → bit_xor a (bit_xor a b) ≡ b

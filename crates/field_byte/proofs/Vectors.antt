@@ -39,7 +39,8 @@ get_or-scale coef (x ∷ xs) zero = refl
 get_or-scale coef (x ∷ xs) (suc k) = get_or-scale coef xs k
 
 -- what a kernel leaves at each place
-pub get_or-add_scaled : (coef : ℕ) (xs ys : List ℕ) (k : ℕ) → length xs ≡ length ys → get_or (add_bytes ys (scale coef xs)) k 0 ≡ bit_xor (get_or ys k 0) (product coef (get_or xs k 0))
+pub get_or-add_scaled : (coef : ℕ) (xs ys : List ℕ) (k : ℕ) → length xs ≡ length ys
+    → get_or (add_bytes ys (scale coef xs)) k 0 ≡ bit_xor (get_or ys k 0) (product coef (get_or xs k 0))
 get_or-add_scaled coef xs ys k same =
     get_or-add_bytes ys (scale coef xs) k (sym (length-scale coef xs ∙ same)) ∙ ap (bit_xor (get_or ys k 0)) (get_or-scale coef xs k)
 
@@ -62,16 +63,19 @@ pub add_bytes_assoc : (xs ys zs : List ℕ) → length xs ≡ length ys → leng
 add_bytes_assoc xs ys zs same same_too =
     let left = length-add_bytes xs ys same in
     let right = length-add_bytes ys zs same_too in
-    same_number_lists _ _ (length-add_bytes (add_bytes xs ys) zs (left ∙ (same ∙ same_too)) ∙ (left ∙ sym (length-add_bytes xs (add_bytes ys zs) (same ∙ sym right)))) (λ k below.
+    same_number_lists _ _ (length-add_bytes (add_bytes xs ys) zs (left ∙ (same ∙ same_too))
+    ∙ (left ∙ sym (length-add_bytes xs (add_bytes ys zs) (same ∙ sym right)))) (λ k below.
     get_or-add_bytes (add_bytes xs ys) zs k (left ∙ (same ∙ same_too)) ∙ (ap (λ x. bit_xor x (get_or zs k 0)) (get_or-add_bytes xs ys k same)
     ∙ (xor_assoc (get_or xs k 0) (get_or ys k 0) (get_or zs k 0) ∙ (ap (bit_xor (get_or xs k 0)) (sym (get_or-add_bytes ys zs k same_too))
     ∙ sym (get_or-add_bytes xs (add_bytes ys zs) k (same ∙ sym right))))))
 
 -- a multiple of a sum is the sum of the multiples
-pub scale_add_bytes : (coef : ℕ) (xs ys : List ℕ) → length xs ≡ length ys → coef < 256 → AreBytes xs → AreBytes ys → scale coef (add_bytes xs ys) ≡ add_bytes (scale coef xs) (scale coef ys)
+pub scale_add_bytes : (coef : ℕ) (xs ys : List ℕ) → length xs ≡ length ys → coef < 256 → AreBytes xs → AreBytes ys
+    → scale coef (add_bytes xs ys) ≡ add_bytes (scale coef xs) (scale coef ys)
 scale_add_bytes coef xs ys same coef_byte xs_bytes ys_bytes =
     let scaled = length-scale coef xs ∙ (same ∙ sym (length-scale coef ys)) in
-    same_number_lists _ _ (length-scale coef (add_bytes xs ys) ∙ (length-add_bytes xs ys same ∙ (sym (length-scale coef xs) ∙ sym (length-add_bytes _ _ scaled)))) (λ k below.
+    same_number_lists _ _ (length-scale coef (add_bytes xs ys)
+    ∙ (length-add_bytes xs ys same ∙ (sym (length-scale coef xs) ∙ sym (length-add_bytes _ _ scaled)))) (λ k below.
     get_or-scale coef (add_bytes xs ys) k ∙ (ap (product coef) (get_or-add_bytes xs ys k same)
     ∙ (product_sum_r coef _ _ coef_byte (xs_bytes k) (ys_bytes k)
     ∙ (ap₂ bit_xor (sym (get_or-scale coef xs k)) (sym (get_or-scale coef ys k)) ∙ sym (get_or-add_bytes _ _ k scaled)))))

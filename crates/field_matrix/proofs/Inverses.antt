@@ -58,7 +58,8 @@ right_inverts n a cauchy bytes i j i_below j_below =
     ∙ (out_inverts n (turned a) (turned_cauchy n a cauchy) (λ r s r_below s_below. bytes s r s_below r_below) j i j_below i_below ∙ turned_unit j i)
 
 -- an inverse on the left and one on the right are the same
-same_inverses : (n : ℕ) (a b c : Grid) → HasBytes n a → HasBytes n b → HasBytes n c → IsIdentity n (times n b a) → IsIdentity n (times n a c) → (i j : ℕ) → i < n → j < n → b i j ≡ c i j
+same_inverses : (n : ℕ) (a b c : Grid) → HasBytes n a → HasBytes n b → HasBytes n c → IsIdentity n (times n b a)
+    → IsIdentity n (times n a c) → (i j : ℕ) → i < n → j < n → b i j ≡ c i j
 same_inverses n a b c a_bytes b_bytes c_bytes left right i j i_below j_below =
     sym (times_identity n b (times n a c) right i j j_below (b_bytes i j i_below j_below))
     ∙ (sym (times_assoc n b a c i j (λ k below. b_bytes i k i_below below) a_bytes (λ k below. c_bytes k j below j_below))
@@ -77,7 +78,8 @@ pub record IsInverse (n : ℕ) (a b : Grid) : Type 0 where
   pub left : IsIdentity n (times n b a)
   pub right : IsIdentity n (times n a b)
 
-pub recorded_is_inverse : (n p : ℕ) (a b : Grid) → IsCauchy n a → HasBytes n a → p ≡ n → ((i j : ℕ) → i < n → j < n → b i j ≡ out_after p a i j) → IsInverse n a b
+pub recorded_is_inverse : (n p : ℕ) (a b : Grid) → IsCauchy n a → HasBytes n a → p ≡ n
+    → ((i j : ℕ) → i < n → j < n → b i j ≡ out_after p a i j) → IsInverse n a b
 recorded_is_inverse n p a b cauchy a_bytes all agrees =
     let out_bytes = HasBytes-out n p a (omega arith) a_bytes in
     let bytes : HasBytes n b = λ i j i_below j_below. omega (arith, agrees i j i_below j_below, out_bytes i j i_below j_below) in
@@ -88,9 +90,11 @@ recorded_is_inverse n p a b cauchy a_bytes all agrees =
 
 -- A system of n rows has one solution, in each column j: what the inverse gives of its right side
 -- solves it, and nothing else does.
-pub solution_solves : (n : ℕ) (a b rows : Grid) → HasBytes n a → HasBytes n b → IsIdentity n (times n a b) → (i j : ℕ) → i < n → ColumnHasBytes n rows j → times n a (times n b rows) i j ≡ rows i j
+pub solution_solves : (n : ℕ) (a b rows : Grid) → HasBytes n a → HasBytes n b → IsIdentity n (times n a b) → (i j : ℕ)
+    → i < n → ColumnHasBytes n rows j → times n a (times n b rows) i j ≡ rows i j
 solution_solves n a b rows a_bytes b_bytes right i j i_below column =
-    sym (times_assoc n a b rows i j (λ k below. a_bytes i k i_below below) b_bytes column) ∙ identity_times n (times n a b) rows right i j i_below (column i i_below)
+    sym (times_assoc n a b rows i j (λ k below. a_bytes i k i_below below) b_bytes column)
+    ∙ identity_times n (times n a b) rows right i j i_below (column i i_below)
 
 pub solution_is : (n : ℕ) (a b rows columns : Grid) → HasBytes n a → HasBytes n b → IsIdentity n (times n b a) → (j : ℕ) → ColumnHasBytes n columns j
     → ((i : ℕ) → i < n → times n a columns i j ≡ rows i j) → (i : ℕ) → i < n → columns i j ≡ times n b rows i j

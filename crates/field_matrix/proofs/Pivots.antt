@@ -8,7 +8,9 @@ use Rattle.std.proofs.lemmas.Nat.Bits.{same_from_bits, bit_at_xor}
 use Rattle.field_byte.specs.Field.{product, inverse, power}
 use Rattle.field_byte.proofs.Sums.{sum_lt, same_from_sum_zero}
 use Rattle.field_byte.proofs.Powers.{log, power_zero, log_of_byte, power_add, power_lt, power_nonzero, turn_more}
-use Rattle.field_byte.proofs.Products.{product_lt, product_comm, product_assoc, product_sum_l, product_sum_r, product_one_r, product_zero_r, product_of_turn, product_inverse, inverse_lt, nonzero_factor}
+use Rattle.field_byte.proofs.Products.{product_lt, product_comm, product_assoc, product_sum_l, product_sum_r}
+use Rattle.field_byte.proofs.Products.{product_one_r, product_zero_r, product_of_turn, product_inverse, inverse_lt}
+use Rattle.field_byte.proofs.Products.{nonzero_factor}
 use Rattle.field_matrix.specs.Grids.{Grid, unit, HasBytes}
 use Rattle.field_matrix.specs.Cauchy.{IsCauchy}
 use Rattle.field_matrix.specs.Steps.{divided, step}
@@ -49,7 +51,8 @@ cross x y x0 y0 x_byte y_byte x0_byte y0_byte =
 
 -- one entry: a in row i and column j, b in row i and e in column j beside the pivot q, whose
 -- inverse is c; the sums of the bytes of their rows and columns are dij, dip, dpj and dpp
-module _ (dij dip dpj dpp x y : ℕ) (dij_byte : dij < 256) (dip_byte : dip < 256) (dpj_byte : dpj < 256) (dpp_byte : dpp < 256) (x_byte : x < 256) (y_byte : y < 256)
+module _ (dij dip dpj dpp x y : ℕ) (dij_byte : dij < 256) (dip_byte : dip < 256) (dpj_byte : dpj < 256)
+    (dpp_byte : dpp < 256) (x_byte : x < 256) (y_byte : y < 256)
     (dij_nonzero : dij ≢ 0) (dip_nonzero : dip ≢ 0) (dpj_nonzero : dpj ≢ 0) (dpp_nonzero : dpp ≢ 0) (x_nonzero : x ≢ 0) (y_nonzero : y ≢ 0)
     (crosswise : bit_xor (product dip dpj) (product dij dpp) ≡ product x y) (ui up vj vp : ℕ) where
   kept : ℕ
@@ -181,17 +184,22 @@ module _ (n : ℕ) (a : Grid) (cauchy : IsCauchy n a) where
     entries_after i j i_after i_below j_after j_below =
         let other : i ≢ p = omega arith in
         let rows_differ : bit_xor (cauchy.x i) (cauchy.x p) ≢ 0 = λ is_zero. other (cauchy.x_differ i p i_below within (same_from_sum_zero _ _ is_zero)) in
-        let columns_differ : bit_xor (cauchy.y j) (cauchy.y p) ≢ 0 = λ is_zero. omega (arith, cauchy.y_differ j p j_below within (same_from_sum_zero _ _ is_zero)) in
+        let columns_differ : bit_xor (cauchy.y j) (cauchy.y p) ≢ 0 =
+        λ is_zero. omega (arith, cauchy.y_differ j p j_below within (same_from_sum_zero _ _ is_zero)) in
         let xi = cauchy.x_bytes i i_below in
         let yj = cauchy.y_bytes j j_below in
         let xp = cauchy.x_bytes p within in
         let yp = cauchy.y_bytes p within in
         ap (product (side cauchy i j)) (step_other p w w i j other)
-        ∙ entry_after (side cauchy i j) (side cauchy i p) (side cauchy p j) (side cauchy p p) (bit_xor (cauchy.x i) (cauchy.x p)) (bit_xor (cauchy.y j) (cauchy.y p))
-        (side_byte i j i_below j_below) (side_byte i p i_below within) (side_byte p j within j_below) (side_byte p p within within) (sum_lt _ _ xi xp) (sum_lt _ _ yj yp)
-        (side_nonzero i j i_below j_below) (side_nonzero i p i_below within) (side_nonzero p j within j_below) (side_nonzero p p within within) rows_differ columns_differ
+        ∙ entry_after (side cauchy i j) (side cauchy i p) (side cauchy p j) (side cauchy p p)
+        (bit_xor (cauchy.x i) (cauchy.x p)) (bit_xor (cauchy.y j) (cauchy.y p))
+        (side_byte i j i_below j_below) (side_byte i p i_below within) (side_byte p j within j_below)
+        (side_byte p p within within) (sum_lt _ _ xi xp) (sum_lt _ _ yj yp)
+        (side_nonzero i j i_below j_below) (side_nonzero i p i_below within) (side_nonzero p j within j_below)
+        (side_nonzero p p within within) rows_differ columns_differ
         (cross (cauchy.x i) (cauchy.y j) (cauchy.x p) (cauchy.y p) xi yj xp yp) (reduced.u i) (reduced.u p) (reduced.v j) (reduced.v p)
-        (w i j) (w i p) (inverse (w p p)) (w p j) (w p p) (bytes i j i_below j_below) (bytes i p i_below within) (inverse_lt (w p p)) (bytes p j within j_below) (bytes p p within within)
+        (w i j) (w i p) (inverse (w p p)) (w p j) (w p p) (bytes i j i_below j_below) (bytes i p i_below within)
+        (inverse_lt (w p p)) (bytes p j within j_below) (bytes p p within within)
         (reduced.entries i j (omega arith) i_below (omega arith) j_below) (reduced.entries i p (omega arith) i_below (omega arith) within)
         (reduced.entries p j (omega arith) within (omega arith) j_below) (reduced.entries p p (omega arith) within (omega arith) within) inverts
 
@@ -202,4 +210,5 @@ module _ (n : ℕ) (a : Grid) (cauchy : IsCauchy n a) where
   pub reduced_after : (p : ℕ) → p ≤ n → HasBytes n a → Reduced n p (work_after p a) (side cauchy)
   unfolding work_after
   reduced_after zero within bytes = reduced_first
-  reduced_after (suc p) within bytes = reduced_more p (work_after p a) (HasBytes-work n p a (omega arith) bytes) (omega arith) (reduced_after p (omega arith) bytes)
+  reduced_after (suc p) within bytes = reduced_more p (work_after p a) (HasBytes-work n p a (omega arith) bytes)
+      (omega arith) (reduced_after p (omega arith) bytes)

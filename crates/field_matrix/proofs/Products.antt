@@ -39,7 +39,8 @@ times_identity n a e identity i j within byte =
     ∙ (ap (product (a i j)) (identity j j within within ∙ unit_same j) ∙ product_one_r (a i j) byte)
 
 -- the product of three grids
-pub times_assoc : (n : ℕ) (a b c : Grid) (i j : ℕ) → RowHasBytes n a i → HasBytes n b → ColumnHasBytes n c j → times n (times n a b) c i j ≡ times n a (times n b c) i j
+pub times_assoc : (n : ℕ) (a b c : Grid) (i j : ℕ) → RowHasBytes n a i → HasBytes n b → ColumnHasBytes n c j
+    → times n (times n a b) c i j ≡ times n a (times n b c) i j
 times_assoc n a b c i j row b_bytes column =
     sum_same n _ _ (λ k below.
     sum_times_r n (c k j) _ (λ l within. product_lt (a i l) (b l k) (row l within))

@@ -71,7 +71,8 @@ module _ (n p : ℕ) (work m a : Grid) (within : p < n) (work_bytes : HasBytes n
   ]
 
 -- a step reads two entries of each grid
-pub step_same : (p : ℕ) (work work' m m' : Grid) (i j : ℕ) → work p p ≡ work' p p → work i p ≡ work' i p → m i j ≡ m' i j → m p j ≡ m' p j → step p work m i j ≡ step p work' m' i j
+pub step_same : (p : ℕ) (work work' m m' : Grid) (i j : ℕ) → work p p ≡ work' p p → work i p ≡ work' i p
+    → m i j ≡ m' i j → m p j ≡ m' p j → step p work m i j ≡ step p work' m' i j
 step_same p work work' m m' i j pivot factor here row = elim (cases_eq i p) [
   | inl same ↦
       ap (λ r. step p work m r j) same

@@ -1,5 +1,6 @@
 -- What following keeps and asks.
-use Rattle.std.proofs.Common.{ℕ, suc, ◌≡◌, ◌+◌, ◌-◌, ◌≤◌, Bool, ◌||◌, true, false, List, [], ◌∷◌, ◌++◌, drop, length, take, All, is_some, refl, sym, ap, ◌∙◌, subst, arith}
+use Rattle.std.proofs.Common.{ℕ, suc, ◌≡◌, ◌+◌, ◌-◌, ◌≤◌, Bool, ◌||◌, true, false, List, [], ◌∷◌, ◌++◌, drop, length}
+use Rattle.std.proofs.Common.{take, All, is_some, refl, sym, ap, ◌∙◌, subst, arith}
 use Rattle.std.proofs.Math.Bool.{or-true}
 use Rattle.std.proofs.lemmas.List.{length-take-le}
 use Rattle.std.proofs.lemmas.List.Elements.{All-cons, All-nil}
@@ -32,7 +33,8 @@ received-tidy s t u owed is tidy q ready = by (same_key u.key q) refl (tidy q re
   by : (same : Bool) → same_key u.key q ≡ same → (is_needed t.replica.items t.replica.log q || ((false || (same || false)) || owed q)) ≡ true
       → (is_needed t.replica.items t.replica.log q || (false || owed q)) ≡ true
   by false test is = is
-  by true test is = ap (λ (b : Bool). (is_some (slot_in t.replica.items q) || b) || owed q) (needed test) ∙ ap (λ (b : Bool). b || owed q) (or-true (is_some (slot_in t.replica.items q)))
+  by true test is = ap (λ (b : Bool). (is_some (slot_in t.replica.items q) || b) || owed q) (needed test)
+      ∙ ap (λ (b : Bool). b || owed q) (or-true (is_some (slot_in t.replica.items q)))
 
 -- the numbers of a list, as a log says them
 pub numbered : (base : ℕ) (us : List Update) → NumberedFrom (suc base) us → IsNumbered (λ (u : Update). u.number) base us
@@ -48,7 +50,8 @@ come-writes space r (u ∷ us) come = All-cons (λ (v : Update). Writes space v.
 
 -- how many updates of a list are applied once everything up to its base is
 pub known : (base : ℕ) (r : Replica) → base ≤ last_of r → (applied_to base r).applied - base ≡ r.applied - base
-known base r reached = let long : length (take (base - r.applied) r.log) ≡ base - r.applied = length-take-le (base - r.applied) r.log (omega (arith, reached)) in omega (arith, long)
+known base r reached = let long : length (take (base - r.applied) r.log) ≡ base - r.applied =
+    length-take-le (base - r.applied) r.log (omega (arith, reached)) in omega (arith, long)
 
 -- what is owed of no updates any more
 pub owed-none : (needed owed : Bool) → (needed || (owed || false)) ≡ true → (needed || owed) ≡ true

@@ -1,4 +1,5 @@
-use Rattle.std.proofs.Common.{◌≡◌, ℕ, suc, ◌+◌, ◌-◌, Bool, true, false, not, List, [], ◌∷◌, ◌++◌, length, drop, Option, refl, sym, ap, ◌∙◌, if◌then◌else◌, arith}
+use Rattle.std.proofs.Common.{◌≡◌, ℕ, suc, ◌+◌, ◌-◌, Bool, true, false, not, List, [], ◌∷◌, ◌++◌, length, drop, Option}
+use Rattle.std.proofs.Common.{refl, sym, ap, ◌∙◌, if◌then◌else◌, arith}
 use Rattle.memc_table.specs.Asked.{Asked}
 use Rattle.memc_table.specs.declared.act.Act.{Act}
 use Rattle.memc_table.specs.declared.act.Act.TheVariants as act
@@ -11,10 +12,14 @@ use Rattle.front_end.specs.Turns.{is_reply}
 use Rattle.front_end.specs.declared.due.Due.TheVariants as due
 
 -- a call is due: it is the first of the acts
-pub due-acts : (told : Option ℕ) (waiting : List Request) (op : Asked) → IsDue told waiting (due.Call op) → (rest : List Act) × (acts_ahead waiting ≡ op.act ∷ rest)
+pub due-acts : (told : Option ℕ) (waiting : List Request) (op : Asked) → IsDue told waiting (due.Call op)
+    → (rest : List Act) × (acts_ahead waiting ≡ op.act ∷ rest)
 due-acts told [] op is = absurd is
 due-acts told (Get [] with_cas ∷ others) op is = absurd (cc is)
-due-acts told (Get (key ∷ keys) with_cas ∷ others) op is = (acts_of (Get keys with_cas) ++ acts_ahead others, ap (λ (a : Act). a ∷ (acts_of (Get keys with_cas) ++ acts_ahead others)) (sym is.0))
+due-acts told (Get (key ∷ keys) with_cas ∷ others) op is = (
+  acts_of (Get keys with_cas) ++ acts_ahead others,
+  ap (λ (a : Act). a ∷ (acts_of (Get keys with_cas) ++ acts_ahead others)) (sym is.0),
+)
 due-acts told (Change asked noreply ∷ others) op is = (acts_ahead others, ap (λ (a : Act). a ∷ acts_ahead others) (sym is.0))
 due-acts told (Fail at keep ∷ others) op is = absurd (cc is)
 due-acts told (Version ∷ others) op is = absurd (cc is)
@@ -40,7 +45,8 @@ drop-behind : {X : Type 0} (x : X) (xs ys : List X) → drop (1 + (length (x ∷
 drop-behind x xs ys = let e : 1 + (length (x ∷ xs) - 1) ≡ suc (length xs) = omega arith in ap (λ (n : ℕ). drop n (x ∷ (xs ++ ys))) e ∙ drop-all xs ys
 
 -- the call that was due ended: its act is gone, and with it those that needn't be made any more
-pub settled-acts : (told : Option ℕ) (op : Asked) (end : CallEnd) (before now : List ℕ) (waiting left : List Request) → IsDue told waiting (due.Call op) → HasSettled end before now waiting left
+pub settled-acts : (told : Option ℕ) (op : Asked) (end : CallEnd) (before now : List ℕ) (waiting left : List Request)
+    → IsDue told waiting (due.Call op) → HasSettled end before now waiting left
     → acts_ahead left ≡ drop (1 + unneeded_of end waiting) (acts_ahead waiting)
 settled-acts told op end before now [] left is settled = absurd is
 settled-acts told op end before now (Get [] with_cas ∷ others) left is settled = absurd (cc is)
@@ -69,7 +75,8 @@ settled-acts told op end before now (Quit ∷ others) left is settled = absurd (
 settled-acts told op end before now (Refused refusal ∷ others) left is settled = absurd (cc is)
 
 -- a text was due and is written: the acts stay
-pub told-acts : (text before now : List ℕ) (waiting left : List Request) → TextIsDue waiting → HasTold text before now waiting left → acts_ahead left ≡ acts_ahead waiting
+pub told-acts : (text before now : List ℕ) (waiting left : List Request) → TextIsDue waiting
+    → HasTold text before now waiting left → acts_ahead left ≡ acts_ahead waiting
 told-acts text before now [] left (told, is) settled = absurd is
 told-acts text before now (Get [] with_cas ∷ others) left (told, is) settled = ap acts_ahead settled.1
 told-acts text before now (Get (key ∷ keys) with_cas ∷ others) left (told, is) settled = absurd is

@@ -36,7 +36,9 @@ stands-here ways told at dues WriteFault = refl
 stands-here ways told at dues Want = inl refl
 
 -- the first call of a request found no memory
-pub broken-wanted : {C : Type 0} (ways : Ways C) (told : Option ℕ) (before after : C) (held : List ℕ) (request : Request) → CutsNext ways told before (dues_of request) after → IsBroken ways told (stand before held) (stand after held) Want request
+pub broken-wanted : {C : Type 0} (ways : Ways C) (told : Option ℕ) (before after : C) (held : List ℕ)
+    (request : Request) → CutsNext ways told before (dues_of request) after
+    → IsBroken ways told (stand before held) (stand after held) Want request
 broken-wanted ways told before after held request cut = broken-none ways told before after held Want request (inr cut)
 
 -- all calls are the first calls
@@ -46,14 +48,19 @@ first-whole told [] (call ∷ calls) whole = absurd whole
 first-whole told (due ∷ dues) [] whole = cc
 first-whole told (due ∷ dues) (call ∷ calls) whole = (whole.0, on_reply (is_replied call) (λ rest. first-whole told dues calls rest) whole.1)
   where
-    on_reply : (b : Bool) → (AreCallsOf told true dues calls → AreCallsOf told false dues calls) → MatchBool b (AreCallsOf told true dues calls) (calls ≡ []) → MatchBool b (AreCallsOf told false dues calls) (calls ≡ [])
+    on_reply : (b : Bool) → (AreCallsOf told true dues calls → AreCallsOf told false dues calls)
+        → MatchBool b (AreCallsOf told true dues calls) (calls ≡ []) → MatchBool b (AreCallsOf told false dues calls)
+        (calls ≡ [])
     on_reply true more rest = more rest
     on_reply false more rest = rest
 
 -- behind all calls of a request its text was written, or the front of it
-pub written : {C : Type 0} (ways : Ways C) (told : Option ℕ) (before at : C) (held now : List ℕ) (request : Request) (calls : List Call) (text : List ℕ) (result : Result (Unit {0}) ConnectionFault)
-    → AreCallsOf told true (dues_of request) calls → Leads ways before calls at → text ≡ answer_text request calls → OnOk result (Appends held now text) → HasWritten held now text
-    → MatchResult result (λ _. IsAnswered ways told (stand before held) (stand at now) request) (λ fault. IsBroken ways told (stand before held) (stand at now) fault request)
+pub written : {C : Type 0} (ways : Ways C) (told : Option ℕ) (before at : C) (held now : List ℕ) (request : Request)
+    (calls : List Call) (text : List ℕ) (result : Result (Unit {0}) ConnectionFault)
+    → AreCallsOf told true (dues_of request) calls → Leads ways before calls at → text ≡ answer_text request calls
+    → OnOk result (Appends held now text) → HasWritten held now text
+    → MatchResult result (λ _. IsAnswered ways told (stand before held) (stand at now) request)
+    (λ fault. IsBroken ways told (stand before held) (stand at now) fault request)
 written ways told before at held now request calls text (Ok _) are leads is whole part = record {
   calls = calls;
   whole = are;
@@ -75,5 +82,6 @@ ends-calls true = tt
 ends-calls false = refl
 
 -- nothing of a request was done, and there was no memory for its call
-pub broken-early : {C : Type 0} (ways : Ways C) (told : Option ℕ) (at : C) (held : List ℕ) (fault : ConnectionFault) (request : Request) → IsBroken ways told (stand at held) (stand at held) fault request
+pub broken-early : {C : Type 0} (ways : Ways C) (told : Option ℕ) (at : C) (held : List ℕ) (fault : ConnectionFault)
+    (request : Request) → IsBroken ways told (stand at held) (stand at held) fault request
 broken-early ways told at held fault request = broken-none ways told at at held fault request (stands-here ways told at (dues_of request) fault)

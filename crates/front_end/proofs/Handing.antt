@@ -1,4 +1,5 @@
-use Rattle.std.proofs.Common.{◌≡◌, ℕ, suc, ◌+◌, ◌<◌, ◌≤◌, get_or, drop, add-one, List, [], ◌∷◌, ◌++◌, length, Result, Ok, Err, IfErr, OnOk, MatchResult, refl, sym, ap, ◌∙◌, subst, arith}
+use Rattle.std.proofs.Common.{◌≡◌, ℕ, suc, ◌+◌, ◌<◌, ◌≤◌, get_or, drop, add-one, List, [], ◌∷◌, ◌++◌, length, Result}
+use Rattle.std.proofs.Common.{Ok, Err, IfErr, OnOk, MatchResult, refl, sym, ap, ◌∙◌, subst, arith}
 use Rattle.std.proofs.Math.Seq.{drop-cons}
 use Rattle.std.specs.Result.{IsErrAnd}
 use Rattle.edge_io.specs.Faults.{Rose}
@@ -7,11 +8,13 @@ use Rattle.front_end.specs.declared.end.ConnectionFault.{ConnectionFault}
 use Rattle.front_end.specs.declared.end.ConnectionFault.TheVariants.{ReadFault, WriteFault, Want}
 
 -- a fault that is handed on
-pub on_fault : {T : Type 0} (P : T → Type 0) (Q : ConnectionFault → Type 0) (result : Result T ConnectionFault) (fault : ConnectionFault) → IsErrAnd result (λ e. e ≡ fault) → Q fault → MatchResult result P Q
+pub on_fault : {T : Type 0} (P : T → Type 0) (Q : ConnectionFault → Type 0) (result : Result T ConnectionFault)
+    (fault : ConnectionFault) → IsErrAnd result (λ e. e ≡ fault) → Q fault → MatchResult result P Q
 on_fault P Q (Ok _) fault is holds = absurd is
 on_fault P Q (Err e) fault is holds = subst Q (sym is) holds
 
-pub if-fault : {T : Type 0} (Q : ConnectionFault → Type 0) (result : Result T ConnectionFault) (fault : ConnectionFault) → IsErrAnd result (λ e. e ≡ fault) → Q fault → IfErr result Q
+pub if-fault : {T : Type 0} (Q : ConnectionFault → Type 0) (result : Result T ConnectionFault) (fault : ConnectionFault)
+    → IsErrAnd result (λ e. e ≡ fault) → Q fault → IfErr result Q
 if-fault Q (Ok _) fault is holds = absurd is
 if-fault Q (Err e) fault is holds = subst Q (sym is) holds
 
@@ -25,10 +28,16 @@ if-none (Ok _) follows holds = follows holds
 if-none (Err fault) follows holds = tt
 
 -- the sink's count did not fall in two calls, of which the later has the fault
-pub cause-then : {T : Type 0} (before now after : ℕ) (result : Result T ConnectionFault) → before ≤ now → HasSinkCause now after result → HasSinkCause before after result
+pub cause-then : {T : Type 0} (before now after : ℕ) (result : Result T ConnectionFault) → before ≤ now
+    → HasSinkCause now after result → HasSinkCause before after result
 cause-then before now after (Ok _) earlier cause = record { later = omega (arith, earlier, cause.later); cause = tt }
 cause-then before now after (Err ReadFault) earlier cause = record { later = omega (arith, earlier, cause.later); cause = cause.cause }
-cause-then before now after (Err WriteFault) earlier cause = record { later = omega (arith, earlier, cause.later); cause = let rose : Rose now after = cause.cause in omega (arith, earlier, rose) }
+cause-then before now after (Err WriteFault) earlier cause =
+    record {
+      later = omega (arith, earlier, cause.later);
+      cause = let rose : Rose now after = cause.cause in
+          omega (arith, earlier, rose);
+    }
 cause-then before now after (Err Want) earlier cause = record { later = omega (arith, earlier, cause.later); cause = tt }
 
 pub cause-handed : {T U : Type 0} (before now after : ℕ) (found : Result T ConnectionFault) (result : Result U ConnectionFault) (fault : ConnectionFault)
@@ -47,7 +56,8 @@ pub rest_at : {X : Type 0} (xs : List X) (i : ℕ) (x : X) → i < length xs →
 rest_at {X} xs i x within is = drop-cons xs i x within ∙ rw add-one (ap (λ (y : X). y ∷ drop (suc i) xs) (sym is))
 
 -- the same where one more stands behind the list
-pub rest-with : {X : Type 0} (xs : List X) (last : X) (i : ℕ) (x : X) → i < length xs → x ≡ get_or xs i x → drop i xs ++ last ∷ [] ≡ x ∷ (drop (i + 1) xs ++ last ∷ [])
+pub rest-with : {X : Type 0} (xs : List X) (last : X) (i : ℕ) (x : X) → i < length xs → x ≡ get_or xs i x → drop i xs
+    ++ last ∷ [] ≡ x ∷ (drop (i + 1) xs ++ last ∷ [])
 rest-with {X} xs last i x within is = ap (λ (ys : List X). ys ++ last ∷ []) (rest_at xs i x within is)
 
 pub none-at-all : {X : Type 0} (xs : List X) → length xs ≡ 0 → xs ≡ []

@@ -9,12 +9,15 @@ use Rattle.front_end.specs.Calls.{Ways}
 use Rattle.front_end.specs.Order.{IsOrder, LeadsOn}
 use Rattle.front_end.specs.declared.at_once.Ended.{Ended}
 
-pub order-leads : {C : Type 0} (ways : Ways C) (later : C → C → Type 0) (onward : LeadsOn ways later) (before after : C) (at : ProcessId) (keep : ℕ) (result : Result FailEnd AllocError)
+pub order-leads : {C : Type 0} (ways : Ways C) (later : C → C → Type 0) (onward : LeadsOn ways later) (before after : C)
+    (at : ProcessId) (keep : ℕ) (result : Result FailEnd AllocError)
     → IfOk result (λ end. ways.failed before at keep end after) → OnErr result (ways.unmade before after) → later before after
 order-leads ways later onward before after at keep (Ok end) failed want = onward.failed before at keep end after failed
 order-leads ways later onward before after at keep (Err e) failed want = onward.unmade before after want
 
-pub kept-on : {C : Type 0} (ways : Ways C) (later : C → C → Type 0) (order : IsOrder later) (ended : Option Ended) (began now next : C) (op : Asked) → later now next → IsKept ways later ended began op now → IsKept ways later ended began op next
+pub kept-on : {C : Type 0} (ways : Ways C) (later : C → C → Type 0) (order : IsOrder later) (ended : Option Ended)
+    (began now next : C) (op : Asked) → later now next → IsKept ways later ended began op now
+    → IsKept ways later ended began op next
 kept-on ways later order None began now next op on kept = absurd kept
 kept-on ways later order (Some ended) began now next op on kept = (
   kept.0,

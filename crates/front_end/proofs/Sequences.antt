@@ -47,7 +47,8 @@ ended-elsewhere {C} ends sequence other now apart = by (same_key sequence other)
 -- what the calls of callers come to, they come to of what these are seen as
 pub record AreSeen {C D : Type 0} (ways : Ways C) (others : Ways D) (see : C → D) : Type 0 where
   pub made : (before : C) (op : Asked) (end : CallEnd) (after : C) → ways.made before op end after → others.made (see before) op end (see after)
-  pub failed : (before : C) (at : ProcessId) (keep : ℕ) (end : FailEnd) (after : C) → ways.failed before at keep end after → others.failed (see before) at keep end (see after)
+  pub failed : (before : C) (at : ProcessId) (keep : ℕ) (end : FailEnd) (after : C)
+      → ways.failed before at keep end after → others.failed (see before) at keep end (see after)
   pub kept : (before : C) (op : Asked) (after : C) → ways.kept before op after → others.kept (see before) op (see after)
   pub unmade : (before after : C) → ways.unmade before after → others.unmade (see before) (see after)
 
@@ -63,7 +64,8 @@ module _ {C D : Type 0} (ways : Ways C) (others : Ways D) (see : C → D) (seen 
   leads-seen [] before after same = ap see same
   leads-seen (call ∷ calls) before after (next, first, rest) = (see next, by-seen before next call first, leads-seen calls next after rest)
 
-  pub answered-seen : (before after : Stand C) (request : Request) → IsAnswered ways told before after request → IsAnswered others told (at before) (at after) request
+  pub answered-seen : (before after : Stand C) (request : Request) → IsAnswered ways told before after request
+      → IsAnswered others told (at before) (at after) request
   answered-seen before after request answered = record {
     calls = answered.calls;
     whole = answered.whole;
@@ -71,7 +73,8 @@ module _ {C D : Type 0} (ways : Ways C) (others : Ways D) (see : C → D) (seen 
     bytes = answered.bytes;
   }
 
-  pub all_answered-seen : (before after : Stand C) (requests : List Request) (more : List ℕ) → AreAnswered ways told before after requests more → AreAnswered others told (at before) (at after) requests more
+  pub all_answered-seen : (before after : Stand C) (requests : List Request) (more : List ℕ)
+      → AreAnswered ways told before after requests more → AreAnswered others told (at before) (at after) requests more
   all_answered-seen before after requests more answered = record {
     turns = answered.turns;
     asked = answered.asked;
@@ -85,13 +88,15 @@ module _ {C D : Type 0} (ways : Ways C) (others : Ways D) (see : C → D) (seen 
   cuts-seen led (Acts asked ∷ dues) after (op, act_is, moment, kept) = (op, act_is, moment, seen.kept led op after kept)
   cuts-seen led (Fails process keep ∷ dues) after unmade = seen.unmade led after unmade
 
-  stands-seen : (led : C) (dues : List Due) (after : C) (fault : ConnectionFault) → StandsAt ways told led dues after fault → StandsAt others told (see led) dues (see after) fault
+  stands-seen : (led : C) (dues : List Due) (after : C) (fault : ConnectionFault)
+      → StandsAt ways told led dues after fault → StandsAt others told (see led) dues (see after) fault
   stands-seen led dues after Want (inl same) = inl (ap see same)
   stands-seen led dues after Want (inr cut) = inr (cuts-seen led dues after cut)
   stands-seen led dues after WriteFault same = ap see same
   stands-seen led dues after ReadFault same = ap see same
 
-  broken-seen : (before after : Stand C) (fault : ConnectionFault) (request : Request) → IsBroken ways told before after fault request → IsBroken others told (at before) (at after) fault request
+  broken-seen : (before after : Stand C) (fault : ConnectionFault) (request : Request)
+      → IsBroken ways told before after fault request → IsBroken others told (at before) (at after) fault request
   broken-seen before after fault request broken = record {
     calls = broken.calls;
     first = broken.first;
@@ -102,7 +107,9 @@ module _ {C D : Type 0} (ways : Ways C) (others : Ways D) (see : C → D) (seen 
     bytes = broken.bytes;
   }
 
-  halted-seen : (before after : Stand C) (fault : ConnectionFault) (first requests : List Request) (rest : List ℕ) → AreHalted ways told before after fault first requests rest → AreHalted others told (at before) (at after) fault first requests rest
+  halted-seen : (before after : Stand C) (fault : ConnectionFault) (first requests : List Request) (rest : List ℕ)
+      → AreHalted ways told before after fault first requests rest → AreHalted others told (at before) (at after) fault
+      first requests rest
   halted-seen before after fault first requests rest (inl broken) = inl (record {
     next = broken.next;
     request = broken.request;
@@ -112,9 +119,11 @@ module _ {C D : Type 0} (ways : Ways C) (others : Ways D) (see : C → D) (seen 
     answered = all_answered-seen before broken.middle _ [] broken.answered;
     broken = broken-seen broken.middle after fault broken.request broken.broken;
   })
-  halted-seen before after fault first requests rest (inr (more, closing, answered)) = inr (more, closing, all_answered-seen before after requests more answered)
+  halted-seen before after fault first requests rest (inr (more, closing, answered)) =
+      inr (more, closing, all_answered-seen before after requests more answered)
 
-  pub stepped-seen : (before after : Stand C) (waiting now : List Request) → HasStepped ways told before after waiting now → HasStepped others told (at before) (at after) waiting now
+  pub stepped-seen : (before after : Stand C) (waiting now : List Request)
+      → HasStepped ways told before after waiting now → HasStepped others told (at before) (at after) waiting now
   stepped-seen before after [] now stepped = absurd stepped
   stepped-seen before after (request ∷ rest) now (inl (answered, is)) = inl (answered-seen before after request answered, is)
   stepped-seen before after (request ∷ rest) now (inr (next, taken, is)) = inr (
@@ -136,7 +145,9 @@ module _ {C D : Type 0} (ways : Ways C) (others : Ways D) (see : C → D) (seen 
     is,
   )
 
-  abbrev waiting-seen : (input input_now : Input) (before after : Stand C) (rest : List ℕ) → IsWaiting ways told input input_now before after rest → IsWaiting others told input input_now (at before) (at after) rest
+  abbrev waiting-seen : (input input_now : Input) (before after : Stand C) (rest : List ℕ)
+      → IsWaiting ways told input input_now before after rest → IsWaiting others told input input_now (at before)
+      (at after) rest
   waiting-seen input input_now before after rest waiting = record {
     read = waiting.read;
     consumed = waiting.consumed;
@@ -145,7 +156,9 @@ module _ {C D : Type 0} (ways : Ways C) (others : Ways D) (see : C → D) (seen 
     answered = all_answered-seen before after waiting.requests [] waiting.answered;
   }
 
-  abbrev stopped-seen : (input input_now : Input) (before after : Stand C) (more : List ℕ) → HasStopped ways told input input_now before after more → HasStopped others told input input_now (at before) (at after) more
+  abbrev stopped-seen : (input input_now : Input) (before after : Stand C) (more : List ℕ)
+      → HasStopped ways told input input_now before after more → HasStopped others told input input_now (at before)
+      (at after) more
   stopped-seen input input_now before after more stopped = record {
     first = stopped.first;
     requests = stopped.requests;
@@ -154,11 +167,14 @@ module _ {C D : Type 0} (ways : Ways C) (others : Ways D) (see : C → D) (seen 
     answered = all_answered-seen before after stopped.requests more stopped.answered;
   }
 
-  pub served-seen : (input input_now : Input) (before after : Stand C) (result : Result End ConnectionFault) → HasServed ways told input input_now before after result → HasServed others told input input_now (at before) (at after) result
+  pub served-seen : (input input_now : Input) (before after : Stand C) (result : Result End ConnectionFault)
+      → HasServed ways told input input_now before after result → HasServed others told input input_now (at before)
+      (at after) result
   served-seen input input_now before after (Ok Quit) (stopped, quit) = (stopped-seen input input_now before after [] stopped, quit)
   served-seen input input_now before after (Ok LineTooLong) (stopped, no_quit, long) = (stopped-seen input input_now before after _ stopped, no_quit, long)
   served-seen input input_now before after (Ok Ended) (waiting, fewer, ended) = (waiting-seen input input_now before after [] waiting, fewer, ended)
-  served-seen input input_now before after (Ok Cut) (rest, waiting, fewer, ended, some) = (rest, waiting-seen input input_now before after rest waiting, fewer, ended, some)
+  served-seen input input_now before after (Ok Cut) (rest, waiting, fewer, ended, some) =
+      (rest, waiting-seen input input_now before after rest waiting, fewer, ended, some)
   served-seen input input_now before after (Ok Worn) (rest, waiting, all) = (rest, waiting-seen input input_now before after rest waiting, all)
   served-seen input input_now before after (Err ReadFault) (rest, waiting) = (rest, waiting-seen input input_now before after rest waiting)
   served-seen input input_now before after (Err WriteFault) halted = record {
@@ -178,7 +194,9 @@ module _ {C D : Type 0} (ways : Ways C) (others : Ways D) (see : C → D) (seen 
     halted = halted-seen before after Want [] wanted.requests wanted.rest wanted.halted;
   }
 
-  pub goes_on-seen : (input input_now : Input) (before now : Stand C) (kept : Kept) (count : ℕ) → GoesOn ways told input input_now before now kept count → GoesOn others told input input_now (at before) (at now) kept count
+  pub goes_on-seen : (input input_now : Input) (before now : Stand C) (kept : Kept) (count : ℕ)
+      → GoesOn ways told input input_now before now kept count → GoesOn others told input input_now (at before) (at now)
+      kept count
   goes_on-seen input input_now before now kept count goes = record {
     read = goes.read;
     consumed = goes.consumed;
@@ -191,28 +209,37 @@ module _ {C D : Type 0} (ways : Ways C) (others : Ways D) (see : C → D) (seen 
   }
 
 -- where no calls overlap a connection's calls lead from where its last one ended
-pub never-seen : {C : Type 0} (later : C → C → Type 0) (ways : Ways C) → AreSeen (in_sequence (sequence_of Never) later ways) (among later ways) (λ ends. ends [])
+pub never-seen : {C : Type 0} (later : C → C → Type 0) (ways : Ways C)
+    → AreSeen (in_sequence (sequence_of Never) later ways) (among later ways) (λ ends. ends [])
 never-seen {C} later ways = record {
   made = λ ends op end after made. (made.0, made.2, subst (ways.made made.0 op end) (sym (ap (λ (e : List ℕ → C). e []) made.4)) made.3);
-  failed = λ ends at keep end after failed. (failed.0, failed.2 [], subst (ways.failed failed.0 at keep end) (sym (ap (λ (e : List ℕ → C). e []) failed.4)) failed.3);
+  failed = λ ends at keep end after failed. (
+    failed.0,
+    failed.2 [],
+    subst (ways.failed failed.0 at keep end) (sym (ap (λ (e : List ℕ → C). e []) failed.4))
+        failed.3,
+  );
   kept = λ ends op after kept. (kept.0, kept.2, subst (ways.kept kept.0 op) (sym (ap (λ (e : List ℕ → C). e []) kept.4)) kept.3);
   unmade = λ ends after unmade. (unmade.0, unmade.2 [], subst (ways.unmade unmade.0) (sym (ap (λ (e : List ℕ → C). e []) unmade.4)) unmade.3);
 }
 
 -- so what is promised of it is what is promised of one that makes its calls one behind the other
-pub never-served : {C : Type 0} (later : C → C → Type 0) (ways : Ways C) (told : Option ℕ) (input input_now : Input) (ends ends_now : List ℕ → C) (held now : List ℕ) (result : Result End ConnectionFault)
+pub never-served : {C : Type 0} (later : C → C → Type 0) (ways : Ways C) (told : Option ℕ) (input input_now : Input)
+    (ends ends_now : List ℕ → C) (held now : List ℕ) (result : Result End ConnectionFault)
     → HasServed (in_sequence (sequence_of Never) later ways) told input input_now (stand ends held) (stand ends_now now) result
     → HasServed (among later ways) told input input_now (stand (ends []) held) (stand (ends_now []) now) result
 never-served {C} later ways told input input_now ends ends_now held now result =
     served-seen _ _ (λ (e : List ℕ → C). e []) (never-seen later ways) told input input_now (stand ends held) (stand ends_now now) result
 
-pub never-answered : {C : Type 0} (later : C → C → Type 0) (ways : Ways C) (told : Option ℕ) (ends ends_now : List ℕ → C) (held now : List ℕ) (requests : List Request) (more : List ℕ)
+pub never-answered : {C : Type 0} (later : C → C → Type 0) (ways : Ways C) (told : Option ℕ)
+    (ends ends_now : List ℕ → C) (held now : List ℕ) (requests : List Request) (more : List ℕ)
     → AreAnswered (in_sequence (sequence_of Never) later ways) told (stand ends held) (stand ends_now now) requests more
     → AreAnswered (among later ways) told (stand (ends []) held) (stand (ends_now []) now) requests more
 never-answered {C} later ways told ends ends_now held now requests more =
     all_answered-seen _ _ (λ (e : List ℕ → C). e []) (never-seen later ways) told (stand ends held) (stand ends_now now) requests more
 
-pub never-goes_on : {C : Type 0} (later : C → C → Type 0) (ways : Ways C) (told : Option ℕ) (input input_now : Input) (ends ends_now : List ℕ → C) (held now : List ℕ) (kept : Kept) (count : ℕ)
+pub never-goes_on : {C : Type 0} (later : C → C → Type 0) (ways : Ways C) (told : Option ℕ) (input input_now : Input)
+    (ends ends_now : List ℕ → C) (held now : List ℕ) (kept : Kept) (count : ℕ)
     → GoesOn (in_sequence (sequence_of Never) later ways) told input input_now (stand ends held) (stand ends_now now) kept count
     → GoesOn (among later ways) told input input_now (stand (ends []) held) (stand (ends_now []) now) kept count
 never-goes_on {C} later ways told input input_now ends ends_now held now kept count =

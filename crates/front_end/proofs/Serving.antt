@@ -1,4 +1,5 @@
-use Rattle.std.proofs.Common.{◌≡◌, ℕ, ◌+◌, ◌<◌, ◌≤◌, List, [], ◌∷◌, ◌++◌, length, take, Option, None, Some, Result, Ok, Err, append-nil, length-append, append_assoc, refl, sym, ap, ◌∙◌, subst, inl, inr, arith}
+use Rattle.std.proofs.Common.{◌≡◌, ℕ, ◌+◌, ◌<◌, ◌≤◌, List, [], ◌∷◌, ◌++◌, length, take, Option, None, Some, Result, Ok}
+use Rattle.std.proofs.Common.{Err, append-nil, length-append, append_assoc, refl, sym, ap, ◌∙◌, subst, inl, inr, arith}
 use Rattle.std.specs.Result.{IsErrAnd}
 use Rattle.edge_io.specs.Moving.{Input, IsEnded, Takes}
 use Rattle.edge_io.proofs.Moving.{Takes-none, Takes-trans}
@@ -16,22 +17,27 @@ use Rattle.front_end.specs.declared.end.End.TheVariants.{Quit, Ended, Cut, LineT
 use Rattle.front_end.proofs.Turning.{answered-none, answered-append}
 
 -- nothing was read
-pub goes_on-none : {C : Type 0} (ways : Ways C) (told : Option ℕ) (input : Input) (at : Stand C) (kept : Kept) (count : ℕ) → HasRead kept [] [] → count ≡ 0 → GoesOn ways told input input at at kept count
+pub goes_on-none : {C : Type 0} (ways : Ways C) (told : Option ℕ) (input : Input) (at : Stand C) (kept : Kept)
+    (count : ℕ) → HasRead kept [] [] → count ≡ 0 → GoesOn ways told input input at at kept count
 goes_on-none ways told input at kept count has_read zero = record {
   read = [];
   consumed = Takes-none input;
   requests = [];
   has_read = has_read;
   no_quit = refl;
-  short = λ long. let over : 32768 < length has_read.rest = long.long in let none : [] ≡ has_read.rest = has_read.reads.0 in omega (arith, over, ap length none);
+  short = λ long. let over : 32768 < length has_read.rest = long.long in let none : [] ≡ has_read.rest =
+      has_read.reads.0 in omega (arith, over, ap length none);
   answered = answered-none ways told at;
   counted = sym zero;
 }
 
-is_open : {C : Type 0} (ways : Ways C) (told : Option ℕ) (input input_now : Input) (before now : Stand C) (kept : Kept) (count : ℕ) (goes : GoesOn ways told input input_now before now kept count) → IsOpen goes.read goes.requests goes.has_read.rest
+is_open : {C : Type 0} (ways : Ways C) (told : Option ℕ) (input input_now : Input) (before now : Stand C) (kept : Kept)
+    (count : ℕ) (goes : GoesOn ways told input input_now before now kept count)
+    → IsOpen goes.read goes.requests goes.has_read.rest
 is_open ways told input input_now before now kept count goes = record { reads = goes.has_read.reads; no_quit = goes.no_quit; short = goes.short }
 
-abbrev waiting : {C : Type 0} (ways : Ways C) (told : Option ℕ) (input middle input_now : Input) (before now : Stand C) (kept : Kept) (count : ℕ) (rest : List ℕ) (goes : GoesOn ways told input middle before now kept count)
+abbrev waiting : {C : Type 0} (ways : Ways C) (told : Option ℕ) (input middle input_now : Input) (before now : Stand C)
+    (kept : Kept) (count : ℕ) (rest : List ℕ) (goes : GoesOn ways told input middle before now kept count)
     → Takes input input_now goes.read → goes.has_read.rest ≡ rest → IsWaiting ways told input input_now before now rest
 waiting ways told input middle input_now before now kept count rest goes consumed is = record {
   read = goes.read;
@@ -42,8 +48,11 @@ waiting ways told input middle input_now before now kept count rest goes consume
 }
 
 -- the input ended
-pub served-ended : {C : Type 0} (ways : Ways C) (told : Option ℕ) (input middle input_now : Input) (before now : Stand C) (kept : Kept) (count : ℕ) (goes : GoesOn ways told input middle before now kept count) (end : End)
-    → count < 4611686018427387904 → Takes middle input_now [] → IsEnded input_now → IsEndAt goes.has_read.rest end → HasServed ways told input input_now before now (Ok end)
+pub served-ended : {C : Type 0} (ways : Ways C) (told : Option ℕ) (input middle input_now : Input)
+    (before now : Stand C) (kept : Kept) (count : ℕ) (goes : GoesOn ways told input middle before now kept count)
+    (end : End)
+    → count < 4611686018427387904 → Takes middle input_now [] → IsEnded input_now → IsEndAt goes.has_read.rest end
+    → HasServed ways told input input_now before now (Ok end)
 served-ended ways told input middle input_now before now kept count goes end within consumed ended at = by_end end at
   where
     all : Takes input input_now goes.read
@@ -64,21 +73,30 @@ pub consumes-zero : (input now : Input) (bytes : List ℕ) (n : ℕ) → n ≡ 0
 consumes-zero input now bytes n none consumed = subst (λ (k : ℕ). Takes input now (take k bytes)) none consumed
 
 -- as many bytes were read as a connection may have
-pub served-worn : {C : Type 0} (ways : Ways C) (told : Option ℕ) (input input_now : Input) (before now : Stand C) (kept : Kept) (count : ℕ) → GoesOn ways told input input_now before now kept count → count ≡ 4611686018427387904
+pub served-worn : {C : Type 0} (ways : Ways C) (told : Option ℕ) (input input_now : Input) (before now : Stand C)
+    (kept : Kept) (count : ℕ) → GoesOn ways told input input_now before now kept count → count ≡ 4611686018427387904
     → HasServed ways told input input_now before now (Ok Worn)
 served-worn ways told input input_now before now kept count goes all =
     (goes.has_read.rest, waiting ways told input input_now input_now before now kept count goes.has_read.rest goes goes.consumed refl, goes.counted ∙ all)
 
 -- a read failed
-pub served-read_fault : {C : Type 0} (ways : Ways C) (told : Option ℕ) (input middle input_now : Input) (before now : Stand C) (kept : Kept) (count : ℕ) (result : Result End ConnectionFault)
-    → GoesOn ways told input middle before now kept count → Takes middle input_now [] → IsErrAnd result (λ e. e ≡ ReadFault) → HasServed ways told input input_now before now result
+pub served-read_fault : {C : Type 0} (ways : Ways C) (told : Option ℕ) (input middle input_now : Input)
+    (before now : Stand C) (kept : Kept) (count : ℕ) (result : Result End ConnectionFault)
+    → GoesOn ways told input middle before now kept count → Takes middle input_now []
+    → IsErrAnd result (λ e. e ≡ ReadFault) → HasServed ways told input input_now before now result
 served-read_fault ways told input middle input_now before now kept count (Ok _) goes keeps is = absurd is
 served-read_fault ways told input middle input_now before now kept count (Err e) goes keeps is =
-    subst (λ (f : ConnectionFault). HasServed ways told input input_now before now (Err f)) (sym is)
-    (goes.has_read.rest, waiting ways told input middle input_now before now kept count goes.has_read.rest goes (subst (Takes input input_now) (append-nil goes.read) (Takes-trans input middle input_now goes.read [] goes.consumed keeps)) refl)
+    subst (λ (f : ConnectionFault). HasServed ways told input input_now before now (Err f)) (sym is) (
+      goes.has_read.rest,
+      waiting ways told input middle input_now before now kept count goes.has_read.rest goes
+          (subst (Takes input input_now) (append-nil goes.read)
+          (Takes-trans input middle input_now goes.read [] goes.consumed keeps)) refl,
+    )
 
-halted-behind : {C : Type 0} (ways : Ways C) (told : Option ℕ) (before now after : Stand C) (fault : ConnectionFault) (earlier given : List Request) (rest : List ℕ)
-    → AreAnswered ways told before now earlier [] → AreHalted ways told now after fault [] given rest → AreHalted ways told before after fault earlier (earlier ++ given) rest
+halted-behind : {C : Type 0} (ways : Ways C) (told : Option ℕ) (before now after : Stand C) (fault : ConnectionFault)
+    (earlier given : List Request) (rest : List ℕ)
+    → AreAnswered ways told before now earlier [] → AreHalted ways told now after fault [] given rest
+    → AreHalted ways told before after fault earlier (earlier ++ given) rest
 halted-behind ways told before now after fault earlier given rest answered (inl broken) = inl (record {
   next = broken.next;
   request = broken.request;
@@ -88,10 +106,13 @@ halted-behind ways told before now after fault earlier given rest answered (inl 
   answered = answered-append ways told before now broken.middle earlier broken.next [] answered broken.answered;
   broken = broken.broken;
 })
-halted-behind ways told before now after fault earlier given rest answered (inr closing) = inr (closing.0, closing.1, answered-append ways told before now after earlier given closing.0 answered closing.2)
+halted-behind ways told before now after fault earlier given rest answered (inr closing) =
+    inr (closing.0, closing.1, answered-append ways told before now after earlier given closing.0 answered closing.2)
 
 -- that the first requests are answered may be left unsaid
-halted-any : {C : Type 0} (ways : Ways C) (told : Option ℕ) (before after : Stand C) (fault : ConnectionFault) (first requests : List Request) (rest : List ℕ) → AreHalted ways told before after fault first requests rest → AreHalted ways told before after fault [] requests rest
+halted-any : {C : Type 0} (ways : Ways C) (told : Option ℕ) (before after : Stand C) (fault : ConnectionFault)
+    (first requests : List Request) (rest : List ℕ) → AreHalted ways told before after fault first requests rest
+    → AreHalted ways told before after fault [] requests rest
 halted-any ways told before after fault first requests rest (inl broken) = inl (record {
   next = first ++ broken.next;
   request = broken.request;
@@ -103,8 +124,10 @@ halted-any ways told before after fault first requests rest (inl broken) = inl (
 })
 halted-any ways told before after fault first requests rest (inr closing) = inr closing
 
-come : {C : Type 0} (ways : Ways C) (told : Option ℕ) (input middle input_now : Input) (before now : Stand C) (kept next : Kept) (count : ℕ) (goes : GoesOn ways told input middle before now kept count) (piece : List ℕ)
-    → length piece ≤ 65536 → Takes middle input_now piece → (taken : HasTaken next goes.read goes.requests piece) → HasCome input input_now goes.requests (goes.requests ++ taken.given) taken.has_read.rest
+come : {C : Type 0} (ways : Ways C) (told : Option ℕ) (input middle input_now : Input) (before now : Stand C)
+    (kept next : Kept) (count : ℕ) (goes : GoesOn ways told input middle before now kept count) (piece : List ℕ)
+    → length piece ≤ 65536 → Takes middle input_now piece → (taken : HasTaken next goes.read goes.requests piece)
+    → HasCome input input_now goes.requests (goes.requests ++ taken.given) taken.has_read.rest
 come ways told input middle input_now before now kept next count goes piece short consumed taken = record {
   front = goes.read;
   piece = piece;
@@ -116,8 +139,11 @@ come ways told input middle input_now before now kept next count goes piece shor
 }
 
 -- a piece ended the connection
-pub served-end : {C : Type 0} (ways : Ways C) (told : Option ℕ) (input middle input_now : Input) (before now after : Stand C) (kept next : Kept) (count : ℕ) (goes : GoesOn ways told input middle before now kept count) (piece : List ℕ) (end : End)
-    → length piece ≤ 65536 → Takes middle input_now piece → IsServed ways told now after next goes.read goes.requests piece (Ok (Some end)) → HasServed ways told input input_now before after (Ok end)
+pub served-end : {C : Type 0} (ways : Ways C) (told : Option ℕ) (input middle input_now : Input)
+    (before now after : Stand C) (kept next : Kept) (count : ℕ)
+    (goes : GoesOn ways told input middle before now kept count) (piece : List ℕ) (end : End)
+    → length piece ≤ 65536 → Takes middle input_now piece → IsServed ways told now after next goes.read goes.requests
+    piece (Ok (Some end)) → HasServed ways told input input_now before after (Ok end)
 served-end ways told input middle input_now before now after kept next count goes piece Quit short consumed (taken, answered, quit) = (
   record {
     first = goes.requests;
@@ -144,8 +170,12 @@ served-end ways told input middle input_now before now after kept next count goe
 served-end ways told input middle input_now before now after kept next count goes piece Worn short consumed served = absurd served
 
 -- a piece was answered, and the connection goes on
-pub goes_on-more : {C : Type 0} (ways : Ways C) (told : Option ℕ) (input middle input_now : Input) (before now after : Stand C) (kept next : Kept) (count more : ℕ) (goes : GoesOn ways told input middle before now kept count) (piece : List ℕ)
-    → Takes middle input_now piece → more ≡ count + length piece → IsServed ways told now after next goes.read goes.requests piece (Ok None) → GoesOn ways told input input_now before after next more
+pub goes_on-more : {C : Type 0} (ways : Ways C) (told : Option ℕ) (input middle input_now : Input)
+    (before now after : Stand C) (kept next : Kept) (count more : ℕ)
+    (goes : GoesOn ways told input middle before now kept count) (piece : List ℕ)
+    → Takes middle input_now piece → more ≡ count + length piece
+    → IsServed ways told now after next goes.read goes.requests piece (Ok None)
+    → GoesOn ways told input input_now before after next more
 goes_on-more ways told input middle input_now before now after kept next count more goes piece consumed more_is served = record {
   read = goes.read ++ piece;
   consumed = Takes-trans input middle input_now goes.read piece goes.consumed consumed;
@@ -158,15 +188,22 @@ goes_on-more ways told input middle input_now before now after kept next count m
 }
 
 -- a fault came while a piece was answered
-pub served-fault : {C : Type 0} (ways : Ways C) (told : Option ℕ) (input middle input_now : Input) (before now after : Stand C) (kept next : Kept) (count : ℕ) (goes : GoesOn ways told input middle before now kept count) (piece : List ℕ) (fault : ConnectionFault)
-    (result : Result End ConnectionFault) → length piece ≤ 65536 → Takes middle input_now piece → IsServed ways told now after next goes.read goes.requests piece (Err fault) → IsErrAnd result (λ e. e ≡ fault) → HasServed ways told input input_now before after result
+pub served-fault : {C : Type 0} (ways : Ways C) (told : Option ℕ) (input middle input_now : Input)
+    (before now after : Stand C) (kept next : Kept) (count : ℕ)
+    (goes : GoesOn ways told input middle before now kept count) (piece : List ℕ) (fault : ConnectionFault)
+    (result : Result End ConnectionFault) → length piece ≤ 65536 → Takes middle input_now piece
+    → IsServed ways told now after next goes.read goes.requests piece (Err fault) → IsErrAnd result (λ e. e ≡ fault)
+    → HasServed ways told input input_now before after result
 served-fault {C} ways told input middle input_now before now after kept next count goes piece fault (Ok _) short consumed served is = absurd is
-served-fault {C} ways told input middle input_now before now after kept next count goes piece fault (Err e) short consumed served is = subst (λ (f : ConnectionFault). HasServed ways told input input_now before after (Err f)) (sym is) (by_fault fault served)
+served-fault {C} ways told input middle input_now before now after kept next count goes piece fault (Err e) short
+    consumed served is = subst (λ (f : ConnectionFault). HasServed ways told input input_now before after (Err f))
+    (sym is) (by_fault fault served)
   where
     all : Takes input input_now (goes.read ++ piece)
     all = Takes-trans input middle input_now goes.read piece goes.consumed consumed
 
-    by_fault : (f : ConnectionFault) → IsServed ways told now after next goes.read goes.requests piece (Err f) → HasServed ways told input input_now before after (Err f)
+    by_fault : (f : ConnectionFault) → IsServed ways told now after next goes.read goes.requests piece (Err f)
+        → HasServed ways told input input_now before after (Err f)
     by_fault ReadFault served = absurd served
     by_fault WriteFault served = record {
       first = goes.requests;
@@ -196,7 +233,9 @@ served-fault {C} ways told input middle input_now before now after kept next cou
     }
 
 -- there was no memory for the first read
-pub served-early : {C : Type 0} (ways : Ways C) (told : Option ℕ) (input : Input) (at : Stand C) (kept : Kept) (result : Result End ConnectionFault) → HasRead kept [] [] → IsErrAnd result (λ e. e ≡ Want) → HasServed ways told input input at at result
+pub served-early : {C : Type 0} (ways : Ways C) (told : Option ℕ) (input : Input) (at : Stand C) (kept : Kept)
+    (result : Result End ConnectionFault) → HasRead kept [] [] → IsErrAnd result (λ e. e ≡ Want)
+    → HasServed ways told input input at at result
 served-early ways told input at kept (Ok _) has_read is = absurd is
 served-early ways told input at kept (Err e) has_read is = subst (λ (f : ConnectionFault). HasServed ways told input input at at (Err f)) (sym is) (record {
   read = [];
@@ -209,22 +248,34 @@ served-early ways told input at kept (Err e) has_read is = subst (λ (f : Connec
 })
 
 -- what a piece came to, by what was answered
-pub served-some : {C : Type 0} (ways : Ways C) (told : Option ℕ) (input middle input_now : Input) (before now after : Stand C) (kept next : Kept) (count : ℕ) (goes : GoesOn ways told input middle before now kept count) (piece : List ℕ)
+pub served-some : {C : Type 0} (ways : Ways C) (told : Option ℕ) (input middle input_now : Input)
+    (before now after : Stand C) (kept next : Kept) (count : ℕ)
+    (goes : GoesOn ways told input middle before now kept count) (piece : List ℕ)
     (found : Result (Option End) ConnectionFault) (answer : Option End) (end : End)
-    → length piece ≤ 65536 → Takes middle input_now piece → IsServed ways told now after next goes.read goes.requests piece found → found ≡ Ok answer → answer ≡ Some end → HasServed ways told input input_now before after (Ok end)
+    → length piece ≤ 65536 → Takes middle input_now piece → IsServed ways told now after next goes.read goes.requests
+    piece found → found ≡ Ok answer → answer ≡ Some end → HasServed ways told input input_now before after (Ok end)
 served-some ways told input middle input_now before now after kept next count goes piece found answer end short consumed served found_is answer_is =
     served-end ways told input middle input_now before now after kept next count goes piece end short consumed
     (subst (IsServed ways told now after next goes.read goes.requests piece) (found_is ∙ ap (λ (a : Option End). Ok a) answer_is) served)
 
-pub goes_on-none_yet : {C : Type 0} (ways : Ways C) (told : Option ℕ) (input middle input_now : Input) (before now after : Stand C) (kept next : Kept) (count more : ℕ) (goes : GoesOn ways told input middle before now kept count) (piece : List ℕ)
+pub goes_on-none_yet : {C : Type 0} (ways : Ways C) (told : Option ℕ) (input middle input_now : Input)
+    (before now after : Stand C) (kept next : Kept) (count more : ℕ)
+    (goes : GoesOn ways told input middle before now kept count) (piece : List ℕ)
     (found : Result (Option End) ConnectionFault) (answer : Option End)
-    → Takes middle input_now piece → more ≡ count + length piece → IsServed ways told now after next goes.read goes.requests piece found → found ≡ Ok answer → answer ≡ None → GoesOn ways told input input_now before after next more
+    → Takes middle input_now piece → more ≡ count + length piece
+    → IsServed ways told now after next goes.read goes.requests piece found → found ≡ Ok answer → answer ≡ None
+    → GoesOn ways told input input_now before after next more
 goes_on-none_yet ways told input middle input_now before now after kept next count more goes piece found answer consumed more_is served found_is answer_is =
     goes_on-more ways told input middle input_now before now after kept next count more goes piece consumed more_is
     (subst (IsServed ways told now after next goes.read goes.requests piece) (found_is ∙ ap (λ (a : Option End). Ok a) answer_is) served)
 
-pub served-err : {C : Type 0} (ways : Ways C) (told : Option ℕ) (input middle input_now : Input) (before now after : Stand C) (kept next : Kept) (count : ℕ) (goes : GoesOn ways told input middle before now kept count) (piece : List ℕ)
+pub served-err : {C : Type 0} (ways : Ways C) (told : Option ℕ) (input middle input_now : Input)
+    (before now after : Stand C) (kept next : Kept) (count : ℕ)
+    (goes : GoesOn ways told input middle before now kept count) (piece : List ℕ)
     (found : Result (Option End) ConnectionFault) (fault : ConnectionFault) (result : Result End ConnectionFault)
-    → length piece ≤ 65536 → Takes middle input_now piece → IsServed ways told now after next goes.read goes.requests piece found → found ≡ Err fault → IsErrAnd result (λ e. e ≡ fault) → HasServed ways told input input_now before after result
+    → length piece ≤ 65536 → Takes middle input_now piece → IsServed ways told now after next goes.read goes.requests
+    piece found → found ≡ Err fault → IsErrAnd result (λ e. e ≡ fault)
+    → HasServed ways told input input_now before after result
 served-err ways told input middle input_now before now after kept next count goes piece found fault result short consumed served found_is is =
-    served-fault ways told input middle input_now before now after kept next count goes piece fault result short consumed (subst (IsServed ways told now after next goes.read goes.requests piece) found_is served) is
+    served-fault ways told input middle input_now before now after kept next count goes piece fault result short
+    consumed (subst (IsServed ways told now after next goes.read goes.requests piece) found_is served) is

@@ -1,4 +1,5 @@
-use Rattle.std.proofs.Common.{◌≡◌, ◌<◌, ◌≤◌, suc, ℕ, ◌+◌, length, List, [], ◌∷◌, ◌++◌, drop, get_or, Option, append-nil, append_assoc, refl, sym, ap, ◌∙◌, subst, inl, inr, arith}
+use Rattle.std.proofs.Common.{◌≡◌, ◌<◌, ◌≤◌, suc, ℕ, ◌+◌, length, List, [], ◌∷◌, ◌++◌, drop, get_or, Option, append-nil}
+use Rattle.std.proofs.Common.{append_assoc, refl, sym, ap, ◌∙◌, subst, inl, inr, arith}
 use Rattle.std.proofs.Math.Seq.{drop-drop}
 use Rattle.std.proofs.Math.ListN.{drop_of_length-le}
 use Rattle.std.proofs.lemmas.List.{length-drop}
@@ -24,9 +25,11 @@ asked-more : {C : Type 0} (ways : Ways C) (told : Option ℕ) (before now next :
     → AreAsked ways told before now whole rest → IsKeyTaken ways told now next rest others → AreAsked ways told before next whole others
 asked-more ways told before now next whole rest others asked taken = record {
   answered = λ after answered. asked.answered after (subst (IsAnswered ways told now after) (sym taken.request_is)
-      (answered-more ways told now next after taken.with_cas taken.key taken.keys taken.answered (subst (IsAnswered ways told next after) taken.next_is answered)));
+      (answered-more ways told now next after taken.with_cas taken.key taken.keys taken.answered
+      (subst (IsAnswered ways told next after) taken.next_is answered)));
   broken = λ after fault broken. asked.broken after fault (subst (IsBroken ways told now after fault) (sym taken.request_is)
-      (broken-more ways told now next after fault taken.with_cas taken.key taken.keys taken.answered (subst (IsBroken ways told next after fault) taken.next_is broken)));
+      (broken-more ways told now next after fault taken.with_cas taken.key taken.keys taken.answered
+      (subst (IsBroken ways told next after fault) taken.next_is broken)));
 }
 
 -- of the requests that are left these wait: the first of them is begun
@@ -50,13 +53,22 @@ pub record AnsweredUpTo {C : Type 0} (ways : Ways C) (told : Option ℕ) (before
   pub begun : IsBegun ways told middle now left waiting
 
 pub up_to-none : {C : Type 0} (ways : Ways C) (told : Option ℕ) (at : Stand C) (requests : List Request) → AnsweredUpTo ways told at at requests requests
-up_to-none ways told at requests = record { done = []; left = requests; all = refl; middle = at; answered = answered-none ways told at; begun = begun-none ways told at requests }
+up_to-none ways told at requests = record {
+  done = [];
+  left = requests;
+  all = refl;
+  middle = at;
+  answered = answered-none ways told at;
+  begun = begun-none ways told at requests;
+}
 
 pub up_to-more : {C : Type 0} (ways : Ways C) (told : Option ℕ) (before now next : Stand C) (requests waiting then : List Request)
     → AnsweredUpTo ways told before now requests waiting → HasStepped ways told now next waiting then → AnsweredUpTo ways told before next requests then
 up_to-more {C} ways told before now next requests waiting then up_to stepped = by_waiting up_to.left waiting up_to.all up_to.begun stepped
   where
-    by_waiting : (left waiting : List Request) → up_to.done ++ left ≡ requests → IsBegun ways told up_to.middle now left waiting → HasStepped ways told now next waiting then → AnsweredUpTo ways told before next requests then
+    by_waiting : (left waiting : List Request) → up_to.done ++ left ≡ requests
+        → IsBegun ways told up_to.middle now left waiting → HasStepped ways told now next waiting then
+        → AnsweredUpTo ways told before next requests then
     by_waiting left [] all begun stepped = absurd stepped
     by_waiting [] (first ∷ rest) all begun stepped = absurd begun
     by_waiting (whole ∷ others) (first ∷ rest) all begun (inl (answered, then_is)) = record {
@@ -64,7 +76,8 @@ up_to-more {C} ways told before now next requests waiting then up_to stepped = b
       left = others;
       all = append_assoc up_to.done (whole ∷ []) others ∙ all;
       middle = next;
-      answered = answered-append ways told before up_to.middle next up_to.done (whole ∷ []) [] up_to.answered (answered-one ways told up_to.middle next whole (begun.1.answered next answered));
+      answered = answered-append ways told before up_to.middle next up_to.done (whole ∷ []) [] up_to.answered
+          (answered-one ways told up_to.middle next whole (begun.1.answered next answered));
       begun = subst (IsBegun ways told next next others) (sym (then_is ∙ begun.0)) (begun-none ways told next others);
     }
     by_waiting (whole ∷ others) (first ∷ rest) all begun (inr (request, taken, then_is)) = record {
@@ -73,11 +86,14 @@ up_to-more {C} ways told before now next requests waiting then up_to stepped = b
       all = all;
       middle = up_to.middle;
       answered = up_to.answered;
-      begun = subst (IsBegun ways told up_to.middle next (whole ∷ others)) (sym then_is) (begun.0, asked-more ways told up_to.middle now next whole first request begun.1 taken);
+      begun = subst (IsBegun ways told up_to.middle next (whole ∷ others)) (sym then_is)
+          (begun.0, asked-more ways told up_to.middle now next whole first request begun.1 taken);
     }
 
-pub up_to-all : {C : Type 0} (ways : Ways C) (told : Option ℕ) (before now : Stand C) (requests waiting : List Request) → AnsweredUpTo ways told before now requests waiting → waiting ≡ [] → AreAnswered ways told before now requests []
-up_to-all {C} ways told before now requests waiting up_to none = by_left up_to.left up_to.all (subst (IsBegun ways told up_to.middle now up_to.left) none up_to.begun)
+pub up_to-all : {C : Type 0} (ways : Ways C) (told : Option ℕ) (before now : Stand C) (requests waiting : List Request)
+    → AnsweredUpTo ways told before now requests waiting → waiting ≡ [] → AreAnswered ways told before now requests []
+up_to-all {C} ways told before now requests waiting up_to none =
+    by_left up_to.left up_to.all (subst (IsBegun ways told up_to.middle now up_to.left) none up_to.begun)
   where
     by_left : (left : List Request) → up_to.done ++ left ≡ requests → IsBegun ways told up_to.middle now left [] → AreAnswered ways told before now requests []
     by_left [] all same = subst (λ (s : Stand C). AreAnswered ways told before s requests []) (sym same)
@@ -88,7 +104,9 @@ pub up_to-broken : {C : Type 0} (ways : Ways C) (told : Option ℕ) (before now 
     → AnsweredUpTo ways told before now requests waiting → BreaksAt ways told now after fault waiting → AreBroken ways told before after fault [] requests
 up_to-broken {C} ways told before now after fault requests waiting up_to breaks = by_waiting up_to.left waiting up_to.all up_to.begun breaks
   where
-    by_waiting : (left waiting : List Request) → up_to.done ++ left ≡ requests → IsBegun ways told up_to.middle now left waiting → BreaksAt ways told now after fault waiting → AreBroken ways told before after fault [] requests
+    by_waiting : (left waiting : List Request) → up_to.done ++ left ≡ requests
+        → IsBegun ways told up_to.middle now left waiting → BreaksAt ways told now after fault waiting
+        → AreBroken ways told before after fault [] requests
     by_waiting left [] all begun breaks = absurd breaks
     by_waiting [] (first ∷ rest) all begun breaks = absurd begun
     by_waiting (whole ∷ others) (first ∷ rest) all begun breaks = record {
@@ -113,7 +131,8 @@ pub none-wait : (k n : ℕ) (given waiting : List Request) → waiting_behind k 
 none-wait k n given waiting is all = sym is ∙ ap (waiting_behind k) (drop_of_length-le given all)
 
 -- the first of the requests that wait, of which k keys are answered, and those behind it
-pub first-of : (k n : ℕ) (given waiting : List Request) (request : Request) → waiting_behind k (drop n given) ≡ waiting → n < length given → request ≡ get_or given n request → waiting ≡ behind k request ∷ drop (n + 1) given
+pub first-of : (k n : ℕ) (given waiting : List Request) (request : Request) → waiting_behind k (drop n given) ≡ waiting
+    → n < length given → request ≡ get_or given n request → waiting ≡ behind k request ∷ drop (n + 1) given
 first-of k n given waiting request is fewer read = sym is ∙ ap (waiting_behind k) (rest_at given n request fewer read)
 
 pub fewer-wait : (k n : ℕ) (given waiting : List Request) → waiting_behind k (drop n given) ≡ waiting → (waiting ≡ [] → ⊥) → n < length given
@@ -138,7 +157,8 @@ others-behind k (request ∷ others) = refl
 
 -- the first of the requests that wait is answered
 pub first-passed : (k n : ℕ) (given waiting : List Request) → waiting_behind k (drop n given) ≡ waiting → waiting_behind 0 (drop (n + 1) given) ≡ drop 1 waiting
-first-passed k n given waiting is = whole-behind (drop (n + 1) given) ∙ sym (drop-drop 1 n given) ∙ sym (others-behind k (drop n given)) ∙ ap (λ (rs : List Request). drop 1 rs) is
+first-passed k n given waiting is = whole-behind (drop (n + 1) given) ∙ sym (drop-drop 1 n given)
+    ∙ sym (others-behind k (drop n given)) ∙ ap (λ (rs : List Request). drop 1 rs) is
 
 -- the last of the requests that wait is answered
 pub last-passed : (k n : ℕ) (given waiting : List Request) → waiting_behind k (drop n given) ≡ waiting → length given ≤ n + 1 → drop 1 waiting ≡ []
@@ -153,7 +173,8 @@ abbrev pub steps_of : List Request → ℕ
 steps_of [] = 0
 steps_of (request ∷ others) = keys_of request + 1 + steps_of others
 
-pub fewer_steps : {C : Type 0} (ways : Ways C) (told : Option ℕ) (before after : Stand C) (waiting now : List Request) → HasStepped ways told before after waiting now → steps_of now < steps_of waiting
+pub fewer_steps : {C : Type 0} (ways : Ways C) (told : Option ℕ) (before after : Stand C) (waiting now : List Request)
+    → HasStepped ways told before after waiting now → steps_of now < steps_of waiting
 fewer_steps ways told before after [] now stepped = absurd stepped
 fewer_steps ways told before after (request ∷ others) now (inl (answered, now_is)) = omega (arith, ap steps_of now_is)
 fewer_steps ways told before after (request ∷ others) now (inr (next, taken, now_is)) =

@@ -6,7 +6,8 @@ use Rattle.front_end.specs.Answers.{Stand, IsAnswered, AreAnswered}
 use Rattle.front_end.specs.Calls.{Call, Ways, Leads}
 use Rattle.front_end.specs.Turns.{Exchange, AreWhole, answer_text, calls_in, text_in, requests_in}
 
-leads-append : {C : Type 0} (ways : Ways C) (before middle after : C) (calls more : List Call) → Leads ways before calls middle → Leads ways middle more after → Leads ways before (calls ++ more) after
+leads-append : {C : Type 0} (ways : Ways C) (before middle after : C) (calls more : List Call)
+    → Leads ways before calls middle → Leads ways middle more after → Leads ways before (calls ++ more) after
 leads-append ways before middle after [] more first then = subst (λ (c : _). Leads ways c more after) first then
 leads-append ways before middle after (call ∷ calls) more first then = (first.0, first.1, leads-append ways first.0 middle after calls more first.2 then)
 
@@ -16,12 +17,15 @@ whole-append told (turn ∷ turns) more first then = (first.0, whole-append told
 
 calls_in-append : (turns more : List Exchange) → calls_in (turns ++ more) ≡ calls_in turns ++ calls_in more
 calls_in-append [] more = refl
-calls_in-append (turn ∷ turns) more = ap (λ (calls : List Call). turn.calls ++ calls) (calls_in-append turns more) ∙ sym (append_assoc turn.calls (calls_in turns) (calls_in more))
+calls_in-append (turn ∷ turns) more = ap (λ (calls : List Call). turn.calls ++ calls) (calls_in-append turns more)
+    ∙ sym (append_assoc turn.calls (calls_in turns) (calls_in more))
 
 text_in-append : (turns more : List Exchange) → text_in (turns ++ more) ≡ text_in turns ++ text_in more
 text_in-append [] more = refl
 text_in-append (turn ∷ turns) more =
-    let text : List ℕ = answer_text turn.request turn.calls in ap (λ (bs : List ℕ). text ++ bs) (text_in-append turns more) ∙ sym (append_assoc text (text_in turns) (text_in more))
+    let text : List ℕ = answer_text turn.request turn.calls in
+    ap (λ (bs : List ℕ). text ++ bs) (text_in-append turns more)
+    ∙ sym (append_assoc text (text_in turns) (text_in more))
 
 requests_in-append : (turns more : List Exchange) → requests_in (turns ++ more) ≡ requests_in turns ++ requests_in more
 requests_in-append [] more = refl
@@ -33,18 +37,26 @@ answered-none ways told at = record { turns = []; asked = refl; whole = tt; lead
 
 -- requests that were answered, and then others
 pub answered-append : {C : Type 0} (ways : Ways C) (told : Option ℕ) (before middle after : Stand C) (requests others : List Request) (more : List ℕ)
-    → AreAnswered ways told before middle requests [] → AreAnswered ways told middle after others more → AreAnswered ways told before after (requests ++ others) more
+    → AreAnswered ways told before middle requests [] → AreAnswered ways told middle after others more
+    → AreAnswered ways told before after (requests ++ others) more
 answered-append ways told before middle after requests others more first then = record {
   turns = first.turns ++ then.turns;
-  asked = requests_in-append first.turns then.turns ∙ ap (λ (rs : List Request). rs ++ requests_in then.turns) first.asked ∙ ap (λ (rs : List Request). requests ++ rs) then.asked;
+  asked = requests_in-append first.turns then.turns ∙ ap (λ (rs : List Request). rs ++ requests_in then.turns)
+      first.asked ∙ ap (λ (rs : List Request). requests ++ rs) then.asked;
   whole = whole-append told first.turns then.turns first.whole then.whole;
-  leads = subst (λ (calls : List Call). Leads ways before.caller calls after.caller) (sym (calls_in-append first.turns then.turns)) (leads-append ways before.caller middle.caller after.caller (calls_in first.turns) (calls_in then.turns) first.leads then.leads);
+  leads = subst (λ (calls : List Call). Leads ways before.caller calls after.caller)
+      (sym (calls_in-append first.turns then.turns))
+      (leads-append ways before.caller middle.caller after.caller (calls_in first.turns) (calls_in then.turns)
+      first.leads then.leads);
   bytes = subst (Appends before.held after.held)
-      (ap (λ (bs : List ℕ). bs ++ (text_in then.turns ++ more)) (append-nil (text_in first.turns)) ∙ sym (append_assoc (text_in first.turns) (text_in then.turns) more) ∙ ap (λ (bs : List ℕ). bs ++ more) (sym (text_in-append first.turns then.turns)))
+      (ap (λ (bs : List ℕ). bs ++ (text_in then.turns ++ more)) (append-nil (text_in first.turns))
+      ∙ sym (append_assoc (text_in first.turns) (text_in then.turns) more)
+      ∙ ap (λ (bs : List ℕ). bs ++ more) (sym (text_in-append first.turns then.turns)))
       (Appends-trans before.held middle.held after.held (text_in first.turns ++ []) (text_in then.turns ++ more) first.bytes then.bytes);
 }
 
-pub answered-one : {C : Type 0} (ways : Ways C) (told : Option ℕ) (before after : Stand C) (request : Request) → IsAnswered ways told before after request → AreAnswered ways told before after (request ∷ []) []
+pub answered-one : {C : Type 0} (ways : Ways C) (told : Option ℕ) (before after : Stand C) (request : Request)
+    → IsAnswered ways told before after request → AreAnswered ways told before after (request ∷ []) []
 answered-one ways told before after request answered = record {
   turns = record { request = request; calls = answered.calls } ∷ [];
   asked = refl;

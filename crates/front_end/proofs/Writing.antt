@@ -23,12 +23,15 @@ front-more before now text more part = record {
 pub front-then : (before middle now text more : List ℕ) → Appends before middle text → HasWritten middle now more → HasWritten before now (text ++ more)
 front-then before middle now text more whole part = record {
   count = length text + part.count;
-  bytes = subst (Appends before now) (sym (take-append-add text more part.count)) (Appends-trans before middle now text (take part.count more) whole part.bytes);
+  bytes = subst (Appends before now) (sym (take-append-add text more part.count))
+      (Appends-trans before middle now text (take part.count more) whole part.bytes);
 }
 
 -- the item of the last key of a get was written, and of `END` the front
-pub last-then : (before middle now key : List ℕ) (with_cas : Bool) (end : CallEnd) (text : List ℕ) (replied : Bool) → replied ≡ is_reply end → replied ≡ true → text ≡ end_of_items
+pub last-then : (before middle now key : List ℕ) (with_cas : Bool) (end : CallEnd) (text : List ℕ) (replied : Bool)
+    → replied ≡ is_reply end → replied ≡ true → text ≡ end_of_items
     → Appends before middle (end_text key with_cas end) → HasWritten middle now text → HasWritten before now (last_text key with_cas end)
 last-then before middle now key with_cas end text replied by holds is whole part =
     let more : text ≡ (if is_reply end then end_of_items else []) = is ∙ ap (λ (b : Bool). if b then end_of_items else []) (sym holds ∙ by) in
-    subst (λ (bs : List ℕ). HasWritten before now (end_text key with_cas end ++ bs)) more (front-then before middle now (end_text key with_cas end) text whole part)
+    subst (λ (bs : List ℕ). HasWritten before now (end_text key with_cas end ++ bs)) more
+    (front-then before middle now (end_text key with_cas end) text whole part)

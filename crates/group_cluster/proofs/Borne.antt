@@ -57,7 +57,9 @@ few d (x ∷ xs) f ts apart = by x.dead refl (λ us on. few d xs (λ k. f (suc k
       let one : one-if x.dead ≡ 1 = ap one-if is in
       let less : count_dead ts ≡ suc (count_dead (put false ts (f 0) false)) = one-less ts (f 0) (apart.there 0 is) in
       let rest = on (put false ts (f 0) false)
-      (later (put false ts (f 0) false) (λ k dk. at-put-other false ts (f 0) (f (suc k)) false (λ same. nonzero k (apart.own (suc k) 0 dk is same)) ∙ apart.there (suc k) dk)) in
+      (later (put false ts (f 0) false)
+      (λ k dk. at-put-other false ts (f 0) (f (suc k)) false (λ same. nonzero k (apart.own (suc k) 0 dk is same))
+      ∙ apart.there (suc k) dk)) in
       omega (arith, one, less, rest)
     where
       nonzero : (k : ℕ) → suc k ≡ 0 → ⊥
@@ -120,7 +122,8 @@ module _ (s : Dimensions) (n count : ℕ) where
   first-stands : (node j a m q : ℕ) → first_on n node j (range_with_len a m) ≡ Some q → (q < a + m) × (node_of n j q ≡ node)
   first-stands node j a zero q is = absurd (cc is)
   first-stands node j a (suc m) q is = by (first-stands node j (a + 1) m q) (node_of n j a == node) refl where
-    by : (first_on n node j (range_with_len (a + 1) m) ≡ Some q → (q < a + 1 + m) × (node_of n j q ≡ node)) → (b : Bool) → (node_of n j a == node) ≡ b → (q < a + suc m) × (node_of n j q ≡ node)
+    by : (first_on n node j (range_with_len (a + 1) m) ≡ Some q → (q < a + 1 + m) × (node_of n j q ≡ node)) → (b : Bool)
+        → (node_of n j a == node) ≡ b → (q < a + suc m) × (node_of n j q ≡ node)
     by rest true word =
         let here : Some a ≡ Some q = sym (ap (λ (b : Bool). if b then Some a else first_on n node j (range_with_len (a + 1) m)) word) ∙ is in
         let same : a ≡ q = cc in
@@ -129,7 +132,8 @@ module _ (s : Dimensions) (n count : ℕ) where
         let low = rest (sym (ap (λ (b : Bool). if b then Some a else first_on n node j (range_with_len (a + 1) m)) word) ∙ is) in
         (let l = low.0 in omega (arith, l), low.1)
 
-  failure-stands : (ts : List Bool) (node keep j : ℕ) (o : Option ℕ) → at false ts node ≡ true → ((q : ℕ) → o ≡ Some q → (q < many) × (node_of n j q ≡ node)) → Stands ts (failure_of s keep j o)
+  failure-stands : (ts : List Bool) (node keep j : ℕ) (o : Option ℕ) → at false ts node ≡ true
+      → ((q : ℕ) → o ≡ Some q → (q < many) × (node_of n j q ≡ node)) → Stands ts (failure_of s keep j o)
   failure-stands ts node keep j None there on = tt
   failure-stands ts node keep j (Some q) there on =
       let stands = on q refl in
@@ -139,7 +143,8 @@ module _ (s : Dimensions) (n count : ℕ) where
   failures-stand ts node keep [] there = tt
   failures-stand ts node keep (j ∷ js) there =
       each-append (λ m. StandsIn ts m.group m.event) (failure_of s keep j (process_on n many node j)) (failures s n node keep js)
-      (failure-stands ts node keep j (process_on n many node j) there (λ q is. let on = first-stands node j 0 many q is in (let l = on.0 in omega (arith, l), on.1)))
+      (failure-stands ts node keep j (process_on n many node j) there (λ q is. let on = first-stands node j 0 many q is
+      in (let l = on.0 in omega (arith, l), on.1)))
       (failures-stand ts node keep js there)
 
   no-failure-stands : (ts : List Bool) (j : ℕ) (e : Event) → ¬ (IsFailure e) → StandsIn ts j e
@@ -154,12 +159,14 @@ module _ (s : Dimensions) (n count : ℕ) where
   unless-stands ts j e None other = (no-failure-stands ts j e other, tt)
   unless-stands ts j e (Some own) other = tt
 
-  event-stands : (ts : List Bool) (c : Cluster) (e : ClusterEvent) → c.groups.shape ≡ s → length c.failed ≡ n → MayHappen c e → Stands (failed_after ts e) (moves_of c e)
+  event-stands : (ts : List Bool) (c : Cluster) (e : ClusterEvent) → c.groups.shape ≡ s → length c.failed ≡ n
+      → MayHappen c e → Stands (failed_after ts e) (moves_of c e)
   event-stands ts c (InGroup j event) shape long may = unless-stands ts j event (other_group c.groups j event) may.1
   event-stands ts c (FailNode node keep) shape long may = by (at false c.failed node) where
     all : Stands (put false ts node true) (node_failure c node keep)
     all =
-        subst (λ (t : Dimensions). Stands (put false ts node true) (failures t (length c.failed) node keep (range_with_len 0 (length c.groups.worlds)))) (sym shape)
+        subst (λ (t : Dimensions). Stands (put false ts node true)
+        (failures t (length c.failed) node keep (range_with_len 0 (length c.groups.worlds)))) (sym shape)
         (subst (λ (x : ℕ). Stands (put false ts node true) (failures s x node keep (range_with_len 0 (length c.groups.worlds)))) (sym long)
         (failures-stand (put false ts node true) node keep (range_with_len 0 (length c.groups.worlds)) (at-put false false ts node true)))
 
@@ -193,12 +200,14 @@ module _ (s : Dimensions) (n count : ℕ) where
   stand-history ts c (h ∷ hs) even long may old =
       stand-history (failed_after ts h.event) (happened c h) hs (even-happened s count c h even may.0) (nodes-by h.made c h.event may.0 ∙ long) may.1
       (stand-all (failed_after ts h.event) c.groups (moves_made c h) even (made-may s count c h even may.0)
-      (first-stand (failed_after ts h.event) (moves_of c h.event) h.made (event-stands ts c h.event even.shape long may.0)) (stand-after ts c.groups h.event old))
+      (first-stand (failed_after ts h.event) (moves_of c h.event) h.made
+      (event-stands ts c h.event even.shape long may.0)) (stand-after ts c.groups h.event old))
 
   at-start : (ts : List Bool) → DeadStand ts (opening_cluster s n count).groups
   at-start ts j k dead =
       let none : (at d (opening s).nodes k).dead ≡ false = none-dead-at s d refl (range_with_len 0 many) k in
-      let same : (at d (world_in (opening_cluster s n count).groups j).nodes k).dead ≡ false = ap (λ (w : World). (at d w.nodes k).dead) (at-replicate (opening s) count j) ∙ none in
+      let same : (at d (world_in (opening_cluster s n count).groups j).nodes k).dead ≡ false =
+      ap (λ (w : World). (at d w.nodes k).dead) (at-replicate (opening s) count j) ∙ none in
       absurd (no-both (sym dead ∙ same))
     where
       no-both : true ≡ false → ⊥
@@ -208,13 +217,15 @@ long : (n : ℕ) → length (replicate n false) ≡ n
 long zero = refl
 long (suc n) = ap suc (long n)
 
-pub borne : (c : Cluster) (led : HasHistory c) → count_dead (touched (replicate led.n false) led.history) ≤ led.s.m → (j : ℕ) → j < led.count → ¬ (IsDown (world_in c.groups j))
+pub borne : (c : Cluster) (led : HasHistory c) → count_dead (touched (replicate led.n false) led.history) ≤ led.s.m
+    → (j : ℕ) → j < led.count → ¬ (IsDown (world_in c.groups j))
 borne c led few-touched j low down =
     let s : Dimensions = led.s in
     let ts : List Bool = touched (replicate led.n false) led.history in
     let start : Cluster = opening_cluster s led.n led.count in
     let stand : DeadStand s led.n led.count ts (all_happened start led.history).groups
-    = stand-history s led.n led.count (replicate led.n false) start led.history (even-start s led.count) (long led.n) led.may (at-start s led.n led.count (replicate led.n false)) in
+    = stand-history s led.n led.count (replicate led.n false) start led.history (even-start s led.count) (long led.n)
+    led.may (at-start s led.n led.count (replicate led.n false)) in
     let here : DeadStand s led.n led.count ts c.groups = subst (λ (x : Cluster). DeadStand s led.n led.count ts x.groups) (sym led.is) stand in
     let wide = led.layout.wide in
     let most : dead_nodes (world_in c.groups j).nodes ≤ count_dead ts
@@ -228,9 +239,11 @@ borne c led few-touched j low down =
     omega (arith, shape, above, most, few-touched)
 
 -- where no event was cut short the nodes touched are those that failed
-pub all-failed : (ts : List Bool) (c : Cluster) (hs : List Happening) → c.failed ≡ ts → Each (λ h. h.made ≡ None) hs → (all_happened c hs).failed ≡ touched ts hs
+pub all-failed : (ts : List Bool) (c : Cluster) (hs : List Happening) → c.failed ≡ ts → Each (λ h. h.made ≡ None) hs
+    → (all_happened c hs).failed ≡ touched ts hs
 all-failed ts c [] same whole = same
-all-failed ts c (h ∷ hs) same whole = all-failed (failed_after ts h.event) (happened c h) hs (by h.made whole.0 ∙ ap (λ (fs : List Bool). failed_after fs h.event) same) whole.1 where
-  by : (made : Option ℕ) → made ≡ None → failed_by made c.failed h.event ≡ failed_after c.failed h.event
-  by None is = refl
-  by (Some x) is = absurd (cc is)
+all-failed ts c (h ∷ hs) same whole = all-failed (failed_after ts h.event) (happened c h) hs
+    (by h.made whole.0 ∙ ap (λ (fs : List Bool). failed_after fs h.event) same) whole.1 where
+      by : (made : Option ℕ) → made ≡ None → failed_by made c.failed h.event ≡ failed_after c.failed h.event
+      by None is = refl
+      by (Some x) is = absurd (cc is)

@@ -1,5 +1,6 @@
 -- Moves of which the first were made, and what the failure of a node logs.
-use Rattle.std.proofs.Common.{ℕ, ◌≡◌, ◌≢◌, ◌<◌, ◌≤◌, ◌+◌, ◌-◌, suc, Bool, true, false, List, [], ◌∷◌, ◌++◌, length, take, Option, Some, None, refl, sym, ap, subst, ◌∙◌, arith}
+use Rattle.std.proofs.Common.{ℕ, ◌≡◌, ◌≢◌, ◌<◌, ◌≤◌, ◌+◌, ◌-◌, suc, Bool, true, false, List, [], ◌∷◌, ◌++◌, length}
+use Rattle.std.proofs.Common.{take, Option, Some, None, refl, sym, ap, subst, ◌∙◌, arith}
 use Rattle.std.proofs.Math.Seq.{take-append_seam}
 use Rattle.std.proofs.lemmas.List.{append-nil, append_assoc}
 use Rattle.std.specs.List.{range_with_len}
@@ -11,7 +12,8 @@ use Rattle.group_calls.specs.declared.entry.Entry.{Entry}
 use Rattle.group_calls.specs.declared.event.Event.TheVariants.{Fail}
 use Rattle.group_run.specs.Applying.{Settlement}
 use Rattle.group_run.specs.World.{Ledger, Ticket, World, all_change, ledger_after, ledger_with, node_of, opening, step, tickets_after}
-use Rattle.group_layout.specs.Cluster.{ClusterEntry, Groups, MayAllMove, Move, all_moved, failure_of, failures, logged_in, moved, tagged, turn_of, turns_made, world_in}
+use Rattle.group_layout.specs.Cluster.{ClusterEntry, Groups, MayAllMove, Move, all_moved, failure_of, failures}
+use Rattle.group_layout.specs.Cluster.{logged_in, moved, tagged, turn_of, turns_made, world_in}
 use Rattle.group_layout.specs.Layout.{process_on}
 use Rattle.group_layout.proofs.Happening.{moved-append}
 use Rattle.group_layout.proofs.Moves.{other-world}
@@ -42,18 +44,22 @@ failure-silent : (s : Dimensions) (g : Groups) (keep j : ℕ) (q : Option ℕ) �
 failure-silent s g keep j None = refl
 failure-silent s g keep j (Some x) = ap (λ (es : List Entry). tagged j es ++ []) (fails-silently (world_in g j) (process_at s x) keep)
 
-silent-then : (g : Groups) (ms ns : List Move) → logged_in (turns_made g ms) ≡ [] → logged_in (turns_made (all_moved g ms) ns) ≡ [] → logged_in (turns_made g (ms ++ ns)) ≡ []
+silent-then : (g : Groups) (ms ns : List Move) → logged_in (turns_made g ms) ≡ []
+    → logged_in (turns_made (all_moved g ms) ns) ≡ [] → logged_in (turns_made g (ms ++ ns)) ≡ []
 silent-then g [] ns first rest = rest
-silent-then g (m ∷ ms) ns first rest = joined (tagged m.group (turn_of g m).logged) (logged_in (turns_made (moved g m) ms)) first (λ more. silent-then (moved g m) ms ns more rest) where
-  joined : (xs ys : List ClusterEntry) → xs ++ ys ≡ [] → (ys ≡ [] → logged_in (turns_made (moved g m) (ms ++ ns)) ≡ []) → xs ++ logged_in (turns_made (moved g m) (ms ++ ns)) ≡ []
-  joined [] ys none on = on none
-  joined (x ∷ xs) ys none on = absurd (cc none)
+silent-then g (m ∷ ms) ns first rest = joined (tagged m.group (turn_of g m).logged)
+    (logged_in (turns_made (moved g m) ms)) first (λ more. silent-then (moved g m) ms ns more rest) where
+      joined : (xs ys : List ClusterEntry) → xs ++ ys ≡ [] → (ys ≡ [] → logged_in (turns_made (moved g m) (ms ++ ns)) ≡ [])
+          → xs ++ logged_in (turns_made (moved g m) (ms ++ ns)) ≡ []
+      joined [] ys none on = on none
+      joined (x ∷ xs) ys none on = absurd (cc none)
 
 pub failures-silent : (s : Dimensions) (g : Groups) (n node keep : ℕ) (js : List ℕ) → logged_in (turns_made g (failures s n node keep js)) ≡ []
 failures-silent s g n node keep [] = refl
 failures-silent s g n node keep (j ∷ js) =
     let here : List Move = failure_of s keep j (process_on n (s.k + s.m) node j) in
-    silent-then g here (failures s n node keep js) (failure-silent s g keep j (process_on n (s.k + s.m) node j)) (failures-silent s (all_moved g here) n node keep js)
+    silent-then g here (failures s n node keep js) (failure-silent s g keep j (process_on n (s.k + s.m) node j))
+    (failures-silent s (all_moved g here) n node keep js)
 
 -- the failure of one group's process leaves the others
 pub others-stay : (s : Dimensions) (g : Groups) (keep i j : ℕ) (q : Option ℕ) → i ≢ j → world_in (all_moved g (failure_of s keep i q)) j ≡ world_in g j
@@ -148,4 +154,5 @@ module _ (g h : Groups) (n node keep count j : ℕ) (was : Started g h n node ke
     pub may-here : j < count → MayAllMove h (here-in h.shape)
     may-here low =
         subst (λ (s : Dimensions). MayAllMove h (here-in s)) (sym same-shape)
-        (may-first h here rest (subst (λ (v : Groups). MayAllMove v (here ++ rest)) (sym was.is) (may-rest g was.made (here ++ rest) (subst (MayAllMove g) (parts low) may))))
+        (may-first h here rest (subst (λ (v : Groups). MayAllMove v (here ++ rest)) (sym was.is)
+        (may-rest g was.made (here ++ rest) (subst (MayAllMove g) (parts low) may))))

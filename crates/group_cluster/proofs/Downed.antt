@@ -1,5 +1,6 @@
 -- The failure of a node, as an event of the cluster.
-use Rattle.std.proofs.Common.{ℕ, ◌≡◌, ◌<◌, Bool, true, false, List, [], ◌++◌, length, take, Some, None, set, Result, Ok, Err, if◌then◌else◌, sym, ap, subst, ◌∙◌}
+use Rattle.std.proofs.Common.{ℕ, ◌≡◌, ◌<◌, Bool, true, false, List, [], ◌++◌, length, take, Some, None, set, Result, Ok}
+use Rattle.std.proofs.Common.{Err, if◌then◌else◌, sym, ap, subst, ◌∙◌}
 use Rattle.std.specs.Prelude.{OnErr, slice_index_or}
 use Rattle.std.specs.List.{range_with_len}
 use Rattle.group_types.specs.Lists.{at, put}
@@ -55,8 +56,12 @@ module _ (c : Cluster) (node keep : ℕ) (low : node < length c.failed) where
     pub lives-may : HasHistory c → MayAllMove c.groups all
     lives-may led = subst (λ (b : Bool). MayAllMove c.groups (moves-if b)) word (moves-may led.s led.count c (FailNode node keep) (even-has c led) low)
 
-    pub lives-step : (g : Groups) → g ≡ all_moved c.groups all → record { failed = set c.failed node true; groups = g } ≡ (cluster_step c (FailNode node keep)).cluster
-    lives-step g is = λ i. record { failed = set_put false c.failed node true low i; groups = (is ∙ ap (λ (b : Bool). all_moved c.groups (moves-if b)) (sym word)) i }
+    pub lives-step : (g : Groups) → g ≡ all_moved c.groups all → record { failed = set c.failed node true; groups = g }
+        ≡ (cluster_step c (FailNode node keep)).cluster
+    lives-step g is = λ i. record {
+      failed = set_put false c.failed node true low i;
+      groups = (is ∙ ap (λ (b : Bool). all_moved c.groups (moves-if b)) (sym word)) i;
+    }
 
     pub lives-answer : says.Done ≡ (cluster_step c (FailNode node keep)).answer
     lives-answer = answer-if false word
@@ -73,7 +78,8 @@ module _ (c : Cluster) (node keep : ℕ) (low : node < length c.failed) where
     pub cut-step : (g : Groups) → Begun c.groups all g → IsCutShort c (FailNode node keep) (record { failed = c.failed; groups = g })
     cut-step g begun =
         let moves : moves_of c (FailNode node keep) ≡ begun.made ++ begun.left = ap moves-if word ∙ begun.whole in
-        let first : take (length begun.made) (moves_of c (FailNode node keep)) ≡ begun.made = ap (take (length begun.made)) moves ∙ first-moves begun.made begun.left in
+        let first : take (length begun.made) (moves_of c (FailNode node keep)) ≡ begun.made =
+        ap (take (length begun.made)) moves ∙ first-moves begun.made begun.left in
         (length begun.made, (λ i. record { failed = c.failed; groups = (begun.is ∙ ap (all_moved c.groups) (sym first)) i }))
 
     pub cut-history : HasHistory c → (g : Groups) → Begun c.groups all g → HasHistory (record { failed = c.failed; groups = g })

@@ -24,7 +24,8 @@ may-first g ms (Some n) may = may-take g ms n may
 pub made-may : (s : Dimensions) (count : ℕ) (c : Cluster) (h : Happening) → Even s count c.groups → MayHappen c h.event → MayAllMove c.groups (moves_made c h)
 made-may s count c h even may = may-first c.groups (moves_of c h.event) h.made (moves-may s count c h.event even may)
 
-pub even-happened : (s : Dimensions) (count : ℕ) (c : Cluster) (h : Happening) → Even s count c.groups → MayHappen c h.event → Even s count (happened c h).groups
+pub even-happened : (s : Dimensions) (count : ℕ) (c : Cluster) (h : Happening) → Even s count c.groups
+    → MayHappen c h.event → Even s count (happened c h).groups
 even-happened s count c h even may = even-after s count c.groups (moves_made c h) even (made-may s count c h even may)
 
 pub even-all : (s : Dimensions) (count : ℕ) (c : Cluster) (hs : List Happening) → Even s count c.groups → MayAll c hs → Even s count (all_happened c hs).groups
@@ -77,8 +78,10 @@ pub step-history : (c : Cluster) (j : ℕ) (event : Event) → HasHistory c → 
     → (g : Groups) → g ≡ moved c.groups (record { group = j; event = event }) → HasHistory (record { failed = c.failed; groups = g })
 step-history c j event led may own g is =
     let move : Move = record { group = j; event = event } in
-    let same : g ≡ all_moved c.groups (move_unless (other_group c.groups j event) move) = is ∙ ap (λ (o : Option ℕ). all_moved c.groups (move_unless o move)) (sym own) in
-    subst (λ (x : Groups). HasHistory (record { failed = c.failed; groups = x })) (sym same) (goes-on c (record { event = InGroup j event; made = None }) led may)
+    let same : g ≡ all_moved c.groups (move_unless (other_group c.groups j event) move) =
+    is ∙ ap (λ (o : Option ℕ). all_moved c.groups (move_unless o move)) (sym own) in
+    subst (λ (x : Groups). HasHistory (record { failed = c.failed; groups = x })) (sym same)
+    (goes-on c (record { event = InGroup j event; made = None }) led may)
 
 long : {X : Type 0} (n : ℕ) (x : X) → length (replicate n x) ≡ n
 long zero x = refl

@@ -1,5 +1,6 @@
 -- Parts of logs that grow.
-use Rattle.std.proofs.Common.{ℕ, zero, suc, ◌≡◌, ◌<◌, ◌≤◌, ◌+◌, List, [], ◌∷◌, ◌++◌, length, take, drop, inl, inr, refl, sym, ap, subst, ◌∙◌, arith, Bool, true, false, ◌==◌, if◌then◌else◌}
+use Rattle.std.proofs.Common.{ℕ, zero, suc, ◌≡◌, ◌<◌, ◌≤◌, ◌+◌, List, [], ◌∷◌, ◌++◌, length, take, drop, inl, inr, refl}
+use Rattle.std.proofs.Common.{sym, ap, subst, ◌∙◌, arith, Bool, true, false, ◌==◌, if◌then◌else◌}
 use Rattle.std.specs.Prelude.{set, slice_index_or}
 use Rattle.std.proofs.lemmas.Bool.{eqb-true}
 use Rattle.std.proofs.Math.Seq.{drop-append_seam, take-length}
@@ -34,7 +35,8 @@ new-part xs more many is =
     ∙ ap (take (length more)) (drop-append_seam xs more)
     ∙ take-length more
 
-module _ (s : Dimensions) (ws : List World) (j : ℕ) (w : World) (more : List Entry) (low : j < length ws) (grows : w.log ≡ (at (opening s) ws j).log ++ more) where
+module _ (s : Dimensions) (ws : List World) (j : ℕ) (w : World) (more : List Entry) (low : j < length ws)
+    (grows : w.log ≡ (at (opening s) ws j).log ++ more) where
   abbrev after : List World
   after = put (opening s) ws j w
 
@@ -65,7 +67,8 @@ module _ (s : Dimensions) (ws : List World) (j : ℕ) (w : World) (more : List E
         = ap length (log-at 0 p is) ∙ length-append (at (opening s) ws p.group).log more in
         record { group = (let g = within.group in omega (arith, g, long)); reached = (let r = within.reached in omega (arith, r, grown)) }
     by (inr (word, other)) =
-        let same : length (at (opening s) after p.group).log ≡ length (at (opening s) ws p.group).log = ap (λ (v : World). length v.log) (at-put-other (opening s) ws j p.group w other) in
+        let same : length (at (opening s) after p.group).log ≡ length (at (opening s) ws p.group).log =
+        ap (λ (v : World). length v.log) (at-put-other (opening s) ws j p.group w other) in
         record { group = (let g = within.group in omega (arith, g, long)); reached = (let r = within.reached in omega (arith, r, same)) }
 
   pub all-keep : (ps : List Part) → AreWithin s ws ps → AreWithin s after ps
@@ -102,7 +105,8 @@ module _ (s : Dimensions) (ws : List World) (j : ℕ) (w : World) (more : List E
     is-within =
         let long : length after ≡ length ws = length-put (opening s) ws j w low in
         let grown : length (at (opening s) after p.group).log ≡ length (at (opening s) ws j).log + length more
-        = ap (λ (x : ℕ). length (at (opening s) after x).log) own ∙ ap (λ (v : World). length v.log) here ∙ ap length grows ∙ length-append (at (opening s) ws j).log more in
+        = ap (λ (x : ℕ). length (at (opening s) after x).log) own ∙ ap (λ (v : World). length v.log) here
+        ∙ ap length grows ∙ length-append (at (opening s) ws j).log more in
         record { group = omega (arith, low, long, own); reached = omega (arith, grown, from, many) }
 
     pub all-pushed : (ps : List Part) → AreWithin s ws ps → AreWithin s after (ps ++ p ∷ [])

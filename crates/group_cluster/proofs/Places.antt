@@ -31,7 +31,8 @@ behind-tagged j zero zero left log rest le reached = let same : left ≡ left - 
 behind-tagged j zero (suc many) left [] rest le reached = absurd (omega (arith, reached))
 behind-tagged j zero (suc many) zero (x ∷ log) rest le reached = absurd (omega (arith, le))
 behind-tagged j zero (suc many) (suc left) (x ∷ log) rest le reached =
-    behind-tagged j zero many left log rest (omega (arith, le)) (omega (arith, reached)) ∙ (let same : left - many ≡ suc left - suc many = omega arith in ap (slice_get rest) same)
+    behind-tagged j zero many left log rest (omega (arith, le)) (omega (arith, reached))
+    ∙ (let same : left - many ≡ suc left - suc many = omega arith in ap (slice_get rest) same)
 behind-tagged j (suc from) zero left [] rest le reached = absurd (omega (arith, reached))
 behind-tagged j (suc from) (suc many) left [] rest le reached = absurd (omega (arith, reached))
 behind-tagged j (suc from) many left (x ∷ log) rest le reached = behind-tagged j from many left log rest le (omega (arith, reached))
@@ -57,7 +58,8 @@ module _ (s : Dimensions) (ws : List World) (ps : List Part) (all : AreWithin s 
       let within : IsWithin s ws p = all i d low in
       subst (λ (v : World). p.from + p.many ≤ length v.log) (sym (read-at s ws p.group w within.group read)) within.reached
 
-  pub found : (w : World) (e : Entry) → w ≡ slice_index_or ws p.group w → e ≡ slice_index_or w.log (p.from + left) e → left < p.many → slice_get (log_in s ws ps) place ≡ Some (p.group, e)
+  pub found : (w : World) (e : Entry) → w ≡ slice_index_or ws p.group w → e ≡ slice_index_or w.log (p.from + left) e
+      → left < p.many → slice_get (log_in s ws ps) place ≡ Some (p.group, e)
   found w e read here few =
       let within : IsWithin s ws p = all i d low in
       was ∙ parts ∙ in-tagged p.group p.from p.many left (at (opening s) ws p.group).log (log_in s ws (drop (i + 1) ps)) e few within.reached

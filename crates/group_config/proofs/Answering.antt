@@ -23,16 +23,24 @@ answered (Ok given) a (inr want) = absurd (cc want)
 answered (Err key) a (inl bad) = absurd (cc bad)
 answered (Err key) a (inr want) = absurd (cc want)
 
-pub fails : {A B : Type 0} (wanted : Result A MemberKey) (next : A → Result B MemberKey) (fault : MemberFault) → Answers wanted (Err fault) → Answers (follow wanted next) (Err fault)
+pub fails : {A B : Type 0} (wanted : Result A MemberKey) (next : A → Result B MemberKey) (fault : MemberFault)
+    → Answers wanted (Err fault) → Answers (follow wanted next) (Err fault)
 fails (Ok given) next fault (inl same) = absurd (cc same)
 fails (Ok given) next fault (inr want) = wants (next given) fault (cc want)
 fails (Err key) next fault (inl bad) = inl (ap Err (cc bad))
 fails (Err key) next fault (inr want) = inr (ap Err (cc want))
 
 -- where no members are given
-pub members-fail : (word : Option (List ℕ)) (ms : Members) (group : List ℕ) (shape : Dimensions) (fault : MemberFault) → group_in ms ≡ Some group → shape_of ms ≡ Ok shape
+pub members-fail : (word : Option (List ℕ)) (ms : Members) (group : List ℕ) (shape : Dimensions) (fault : MemberFault)
+    → group_in ms ≡ Some group → shape_of ms ≡ Ok shape
     → Answers (members_of (processes_of shape) (get_member (codes "members") ms)) (Err fault) → Answers (settings_of word ms) (Err fault)
 members-fail word ms group shape fault is_group is_shape answers =
-    subst (λ (o : Option (List ℕ)). Answers (check key.Group o (λ group. with_shape (shape_of ms) (λ shape. follow (members_of (processes_of shape) (get_member (codes "members") ms)) (λ members. behind_members word ms group shape members)))) (Err fault)) (sym is_group)
-    (subst (λ (r : Result Dimensions ConfigKey). Answers (with_shape r (λ shape. follow (members_of (processes_of shape) (get_member (codes "members") ms)) (λ members. behind_members word ms group shape members))) (Err fault)) (sym is_shape)
+    subst (λ (o : Option (List ℕ)).
+    Answers (check key.Group o
+    (λ group. with_shape (shape_of ms)
+    (λ shape. follow (members_of (processes_of shape) (get_member (codes "members") ms))
+    (λ members. behind_members word ms group shape members)))) (Err fault)) (sym is_group)
+    (subst (λ (r : Result Dimensions ConfigKey).
+    Answers (with_shape r (λ shape. follow (members_of (processes_of shape) (get_member (codes "members") ms))
+    (λ members. behind_members word ms group shape members))) (Err fault)) (sym is_shape)
     (fails (members_of (processes_of shape) (get_member (codes "members") ms)) (behind_members word ms group shape) fault answers))

@@ -26,7 +26,8 @@ comes text ms result document = by (settings_of ms) refl where
   by (Err key) are (inr is) = subst (ComesOf text) (sym is) tt
 
 -- and of a member's
-pub member_comes : (word : Option (List ℕ)) (text : List ℕ) (ms : Members) (result : Result MemberSettings MemberFault) → IsDocument text ms → Answers (member.settings_of word ms) result → MemberComesOf word text result
+pub member_comes : (word : Option (List ℕ)) (text : List ℕ) (ms : Members) (result : Result MemberSettings MemberFault)
+    → IsDocument text ms → Answers (member.settings_of word ms) result → MemberComesOf word text result
 member_comes word text ms result document = by (member.settings_of word ms) refl where
   by : (checked : Result MemberSettings MemberKey) → member.settings_of word ms ≡ checked → Answers checked result → MemberComesOf word text result
   by (Ok settings) are (inl is) = subst (MemberComesOf word text) (sym is) (record { members = ms; document = document; are = are })
@@ -35,7 +36,8 @@ member_comes word text ms result document = by (member.settings_of word ms) refl
   by (Err key) are (inr is) = subst (MemberComesOf word text) (sym is) tt
 
 -- and of how a member is watched
-pub watch_comes : (text : List ℕ) (ms : Members) (result : Result WatchSettings MemberFault) → IsDocument text ms → Answers (watch_of ms) result → WatchComesOf text result
+pub watch_comes : (text : List ℕ) (ms : Members) (result : Result WatchSettings MemberFault) → IsDocument text ms
+    → Answers (watch_of ms) result → WatchComesOf text result
 watch_comes text ms result document = by (watch_of ms) refl where
   by : (checked : Result WatchSettings MemberKey) → watch_of ms ≡ checked → Answers checked result → WatchComesOf text result
   by (Ok settings) are (inl is) = subst (WatchComesOf text) (sym is) (record { members = ms; document = document; are = are })
@@ -44,7 +46,8 @@ watch_comes text ms result document = by (watch_of ms) refl where
   by (Err key) are (inr is) = subst (WatchComesOf text) (sym is) tt
 
 -- and of how items are carried
-pub carry_comes : (text : List ℕ) (ms : Members) (result : Result CarrySettings CarryKeyFault) → IsDocument text ms → Settles (carry_of ms) result → CarryComesOf text result
+pub carry_comes : (text : List ℕ) (ms : Members) (result : Result CarrySettings CarryKeyFault) → IsDocument text ms
+    → Settles (carry_of ms) result → CarryComesOf text result
 carry_comes text ms result document = by (carry_of ms) refl where
   by : (checked : Result CarrySettings CarryKey) → carry_of ms ≡ checked → Settles checked result → CarryComesOf text result
   by (Ok settings) are (inl is) = subst (CarryComesOf text) (sym is) (record { members = ms; document = document; are = are })

@@ -21,7 +21,8 @@ each_among-members keys [] = refl
 each_among-members keys (e ∷ es) = ap (λ (b : Bool). list_any (λ known. bytes_eq known (string_bytes e.0)) keys && b) (each_among-members keys es)
 
 -- one more key
-pub each_among-next : (keys : List (List ℕ)) (ks rest : List (String Global)) (k : String Global) (key : List ℕ) (known : Bool) → ks ≡ k ∷ rest → key ≡ string_bytes k → known ≡ list_any (λ k. bytes_eq k key) keys
+pub each_among-next : (keys : List (List ℕ)) (ks rest : List (String Global)) (k : String Global) (key : List ℕ)
+    (known : Bool) → ks ≡ k ∷ rest → key ≡ string_bytes k → known ≡ list_any (λ k. bytes_eq k key) keys
     → each_among keys ks ≡ (known && each_among keys rest)
 each_among-next keys ks rest k key known next same found =
     ap (each_among keys) next ∙ ap (λ (b : Bool). b && each_among keys rest) (sym (found ∙ ap (λ (bs : List ℕ). list_any (λ k. bytes_eq k bs) keys) same))

@@ -1,5 +1,6 @@
 -- The members that are read one by one, and their names.
-use Rattle.std.proofs.Common.{◌≡◌, ℕ, ◌+◌, Bool, true, false, List, [], ◌∷◌, ◌++◌, Option, Some, None, option_map, Result, Ok, Err, if◌then◌else◌, refl, sym, ap, subst, ◌∙◌, suc, arith}
+use Rattle.std.proofs.Common.{◌≡◌, ℕ, ◌+◌, Bool, true, false, List, [], ◌∷◌, ◌++◌, Option, Some, None, option_map}
+use Rattle.std.proofs.Common.{Result, Ok, Err, if◌then◌else◌, refl, sym, ap, subst, ◌∙◌, suc, arith}
 use Rattle.std.proofs.lemmas.List.{append_assoc}
 use Rattle.std.specs.Str.{bytes_eq}
 use Rattle.toml.specs.Data.{Data, Items, item}
@@ -25,8 +26,10 @@ from-next at (Some n) = ap (λ (n : ℕ). Some n) (omega arith)
 pub index-here : (name : List ℕ) (e : MemberEntry) (es : List MemberEntry) (at : ℕ) → bytes_eq e.name name ≡ true → from at (index_of name (e ∷ es)) ≡ Some at
 index-here name e es at same = ap (λ (b : Bool). from at (if b then Some 0 else option_map suc (index_of name es))) same ∙ ap (λ (n : ℕ). Some n) (omega arith)
 
-pub index-next : (name : List ℕ) (e : MemberEntry) (es : List MemberEntry) (at : ℕ) → bytes_eq e.name name ≡ false → from at (index_of name (e ∷ es)) ≡ from (at + 1) (index_of name es)
-index-next name e es at apart = ap (λ (b : Bool). from at (if b then Some 0 else option_map suc (index_of name es))) apart ∙ sym (from-next at (index_of name es))
+pub index-next : (name : List ℕ) (e : MemberEntry) (es : List MemberEntry) (at : ℕ) → bytes_eq e.name name ≡ false
+    → from at (index_of name (e ∷ es)) ≡ from (at + 1) (index_of name es)
+index-next name e es at apart = ap (λ (b : Bool). from at (if b then Some 0 else option_map suc (index_of name es)))
+    apart ∙ sym (from-next at (index_of name es))
 
 -- members before those that are read
 abbrev pub behind : List MemberEntry → Result (List MemberEntry) MemberKey → Result (List MemberEntry) MemberKey
@@ -36,27 +39,38 @@ pub behind-first : (rest : Result (List MemberEntry) MemberKey) → behind [] re
 behind-first (Ok es) = refl
 behind-first (Err key) = refl
 
-joined : (before : List MemberEntry) (e : MemberEntry) (rest : Result (List MemberEntry) MemberKey) → behind before (follow rest (λ es. Ok (e ∷ es))) ≡ behind (before ++ e ∷ []) rest
+joined : (before : List MemberEntry) (e : MemberEntry) (rest : Result (List MemberEntry) MemberKey)
+    → behind before (follow rest (λ es. Ok (e ∷ es))) ≡ behind (before ++ e ∷ []) rest
 joined before e (Ok es) = ap (λ (l : List MemberEntry). Ok l) (sym (append_assoc before (e ∷ []) es))
 joined before e (Err key) = refl
 
 -- one more
-pub behind-next : (before : List MemberEntry) (d : Data) (ds : Items) (e : MemberEntry) → Answers (entry_of d) (Ok e) → behind before (entries_of (item d ds)) ≡ behind (before ++ e ∷ []) (entries_of ds)
+pub behind-next : (before : List MemberEntry) (d : Data) (ds : Items) (e : MemberEntry) → Answers (entry_of d) (Ok e)
+    → behind before (entries_of (item d ds)) ≡ behind (before ++ e ∷ []) (entries_of ds)
 behind-next before d ds e answers =
-    ap (λ (wanted : Result MemberEntry MemberKey). behind before (follow wanted (λ f. follow (entries_of ds) (λ es. Ok (f ∷ es))))) (answered (entry_of d) e answers) ∙ joined before e (entries_of ds)
+    ap (λ (wanted : Result MemberEntry MemberKey).
+    behind before (follow wanted (λ f. follow (entries_of ds) (λ es. Ok (f ∷ es)))))
+    (answered (entry_of d) e answers) ∙ joined before e (entries_of ds)
 
 -- one that isn't given
-pub behind-fails : (before : List MemberEntry) (d : Data) (ds : Items) (fault : MemberFault) → Answers (entry_of d) (Err fault) → Answers (behind before (entries_of (item d ds))) (Err fault)
-behind-fails before d ds fault answers = fails (follow (entry_of d) (λ e. follow (entries_of ds) (λ es. Ok (e ∷ es)))) (λ es. Ok (before ++ es)) fault (fails (entry_of d) (λ e. follow (entries_of ds) (λ es. Ok (e ∷ es))) fault answers)
+pub behind-fails : (before : List MemberEntry) (d : Data) (ds : Items) (fault : MemberFault)
+    → Answers (entry_of d) (Err fault) → Answers (behind before (entries_of (item d ds))) (Err fault)
+behind-fails before d ds fault answers = fails (follow (entry_of d) (λ e. follow (entries_of ds) (λ es. Ok (e ∷ es))))
+    (λ es. Ok (before ++ es)) fault (fails (entry_of d) (λ e. follow (entries_of ds) (λ es. Ok (e ∷ es))) fault answers)
 
 -- the values that are left
-pub left-next : (before : List MemberEntry) (left rest : List Value) (first : Value) (all : Result (List MemberEntry) MemberKey) (e : MemberEntry) → left ≡ first ∷ rest → behind before (entries_of (items_view left)) ≡ all
+pub left-next : (before : List MemberEntry) (left rest : List Value) (first : Value)
+    (all : Result (List MemberEntry) MemberKey) (e : MemberEntry) → left ≡ first ∷ rest
+    → behind before (entries_of (items_view left)) ≡ all
     → Answers (entry_of (view first)) (Ok e) → behind (before ++ e ∷ []) (entries_of (items_view rest)) ≡ all
 left-next before left rest first all e is kept answers =
     sym (behind-next before (view first) (items_view rest) e answers) ∙ sym (ap (λ (vs : List Value). behind before (entries_of (items_view vs))) is) ∙ kept
 
-pub left-fails : (before : List MemberEntry) (left rest : List Value) (first : Value) (all : Result (List MemberEntry) MemberKey) (fault : MemberFault) → left ≡ first ∷ rest → behind before (entries_of (items_view left)) ≡ all
+pub left-fails : (before : List MemberEntry) (left rest : List Value) (first : Value)
+    (all : Result (List MemberEntry) MemberKey) (fault : MemberFault) → left ≡ first ∷ rest
+    → behind before (entries_of (items_view left)) ≡ all
     → Answers (entry_of (view first)) (Err fault) → Answers all (Err fault)
 left-fails before left rest first all fault is kept answers =
-    subst (λ (wanted : Result (List MemberEntry) MemberKey). Answers wanted (Err fault)) (sym (ap (λ (vs : List Value). behind before (entries_of (items_view vs))) is) ∙ kept)
+    subst (λ (wanted : Result (List MemberEntry) MemberKey). Answers wanted (Err fault))
+    (sym (ap (λ (vs : List Value). behind before (entries_of (items_view vs))) is) ∙ kept)
     (behind-fails before (view first) (items_view rest) fault answers)

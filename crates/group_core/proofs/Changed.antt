@@ -66,11 +66,13 @@ set-own (z ∷ zs) zero y is = ap (λ (w : _). w ∷ zs) is
 set-own (z ∷ zs) (suc x) y is = ap (λ (rest : _). z ∷ rest) (set-own zs x y is)
 
 -- one that is as it was
-pub same-seats : (v : Seats) (s : Dimensions) (xs : List NodeStanding) (x : ℕ) (y new : NodeStanding) → seats_of s xs ≡ v → y ≡ get_or xs x y → new ≡ y → seats_of s (set xs x new) ≡ v
+pub same-seats : (v : Seats) (s : Dimensions) (xs : List NodeStanding) (x : ℕ) (y new : NodeStanding)
+    → seats_of s xs ≡ v → y ≡ get_or xs x y → new ≡ y → seats_of s (set xs x new) ≡ v
 same-seats v s xs x y new view value same = ap (λ (z : NodeStanding). seats_of s (set xs x z)) same ∙ ap (seats_of s) (set-own xs x y value) ∙ view
 
 -- one node, seen among all
-module _ (v : Seats) (s : Dimensions) (xs : List NodeStanding) (view : seats_of s xs ≡ v) (seated : AreSeated s xs) (p : ProcessId) (named : IsProcess v.shape p) (x : ℕ) (here : x ≡ index_of s p)
+module _ (v : Seats) (s : Dimensions) (xs : List NodeStanding) (view : seats_of s xs ≡ v) (seated : AreSeated s xs)
+    (p : ProcessId) (named : IsProcess v.shape p) (x : ℕ) (here : x ≡ index_of s p)
     (y : NodeStanding) (value : y ≡ get_or xs x y) where
   inside : IsProcess s p
   inside = subst (λ (t : Dimensions). IsProcess t p) (sym (ap (λ (w : Seats). w.shape) view)) named
@@ -87,13 +89,16 @@ module _ (v : Seats) (s : Dimensions) (xs : List NodeStanding) (view : seats_of 
       let step : t v.shape (seat v p) ≡ node.made new.node out = (λ i. t ((sym own-shape) i) ((sym own-node) i)) ∙ is in
       ap (one_changed v p) step
       ∙ ap (λ (w : Seats). one_changed w p (node.made new.node out)) (sym view)
-      ∙ ap (λ (nodes : List Node). record { nodes = nodes; answer = out.answer; settled = out.settled.items }) (sym (nodes-changed s xs seated p inside x here new))
+      ∙ ap (λ (nodes : List Node). record { nodes = nodes; answer = out.answer; settled = out.settled.items })
+      (sym (nodes-changed s xs seated p inside x here new))
 
 -- one that stays as it is
-pub still : (v : Seats) (s : Dimensions) (xs : List NodeStanding) → seats_of s xs ≡ v → AreSeated s xs → (p : ProcessId) → IsProcess v.shape p → (y : NodeStanding) → y.shape ≡ v.shape → y.node ≡ seat v p
+pub still : (v : Seats) (s : Dimensions) (xs : List NodeStanding) → seats_of s xs ≡ v → AreSeated s xs → (p : ProcessId)
+    → IsProcess v.shape p → (y : NodeStanding) → y.shape ≡ v.shape → y.node ≡ seat v p
     → (t : Dimensions → Node → NodeStep) (out : NodeOut) → t y.shape y.node ≡ node.made y.node out → one_changed v p (t v.shape (seat v p)) ≡ made v out
 still v s xs view seated p named y own-shape own-node t out is =
-    let step : t v.shape (seat v p) ≡ node.made (seat v p) out = (λ i. t ((sym own-shape) i) ((sym own-node) i)) ∙ is ∙ ap (λ (n : Node). node.made n out) own-node in
+    let step : t v.shape (seat v p) ≡ node.made (seat v p) out = (λ i. t ((sym own-shape) i) ((sym own-node) i)) ∙ is
+    ∙ ap (λ (n : Node). node.made n out) own-node in
     let long : length v.nodes ≡ v.shape.k + v.shape.m
     = ap (λ (w : Seats). length w.nodes) (sym view) ∙ many-nodes xs ∙ seated.many ∙ ap (λ (w : Seats). w.shape.k + w.shape.m) view in
     ap (one_changed v p) step

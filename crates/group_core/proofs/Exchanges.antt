@@ -22,7 +22,9 @@ any-at (x ∷ xs) zero d e below = refl
 any-at (x ∷ xs) (suc i) d e below = any-at xs i d e (omega (arith, below))
 
 module _ (s : Dimensions) (xs : List NodeStanding) (seated : AreSeated s xs) (from to : ProcessId) (fin : IsProcess s from) (tin : IsProcess s to)
-    (i j : ℕ) (i_is : i ≡ index_of s from) (j_is : j ≡ index_of s to) (from_name : (seat (seats_of s xs) from).process.name ≡ from) (to_name : (seat (seats_of s xs) to).process.name ≡ to) where
+    (i j : ℕ) (i_is : i ≡ index_of s from) (j_is : j ≡ index_of s to)
+    (from_name : (seat (seats_of s xs) from).process.name ≡ from) (to_name : (seat (seats_of s xs) to).process.name
+    ≡ to) where
   abbrev a : NodeStanding
   a = get_or xs i (record { shape = s; node = opening_node s from })
 
@@ -56,11 +58,15 @@ module _ (s : Dimensions) (xs : List NodeStanding) (seated : AreSeated s xs) (fr
   pub can-come : ((seat (seats_of s xs) to).down ≡ false → (seat (seats_of s xs) to).dead ≡ false → (m : Message) (rest : List Message)
       → at [] (seat (seats_of s xs) from).links (index_of s to) ≡ m ∷ rest → Comes s from m (seat (seats_of s xs) to).process) → CanCome xs i j
   can-come comes = record { sender = a; receiver = b; from = a-there; to = b-there; same = a-shape ∙ sym b-shape; comes = coming } where
-    coming : b.node.down ≡ false → b.node.dead ≡ false → (m : Message) (rest : List Message) → at [] a.node.links (index_of b.shape b.node.process.name) ≡ m ∷ rest
+    coming : b.node.down ≡ false → b.node.dead ≡ false → (m : Message) (rest : List Message)
+        → at [] a.node.links (index_of b.shape b.node.process.name) ≡ m ∷ rest
         → Comes b.shape a.node.process.name m b.node.process
     coming up lives m rest first =
-        let there : at [] (seat (seats_of s xs) from).links (index_of s to) ≡ m ∷ rest = sym (λ k. at [] (a-node k).links (index_of (b-shape k) (b-name k))) ∙ first in
-        let here : Comes s from m (seat (seats_of s xs) to).process = comes (subst (λ (n : Node). n.down ≡ false) b-node up) (subst (λ (n : Node). n.dead ≡ false) b-node lives) m rest there in
+        let there : at [] (seat (seats_of s xs) from).links (index_of s to) ≡ m ∷ rest =
+        sym (λ k. at [] (a-node k).links (index_of (b-shape k) (b-name k))) ∙ first in
+        let here : Comes s from m (seat (seats_of s xs) to).process =
+        comes (subst (λ (n : Node). n.down ≡ false) b-node up) (subst (λ (n : Node). n.dead ≡ false) b-node lives) m
+        rest there in
         subst (λ (t : Dimensions). Comes t a.node.process.name m b.node.process) (sym b-shape)
         (subst (λ (p : ProcessId). Comes s p m b.node.process) (sym a-name) (subst (λ (n : Node). Comes s from m n.process) (sym b-node) here))
 
@@ -85,11 +91,15 @@ module _ (s : Dimensions) (xs : List NodeStanding) (seated : AreSeated s xs) (fr
         ap nodes_of ex.items ∙ nodes-changed s (set xs i ex.sender) first-seated to tin j j_is ex.receiver
         ∙ ap (with_node s to ex.receiver.node) (nodes-changed s xs seated from fin i i_is ex.sender)
 
-    stepped : deliver_nodes s from to (seat (seats_of s xs) from) (seat (seats_of s xs) to) ≡ record { sender = ex.sender.node; receiver = node.made ex.receiver.node out }
+    stepped : deliver_nodes s from to (seat (seats_of s xs) from) (seat (seats_of s xs) to)
+        ≡ record { sender = ex.sender.node; receiver = node.made ex.receiver.node out }
     stepped = sym (λ k. deliver_nodes (b-shape k) (a-name k) (b-name k) (a-node k) (b-node k)) ∙ done.step
 
-    pub exchanged-is : two_changed (seats_of s xs) from to (deliver_nodes s from to (seat (seats_of s xs) from) (seat (seats_of s xs) to)) ≡ made (seats_of s ys) out
-    exchanged-is = ap (two_changed (seats_of s xs) from to) stepped ∙ ap (λ (nodes : List Node). record { nodes = nodes; answer = out.answer; settled = out.settled.items }) (sym nodes-after)
+    pub exchanged-is : two_changed (seats_of s xs) from to
+        (deliver_nodes s from to (seat (seats_of s xs) from) (seat (seats_of s xs) to)) ≡ made (seats_of s ys) out
+    exchanged-is = ap (two_changed (seats_of s xs) from to) stepped
+        ∙ ap (λ (nodes : List Node). record { nodes = nodes; answer = out.answer; settled = out.settled.items })
+        (sym nodes-after)
 
   pub seated-either : (ys : List NodeStanding) (r : Result NodeOut AllocError) → IfOk r (λ out. Exchanged xs ys i j out) → OnErr r (ys ≡ xs) → AreSeated s ys
   seated-either ys (Ok out) ex same = seated-after ys out ex

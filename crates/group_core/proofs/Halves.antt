@@ -13,25 +13,29 @@ use Rattle.group_core.specs.Pairs.{CanCome, Delivered, Exchanged, IsAt}
 use Rattle.group_core.proofs.Paired.{back-at, front-at, set-either, two-set}
 
 abbrev pub ComesTo : NodeStanding → NodeStanding → Type 0
-ComesTo a b = b.node.down ≡ false → b.node.dead ≡ false → (m : Message) (rest : List Message) → at [] a.node.links (index_of b.shape b.node.process.name) ≡ m ∷ rest
+ComesTo a b = b.node.down ≡ false → b.node.dead ≡ false → (m : Message) (rest : List Message)
+    → at [] a.node.links (index_of b.shape b.node.process.name) ≡ m ∷ rest
     → Comes b.shape a.node.process.name m b.node.process
 
 -- what a delivery from a to b makes
 abbrev pub Makes : NodeStanding → NodeStanding → NodeStanding → NodeStanding → Result NodeOut AllocError → Type 0
-Makes a b a2 b2 r = IfOk r (λ out. deliver_nodes b.shape a.node.process.name b.node.process.name a.node b.node ≡ record { sender = a2.node; receiver = node.made b2.node out })
+Makes a b a2 b2 r = IfOk r (λ out. deliver_nodes b.shape a.node.process.name b.node.process.name a.node b.node
+    ≡ record { sender = a2.node; receiver = node.made b2.node out })
 
 same-comes : (a b x y : NodeStanding) → a ≡ x → b ≡ y → ComesTo x y → ComesTo a b
 same-comes a b x y a_is b_is comes = subst (λ (z : NodeStanding). ComesTo z b) (sym a_is) (subst (λ (z : NodeStanding). ComesTo x z) (sym b_is) comes)
 
 one-made : (a b a2 b2 x y : NodeStanding) (out : NodeOut) → a ≡ x → b ≡ y → a2.shape ≡ a.shape → b2.shape ≡ b.shape
-    → deliver_nodes b.shape a.node.process.name b.node.process.name a.node b.node ≡ record { sender = a2.node; receiver = node.made b2.node out } → Delivered x y a2 b2 out
+    → deliver_nodes b.shape a.node.process.name b.node.process.name a.node b.node
+    ≡ record { sender = a2.node; receiver = node.made b2.node out } → Delivered x y a2 b2 out
 one-made a b a2 b2 x y out a_is b_is sa sb is = record {
   sender_shape = sa ∙ ap (λ (z : NodeStanding). z.shape) a_is;
   receiver_shape = sb ∙ ap (λ (z : NodeStanding). z.shape) b_is;
   step = sym (λ k. deliver_nodes (b_is k).shape (a_is k).node.process.name (b_is k).node.process.name (a_is k).node (b_is k).node) ∙ is;
 }
 
-module _ (xs front back : List NodeStanding) (i j : ℕ) (e d : NodeStanding) (low : i < j) (within : j < length xs) (front_is : front ≡ take j xs) (back_is : back ≡ drop j xs) where
+module _ (xs front back : List NodeStanding) (i j : ℕ) (e d : NodeStanding) (low : i < j) (within : j < length xs)
+    (front_is : front ≡ take j xs) (back_is : back ≡ drop j xs) where
   at-low : (x : NodeStanding) → IsAt xs i x → get_or front i e ≡ x
   at-low x is = ap (λ (l : List NodeStanding). get_or l i e) front_is ∙ front-at xs i j e low ∙ is e
 
@@ -45,12 +49,14 @@ module _ (xs front back : List NodeStanding) (i j : ℕ) (e d : NodeStanding) (l
   comes-up can = same-comes _ _ can.sender can.receiver (at-low can.sender can.from) (at-high can.receiver can.to) can.comes
 
   pub same-up : CanCome xs i j → (get_or front i e).shape ≡ (get_or back 0 d).shape
-  same-up can = ap (λ (z : NodeStanding). z.shape) (at-low can.sender can.from) ∙ can.same ∙ sym (ap (λ (z : NodeStanding). z.shape) (at-high can.receiver can.to))
+  same-up can = ap (λ (z : NodeStanding). z.shape) (at-low can.sender can.from) ∙ can.same
+      ∙ sym (ap (λ (z : NodeStanding). z.shape) (at-high can.receiver can.to))
 
   pub comes-down : CanCome xs j i → ComesTo (get_or back 0 d) (get_or front i e)
   comes-down can = same-comes _ _ can.sender can.receiver (at-high can.sender can.from) (at-low can.receiver can.to) can.comes
 
-  pub exchanged-up : (ys : List NodeStanding) (a2 b2 : NodeStanding) (r : Result NodeOut AllocError) → ys ≡ set front i a2 ++ set back 0 b2 → a2.shape ≡ (get_or front i e).shape
+  pub exchanged-up : (ys : List NodeStanding) (a2 b2 : NodeStanding) (r : Result NodeOut AllocError)
+      → ys ≡ set front i a2 ++ set back 0 b2 → a2.shape ≡ (get_or front i e).shape
       → b2.shape ≡ (get_or back 0 d).shape → Makes (get_or front i e) (get_or back 0 d) a2 b2 r → IfOk r (λ out. Exchanged xs ys i j out)
   exchanged-up ys a2 b2 (Ok out) is sa sb makes = record {
     sender = a2;
@@ -60,7 +66,8 @@ module _ (xs front back : List NodeStanding) (i j : ℕ) (e d : NodeStanding) (l
   }
   exchanged-up ys a2 b2 (Err error) is sa sb makes = tt
 
-  pub exchanged-down : (ys : List NodeStanding) (a2 b2 : NodeStanding) (r : Result NodeOut AllocError) → ys ≡ set front i b2 ++ set back 0 a2 → a2.shape ≡ (get_or back 0 d).shape
+  pub exchanged-down : (ys : List NodeStanding) (a2 b2 : NodeStanding) (r : Result NodeOut AllocError)
+      → ys ≡ set front i b2 ++ set back 0 a2 → a2.shape ≡ (get_or back 0 d).shape
       → b2.shape ≡ (get_or front i e).shape → Makes (get_or back 0 d) (get_or front i e) a2 b2 r → IfOk r (λ out. Exchanged xs ys j i out)
   exchanged-down ys a2 b2 (Ok out) is sa sb makes = record {
     sender = a2;

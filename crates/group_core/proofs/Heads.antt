@@ -25,7 +25,8 @@ pub data_heads : (w : World) (d : ℕ) → is_dead w (DataNode d) ≡ false → 
 data_heads w d lives = record { within = omega arith; lives = lives; lowest = λ q low. absurd (omega (arith, low)) }
 
 -- and then the first parity process that lives
-pub parity_heads : (w : World) (d i : ℕ) → i < w.shape.m → is_dead w (DataNode d) ≡ true → ((j : ℕ) → j < i → is_dead w (ParityNode j) ≡ true) → is_dead w (ParityNode i) ≡ false
+pub parity_heads : (w : World) (d i : ℕ) → i < w.shape.m → is_dead w (DataNode d) ≡ true
+    → ((j : ℕ) → j < i → is_dead w (ParityNode j) ≡ true) → is_dead w (ParityNode i) ≡ false
     → Heads w d (suc i)
 parity_heads w d i low gone below lives = record { within = omega (arith, low); lives = lives; lowest = lower } where
   lower : (q : ℕ) → q < suc i → is_dead w (of_rank d q) ≡ true

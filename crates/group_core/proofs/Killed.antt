@@ -10,16 +10,20 @@ use Rattle.group_node.specs.Standing.{NodeStanding}
 use Rattle.group_core.specs.Seats.{AreSeated, nodes_of, seat, seats_of}
 use Rattle.group_core.proofs.Changed.{nodes-changed, seat-is, shape-is}
 
-pub already : (dead : Bool) (s : Dimensions) (nodes : List Node) (p : ProcessId) (keep : ℕ) → dead ≡ true → all_change dead s nodes p keep ≡ record { nodes = nodes; answer = says.AlreadyDead; settled = [] }
+pub already : (dead : Bool) (s : Dimensions) (nodes : List Node) (p : ProcessId) (keep : ℕ) → dead ≡ true
+    → all_change dead s nodes p keep ≡ record { nodes = nodes; answer = says.AlreadyDead; settled = [] }
 already true s nodes p keep is = refl
 already false s nodes p keep is = absurd (cc is)
 
-living : (dead : Bool) (s : Dimensions) (nodes : List Node) (p : ProcessId) (keep : ℕ) → dead ≡ false → all_change dead s nodes p keep ≡ record { nodes = failed_nodes s nodes p keep; answer = says.Done; settled = [] }
+living : (dead : Bool) (s : Dimensions) (nodes : List Node) (p : ProcessId) (keep : ℕ) → dead ≡ false
+    → all_change dead s nodes p keep ≡ record { nodes = failed_nodes s nodes p keep; answer = says.Done; settled = [] }
 living true s nodes p keep is = absurd (cc is)
 living false s nodes p keep is = refl
 
-module _ (s : Dimensions) (xs : List NodeStanding) (seated : AreSeated s xs) (p : ProcessId) (pin : IsProcess s p) (x : ℕ) (here : x ≡ index_of s p) (name : (seat (seats_of s xs) p).process.name ≡ p)
-    (keep : ℕ) (y died : NodeStanding) (value : y ≡ get_or xs x y) (dies : died ≡ record { shape = y.shape; node = node_failed y.shape y.node.process.name keep y.node }) where
+module _ (s : Dimensions) (xs : List NodeStanding) (seated : AreSeated s xs) (p : ProcessId) (pin : IsProcess s p)
+    (x : ℕ) (here : x ≡ index_of s p) (name : (seat (seats_of s xs) p).process.name ≡ p)
+    (keep : ℕ) (y died : NodeStanding) (value : y ≡ get_or xs x y)
+    (dies : died ≡ record { shape = y.shape; node = node_failed y.shape y.node.process.name keep y.node }) where
   own : y.node ≡ seat (seats_of s xs) p
   own = ap (λ (z : NodeStanding). z.node) value ∙ seat-is s xs seated p pin x here y
 
@@ -32,12 +36,15 @@ module _ (s : Dimensions) (xs : List NodeStanding) (seated : AreSeated s xs) (p 
   died-node : died.node ≡ node_failed s p keep (seat (seats_of s xs) p)
   died-node = ap (λ (z : NodeStanding). z.node) dies ∙ (λ i. node_failed (shape i) ((ap (λ (n : Node). n.process.name) own ∙ name) i) keep (own i))
 
-  pub killed : (down : Bool) (ys : List NodeStanding) → y.node.dead ≡ false → down ≡ nat_lt s.m (dead_nodes (nodes_of (set xs x died))) → nodes_of ys ≡ map (with_down down) (nodes_of (set xs x died))
+  pub killed : (down : Bool) (ys : List NodeStanding) → y.node.dead ≡ false
+      → down ≡ nat_lt s.m (dead_nodes (nodes_of (set xs x died)))
+      → nodes_of ys ≡ map (with_down down) (nodes_of (set xs x died))
       → all_change (seat (seats_of s xs) p).dead s (nodes_of xs) p keep ≡ record { nodes = nodes_of ys; answer = says.Done; settled = [] }
   killed down ys lives word told =
       let cut : nodes_of (set xs x died) ≡ with_node s p (node_failed s p keep (node_in s (nodes_of xs) p)) (nodes_of xs)
       = nodes-changed s xs seated p pin x here died ∙ ap (λ (n : Node). with_node s p n (nodes_of xs)) died-node in
       let all : nodes_of ys ≡ failed_nodes s (nodes_of xs) p keep
-      = told ∙ ap (λ (d : Bool). map (with_down d) (nodes_of (set xs x died))) word ∙ ap (λ (ns : List Node). map (with_down (nat_lt s.m (dead_nodes ns))) ns) cut in
+      = told ∙ ap (λ (d : Bool). map (with_down d) (nodes_of (set xs x died))) word
+      ∙ ap (λ (ns : List Node). map (with_down (nat_lt s.m (dead_nodes ns))) ns) cut in
       living (seat (seats_of s xs) p).dead s (nodes_of xs) p keep (ap (λ (n : Node). n.dead) (sym own) ∙ lives)
       ∙ ap (λ (ns : List Node). record { nodes = ns; answer = says.Done; settled = [] }) (sym all)

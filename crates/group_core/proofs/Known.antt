@@ -39,7 +39,8 @@ module _ (w : World) (has : HasRun w) where
   word-is = subst NodesKnowDown (sym has.is) (words_always w.shape has.events has.run)
 
   pub told-down : (b : Bool) → b ≡ (node_of w (DataNode 0)).down → (IsTrue b → IsDown w) × (IsDown w → IsTrue b)
-  told-down b is = subst (λ (x : Bool). (IsTrue x → IsDown w) × (IsDown w → IsTrue x)) (sym (is ∙ word-is (DataNode 0) has.run.0.k.0)) (less-word w.shape.m (dead_nodes w.nodes))
+  told-down b is = subst (λ (x : Bool). (IsTrue x → IsDown w) × (IsDown w → IsTrue x))
+      (sym (is ∙ word-is (DataNode 0) has.run.0.k.0)) (less-word w.shape.m (dead_nodes w.nodes))
 
   headline : Headline w.shape has.events
   headline = headline_always w.shape has.events has.run
@@ -76,7 +77,8 @@ module _ (w : World) (has : HasRun w) where
   fit = subst (FirstsFit w.shape) (sym has.is) (fits_always w.shape has.events has.run)
 
   module _ (from to : ProcessId) (m : Message) (rest : List Message) (fin : IsProcess w.shape from) (tin : IsProcess w.shape to) (apart : from ≢ to)
-      (named : (process_of w to).name ≡ to) (is_up : (node_of w to).down ≡ false) (lives : (node_of w to).dead ≡ false) (first : link w from to ≡ m ∷ rest) where
+      (named : (process_of w to).name ≡ to) (is_up : (node_of w to).down ≡ false) (lives : (node_of w to).dead ≡ false)
+      (first : link w from to ≡ m ∷ rest) where
     of-group : (x : Message) → m ≡ x → IsOfGroup w.shape x (process_of w to)
     of-group (tells.Notice dead) is =
         (subst (λ (v : World). ¬ (IsDown v) → KnowsFewDead w.shape v) (sym has.is) (few_dead_always w.shape has.events has.run))
@@ -103,6 +105,7 @@ module _ (w : World) (has : HasRun w) where
 
   pub known-low : w.events < 4611686018427387904 → (p : ProcessId) → IsProcess w.shape p → (node_of w p).dead ≡ false → IsKnownLow (node_of w p).process
   known-low few p pin lives = record {
-    updates = All-weaker (λ r. last_of r ≤ w.events) (λ r. last_of r < 4611686018427387904) (λ r low. omega (arith, low, few)) (process_of w p).replicas ((numbers-low w has).updates p (pin, lives));
+    updates = All-weaker (λ r. last_of r ≤ w.events) (λ r. last_of r < 4611686018427387904)
+        (λ r low. omega (arith, low, few)) (process_of w p).replicas ((numbers-low w has).updates p (pin, lives));
     sessions = let low = (numbers-low w has).sessions p (pin, lives) in omega (arith, low, few);
   }

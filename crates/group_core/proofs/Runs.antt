@@ -43,4 +43,5 @@ abbrev pub AreNamed : Dimensions → World → Type 0
 AreNamed s w = (p : ProcessId) → IsProcess s p → (node_of w p).process.name ≡ p
 
 pub named : (w : World) → HasRun w → AreNamed w.shape w
-named w has = subst (AreNamed w.shape) (world-from (no_history w.shape) has.events ∙ sym has.is) (λ p pin. (members_always w.shape has.events has.run).named p pin)
+named w has = subst (AreNamed w.shape) (world-from (no_history w.shape) has.events ∙ sym has.is)
+    (λ p pin. (members_always w.shape has.events has.run).named p pin)

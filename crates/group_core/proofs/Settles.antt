@@ -14,7 +14,8 @@ use Rattle.group_calls.specs.declared.event.Answer.{Answer}
 use Rattle.group_run.specs.Applying.{Settlement, head_at}
 use Rattle.group_run.specs.Asking.{ask_process, collect_from, fate_of}
 use Rattle.group_run.specs.Process.{Node}
-use Rattle.group_run.specs.World.{World, all_change, ask_node, collect_node, deliver_nodes, delivered, flush_node, flush_process, group_step, if_up, node_of, treated}
+use Rattle.group_run.specs.World.{World, all_change, ask_node, collect_node, deliver_nodes, delivered, flush_node}
+use Rattle.group_run.specs.World.{flush_process, group_step, if_up, node_of, treated}
 use Rattle.law_answers.specs.Steps.{waiting}
 use Rattle.law_answers.proofs.Settling.{settles_few}
 
@@ -54,7 +55,8 @@ module _ (s : Dimensions) (node : Node) where
     by false false (m ∷ rest) = (settles_few s node.process).received from m
 
 module _ (w : World) where
-  pub ask-settles : (caller n : ℕ) (op : Asked) (p : ProcessId) → n ≡ waiting (node_of w p).process.replicas → length (group_step w (Ask caller op p)).settled ≤ n + 1
+  pub ask-settles : (caller n : ℕ) (op : Asked) (p : ProcessId) → n ≡ waiting (node_of w p).process.replicas
+      → length (group_step w (Ask caller op p)).settled ≤ n + 1
   ask-settles caller n op p is = let few = asked w.shape (node_of w p) (record { caller = caller; call = at 0 w.asked caller }) op in omega (arith, few, is)
 
   pub delivery-settles : (n : ℕ) (from to : ProcessId) → n ≡ waiting (node_of w to).process.replicas → length (group_step w (Deliver from to)).settled ≤ n
@@ -69,7 +71,9 @@ module _ (w : World) where
   pub trace-settles : (caller call : ℕ) (d : Partition) (p : ProcessId) → length (group_step w (Trace caller call d p)).settled ≤ 0
   trace-settles caller call d p =
       let none = ap (λ (xs : List Settlement). length xs)
-      (traced w.shape (node_of w p) (fate_of w.shape caller call d.0 (node_of w p).process (head_at (node_of w p).process d.0)) (node_of w p).down (node_of w p).dead) in
+      (traced w.shape (node_of w p)
+      (fate_of w.shape caller call d.0 (node_of w p).process (head_at (node_of w p).process d.0)) (node_of w p).down
+      (node_of w p).dead) in
       omega (arith, none)
 
   pub fail-settles : (p : ProcessId) (keep : ℕ) → length (group_step w (Fail p keep)).settled ≤ 0

@@ -15,19 +15,22 @@ use Rattle.group_types.specs.Dimensions.{Dimensions}
 group-is : (v : Seats) (b : Books) → v.shape ≡ b.shape → group_of v b ≡ world_of v.nodes b
 group-is v b same = ap (λ (s : Dimensions). group_of (record { shape = s; nodes = v.nodes }) b) same
 
-next-is : (nodes : List Node) (b : Books) (e : Event) (g : GroupStep) (call : Option Call) → group_step (world_of nodes b) e ≡ g → call ≡ call_of (world_of nodes b) e
+next-is : (nodes : List Node) (b : Books) (e : Event) (g : GroupStep) (call : Option Call)
+    → group_step (world_of nodes b) e ≡ g → call ≡ call_of (world_of nodes b) e
     → (step (world_of nodes b) e).world ≡ world_of g.nodes (recorded call g.answer g.settled b)
 next-is nodes b e g call is called =
     ap (λ (x : GroupStep). world_of x.nodes (recorded (call_of (world_of nodes b) e) x.answer x.settled b)) is
     ∙ ap (λ (o : Option Call). world_of g.nodes (recorded o g.answer g.settled b)) (sym called)
 
-log-is : (nodes : List Node) (b : Books) (e : Event) (g : GroupStep) (call : Option Call) → group_step (world_of nodes b) e ≡ g → call ≡ call_of (world_of nodes b) e
+log-is : (nodes : List Node) (b : Books) (e : Event) (g : GroupStep) (call : Option Call)
+    → group_step (world_of nodes b) e ≡ g → call ≡ call_of (world_of nodes b) e
     → (step (world_of nodes b) e).turn.logged ≡ (settled_by call g.answer g.settled b).logged
 log-is nodes b e g call is called =
     ap (λ (x : GroupStep). (settled_by (call_of (world_of nodes b) e) x.answer x.settled b).logged) is
     ∙ ap (λ (o : Option Call). (settled_by o g.answer g.settled b).logged) (sym called)
 
-pub settled-as : (g : GroupStep) (nodes : List Node) (answer : Answer) (xs ys : List Settlement) → g ≡ record { nodes = nodes; answer = answer; settled = xs } → ys ≡ xs
+pub settled-as : (g : GroupStep) (nodes : List Node) (answer : Answer) (xs ys : List Settlement)
+    → g ≡ record { nodes = nodes; answer = answer; settled = xs } → ys ≡ xs
     → g ≡ record { nodes = nodes; answer = answer; settled = ys }
 settled-as g nodes answer xs ys is same = is ∙ (λ i. record { nodes = nodes; answer = answer; settled = (sym same) i })
 
@@ -59,7 +62,8 @@ module _ (v u : Seats) (b : Books) (e : Event) (answer : Answer) (settled : List
     still-one = kept ∙ shape ∙ sym (ap (λ (x : Books). x.shape) books)
 
     pub world-is : group_of u c ≡ (step (group_of v b) e).world
-    world-is = group-is u c still-one ∙ ap (world_of u.nodes) books ∙ sym (ap (λ (w : World). (step w e).world) same-group ∙ next-is v.nodes b e g call made-there called-there)
+    world-is = group-is u c still-one ∙ ap (world_of u.nodes) books
+        ∙ sym (ap (λ (w : World). (step w e).world) same-group ∙ next-is v.nodes b e g call made-there called-there)
 
     pub run-on : HasRun (group_of v b) → MayCome (group_of v b) e → HasRun (group_of u c)
     run-on has may = subst HasRun (sym world-is) (goes-on (group_of v b) e has may)

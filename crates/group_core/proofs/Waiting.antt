@@ -1,5 +1,7 @@
 -- What is on its way, link by link.
-use Rattle.std.proofs.Common.{ℕ, zero, suc, ◌≡◌, ◌≢◌, ◌≤◌, ◌<◌, ◌+◌, ◌-◌, ◌⊎◌, inl, inr, Bool, true, false, not, ◌&&◌, if◌then◌else◌, IsTrue, List, [], ◌∷◌, Option, Some, None, is_some, option_map, refl, sym, ap, subst, ◌∙◌, arith}
+use Rattle.std.proofs.Common.{ℕ, zero, suc, ◌≡◌, ◌≢◌, ◌≤◌, ◌<◌, ◌+◌, ◌-◌, ◌⊎◌, inl, inr, Bool, true, false, not, ◌&&◌}
+use Rattle.std.proofs.Common.{if◌then◌else◌, IsTrue, List, [], ◌∷◌, Option, Some, None, is_some, option_map, refl, sym}
+use Rattle.std.proofs.Common.{ap, subst, ◌∙◌, arith}
 use Rattle.std.proofs.lemmas.Bool.{cases_eq}
 use Rattle.std.specs.List.{range_with_len}
 use Rattle.group_types.specs.Lists.{at}
@@ -19,11 +21,14 @@ module _ (w : World) where
   abbrev count : ℕ
   count = w.shape.k + w.shape.m
 
-  pub target-behind : (x y n : ℕ) → y < n → is_waiting w x y ≡ false → next_target w x (range_with_len y (n - y)) ≡ next_target w x (range_with_len (y + 1) (n - (y + 1)))
-  target-behind x y n below is = ap (next_target w x) (unrolled y n below) ∙ ap (λ (b : Bool). if b then Some y else next_target w x (range_with_len (y + 1) (n - (y + 1)))) is
+  pub target-behind : (x y n : ℕ) → y < n → is_waiting w x y ≡ false → next_target w x (range_with_len y (n - y))
+      ≡ next_target w x (range_with_len (y + 1) (n - (y + 1)))
+  target-behind x y n below is = ap (next_target w x) (unrolled y n below)
+      ∙ ap (λ (b : Bool). if b then Some y else next_target w x (range_with_len (y + 1) (n - (y + 1)))) is
 
   pub target-here : (x y n : ℕ) → y < n → is_waiting w x y ≡ true → next_target w x (range_with_len y (n - y)) ≡ Some y
-  target-here x y n below is = ap (next_target w x) (unrolled y n below) ∙ ap (λ (b : Bool). if b then Some y else next_target w x (range_with_len (y + 1) (n - (y + 1)))) is
+  target-here x y n below is = ap (next_target w x) (unrolled y n below)
+      ∙ ap (λ (b : Bool). if b then Some y else next_target w x (range_with_len (y + 1) (n - (y + 1)))) is
 
   quiet : (dead : Bool) (link : List Message) → link ≡ [] → (not dead && some_message link) ≡ false
   quiet true link is = refl
@@ -32,13 +37,17 @@ module _ (w : World) where
   pub idle-target : (x : ℕ) → ((y : ℕ) → at [] (node_at w x).links y ≡ []) → (ys : List ℕ) → None ≡ next_target w x ys
   idle-target x idle [] = refl
   idle-target x idle (y ∷ ys) =
-      idle-target x idle ys ∙ sym (ap (λ (b : Bool). if b then Some y else next_target w x ys) (quiet (node_at w y).dead (at [] (node_at w x).links y) (idle y)))
+      idle-target x idle ys
+      ∙ sym (ap (λ (b : Bool). if b then Some y else next_target w x ys)
+      (quiet (node_at w y).dead (at [] (node_at w x).links y) (idle y)))
 
-  pub among-behind : (x n : ℕ) → x < n → None ≡ next_target w x (range_with_len 0 count) → next_among w (range_with_len x (n - x)) ≡ next_among w (range_with_len (x + 1) (n - (x + 1)))
+  pub among-behind : (x n : ℕ) → x < n → None ≡ next_target w x (range_with_len 0 count)
+      → next_among w (range_with_len x (n - x)) ≡ next_among w (range_with_len (x + 1) (n - (x + 1)))
   among-behind x n below is =
       ap (next_among w) (unrolled x n below) ∙ ap (λ (o : Option ℕ). event_or (next_from w x o) (next_among w (range_with_len (x + 1) (n - (x + 1))))) (sym is)
 
-  pub among-here : (x y n : ℕ) → x < n → Some y ≡ next_target w x (range_with_len 0 count) → next_among w (range_with_len x (n - x)) ≡ Some (delivery w.shape (x, y))
+  pub among-here : (x y n : ℕ) → x < n → Some y ≡ next_target w x (range_with_len 0 count)
+      → next_among w (range_with_len x (n - x)) ≡ Some (delivery w.shape (x, y))
   among-here x y n below is =
       ap (next_among w) (unrolled x n below) ∙ ap (λ (o : Option ℕ). event_or (next_from w x o) (next_among w (range_with_len (x + 1) (n - (x + 1))))) (sym is)
 
@@ -46,7 +55,9 @@ module _ (w : World) where
   none-target x zero a y none from to = absurd (omega (arith, from, to))
   none-target x (suc n) a y none from to =
       by (is_waiting w x a) refl (cases_eq y a) (λ rest other. none-target x n (a + 1) y rest (omega (arith, from, other)) (omega (arith, to))) where
-        by : (b : Bool) → is_waiting w x a ≡ b → (y ≡ a) ⊎ (y ≢ a) → (next_target w x (range_with_len (a + 1) n) ≡ None → y ≢ a → is_waiting w x y ≡ false) → is_waiting w x y ≡ false
+        by : (b : Bool) → is_waiting w x a ≡ b → (y ≡ a) ⊎ (y ≢ a)
+            → (next_target w x (range_with_len (a + 1) n) ≡ None → y ≢ a → is_waiting w x y ≡ false)
+            → is_waiting w x y ≡ false
         by true e either behind = absurd (cc (subst (λ (c : Bool). (if c then Some a else next_target w x (range_with_len (a + 1) n)) ≡ None) e none))
         by false e (inl same) behind = ap (is_waiting w x) same ∙ e
         by false e (inr other) behind = behind (subst (λ (c : Bool). (if c then Some a else next_target w x (range_with_len (a + 1) n)) ≡ None) e none) other
@@ -54,12 +65,16 @@ module _ (w : World) where
   none-from : (n a x : ℕ) → next_among w (range_with_len a n) ≡ None → a ≤ x → x < a + n → next_target w x (range_with_len 0 count) ≡ None
   none-from zero a x none from to = absurd (omega (arith, from, to))
   none-from (suc n) a x none from to =
-      by (next_target w a (range_with_len 0 count)) refl (cases_eq x a) (λ rest other. none-from n (a + 1) x rest (omega (arith, from, other)) (omega (arith, to))) where
+      by (next_target w a (range_with_len 0 count)) refl (cases_eq x a)
+      (λ rest other. none-from n (a + 1) x rest (omega (arith, from, other)) (omega (arith, to))) where
         by : (o : Option ℕ) → next_target w a (range_with_len 0 count) ≡ o → (x ≡ a) ⊎ (x ≢ a)
-            → (next_among w (range_with_len (a + 1) n) ≡ None → x ≢ a → next_target w x (range_with_len 0 count) ≡ None) → next_target w x (range_with_len 0 count) ≡ None
+            → (next_among w (range_with_len (a + 1) n) ≡ None → x ≢ a → next_target w x (range_with_len 0 count) ≡ None)
+            → next_target w x (range_with_len 0 count) ≡ None
         by (Some y) e either behind = absurd (cc (subst (λ (o : Option ℕ). event_or (next_from w a o) (next_among w (range_with_len (a + 1) n)) ≡ None) e none))
         by None e (inl same) behind = ap (λ (z : ℕ). next_target w z (range_with_len 0 count)) same ∙ e
-        by None e (inr other) behind = behind (subst (λ (o : Option ℕ). event_or (next_from w a o) (next_among w (range_with_len (a + 1) n)) ≡ None) e none) other
+        by None e (inr other) behind =
+            behind (subst (λ (o : Option ℕ). event_or (next_from w a o) (next_among w (range_with_len (a + 1) n))
+            ≡ None) e none) other
 
   silent : (link : List Message) → some_message link ≡ false → link ≡ []
   silent [] is = refl

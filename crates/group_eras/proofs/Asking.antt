@@ -33,7 +33,8 @@ among-all caller w [] = refl
 among-all caller w (e ∷ es) = ap (λ (n : ℕ). asks_in caller e + n) (among-all caller (step w e).world es)
 
 -- an ask counts for those behind it
-pub among-before : (caller j : ℕ) (es : List Event) (op : Asked) (p : ProcessId) → slice_get es j ≡ Some (Ask caller op p) → asks_among caller (take j es) < asks_among caller es
+pub among-before : (caller j : ℕ) (es : List Event) (op : Asked) (p : ProcessId)
+    → slice_get es j ≡ Some (Ask caller op p) → asks_among caller (take j es) < asks_among caller es
 among-before caller j [] op p is = absurd (cc is)
 among-before caller zero (e ∷ es) op p is =
     let one : asks_in caller e ≡ 1 = ap (asks_in caller) (some-same e (Ask caller op p) is) ∙ asks-self caller op p in omega (arith, one)
@@ -67,7 +68,8 @@ module _ (bases : Bases) (k : ℕ) where
     pub there : slice_get es j ≡ Some (Ask caller asked p)
     pub changed : op ≡ op_in bases k asked
 
-  one-asked : (e : Event) (caller : ℕ) (op : Asked) (p : ProcessId) → event_in bases k e ≡ Ask caller op p → (asked : Asked) × (e ≡ Ask caller asked p) × (op ≡ op_in bases k asked)
+  one-asked : (e : Event) (caller : ℕ) (op : Asked) (p : ProcessId) → event_in bases k e ≡ Ask caller op p
+      → (asked : Asked) × (e ≡ Ask caller asked p) × (op ≡ op_in bases k asked)
   one-asked (Ask who asked q) caller op p is =
       let a : who ≡ caller = cc is in
       let b : op_in bases k asked ≡ op = ap (λ (e : Event). op-of e) is in
@@ -87,9 +89,11 @@ module _ (bases : Bases) (k : ℕ) where
   one-asked (Flush q) caller op p is = absurd (cc is)
   one-asked (Trace who call d q) caller op p is = absurd (cc is)
 
-  pub was-asked : (es : List Event) (j caller : ℕ) (op : Asked) (p : ProcessId) → slice_get (map (event_in bases k) es) j ≡ Some (Ask caller op p) → WasAsked es j caller op p
+  pub was-asked : (es : List Event) (j caller : ℕ) (op : Asked) (p : ProcessId)
+      → slice_get (map (event_in bases k) es) j ≡ Some (Ask caller op p) → WasAsked es j caller op p
   was-asked [] j caller op p is = absurd (cc is)
   was-asked (e ∷ es) zero caller op p is =
       let one = one-asked e caller op p (some-same (event_in bases k e) (Ask caller op p) is) in
       record { asked = one.0; there = ap Some one.1; changed = one.2 }
-  was-asked (e ∷ es) (suc j) caller op p is = let later = was-asked es j caller op p is in record { asked = later.asked; there = later.there; changed = later.changed }
+  was-asked (e ∷ es) (suc j) caller op p is = let later = was-asked es j caller op p is in
+      record { asked = later.asked; there = later.there; changed = later.changed }

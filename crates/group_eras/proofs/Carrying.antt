@@ -1,5 +1,6 @@
 -- A carry: the old era is read and stays legal, and the next one stands behind it.
-use Rattle.std.proofs.Common.{ℕ, zero, suc, ◌≡◌, ◌<◌, ◌≤◌, ◌+◌, Bool, true, false, List, [], ◌∷◌, ◌++◌, map, take, replicate, Option, Some, None, is_some, inl, inr, refl, sym, ap, subst, ◌∙◌, arith}
+use Rattle.std.proofs.Common.{ℕ, zero, suc, ◌≡◌, ◌<◌, ◌≤◌, ◌+◌, Bool, true, false, List, [], ◌∷◌, ◌++◌, map, take}
+use Rattle.std.proofs.Common.{replicate, Option, Some, None, is_some, inl, inr, refl, sym, ap, subst, ◌∙◌, arith}
 use Rattle.group_types.proofs.Eaches.{each-map, each-take, each-weaker}
 use Rattle.group_eras.proofs.Lists.{contains-map, each-self, two-map}
 use Rattle.std.specs.Prelude.{Contains, slice_index}
@@ -68,7 +69,8 @@ module _ (e : Eras) (stands : Stands e) (rest : IsAtRest e.world) where
   abbrev w : World
   w = after e.world.shape stands.era.events
 
-  pub well : ReadWell e.world.shape stands.era.events rests stands.era.events (loads (after e.world.shape stands.era.events)) (reading (after e.world.shape stands.era.events))
+  pub well : ReadWell e.world.shape stands.era.events rests stands.era.events
+      (loads (after e.world.shape stands.era.events)) (reading (after e.world.shape stands.era.events))
   well = reads s es rests
 
   pub still : Each IsStill (reading e.world).events
@@ -88,7 +90,8 @@ module _ (e : Eras) (stands : Stands e) (rest : IsAtRest e.world) where
 
   -- want of memory leaves the old group
   pub begun-stands : (many : ℕ) → Stands (begun e many)
-  begun-stands many = stands-along e stands (take many (reading e.world).events) (each-take IsSame many (reading e.world).events same) (run-first many e.world (reading e.world).events run-read)
+  begun-stands many = stands-along e stands (take many (reading e.world).events)
+      (each-take IsSame many (reading e.world).events same) (run-first many e.world (reading e.world).events run-read)
 
   abbrev e1 : Eras
   e1 = read_era e
@@ -116,7 +119,8 @@ module _ (e : Eras) (stands : Stands e) (rest : IsAtRest e.world) where
   own-is = ap (λ (v : World). table_of (empty_table s.k) v.log) world
 
   own1-is : own_table (read_era e) ≡ table_after_run e.world.shape es1
-  own1-is = ap (λ (v : World). table_of (empty_table v.shape.k) v.log) world1 ∙ ap (λ (t : Dimensions). table_of (empty_table t.k) (after s es1).log) (shape-after (opening s) es1)
+  own1-is = ap (λ (v : World). table_of (empty_table v.shape.k) v.log) world1
+      ∙ ap (λ (t : Dimensions). table_of (empty_table t.k) (after s es1).log) (shape-after (opening s) es1)
 
   items1 : (key : List ℕ) → (own_table (read_era e)).items key ≡ (table_after_run e.world.shape stands.era.events).items key
   items1 key = ap (λ (t : Contents). t.items key) own1-is ∙ same-items s es es1 rests.run well.rests_then.run settled1 key
@@ -124,7 +128,8 @@ module _ (e : Eras) (stands : Stands e) (rest : IsAtRest e.world) where
   counts1 : (d : ℕ) → d < s.k → slice_index (own_table (read_era e)).counts d ≡ count_logged (read_era e).world d
   counts1 d below =
       ap (λ (t : Contents). slice_index t.counts d) own1-is ∙ (ties-of s es1 well.rests_then.run).counts d below
-      ∙ sym (shown-long s d (no_store s) (settled_of s es1 d) (updates_of (after s es1) d) (log_shows_settled s (stands-always s (whole-always s)) es1 well.rests_then.run d below).updates)
+      ∙ sym (shown-long s d (no_store s) (settled_of s es1 d) (updates_of (after s es1) d)
+      (log_shows_settled s (stands-always s (whole-always s)) es1 well.rests_then.run d below).updates)
       ∙ ap (λ (v : World). count_logged v d) (sym world1)
 
   -- what is carried
@@ -155,7 +160,8 @@ module _ (e : Eras) (stands : Stands e) (rest : IsAtRest e.world) where
       let slot : Slot = found.0 in
       let x : Load = record { partition = d; key = key; slot = slot } in
       let lives : is_live 0 slot.until ≡ true = ap (λ (y : Holding). is_live 0 y.until) (sym found.2) ∙ live in
-      let there : Contains (loads w) x = subst (λ (k : ℕ). Contains (loads_of w (range_with_len 0 k)) x) (sym (ap (λ (t : Dimensions). t.k) (shape-after (opening s) es)))
+      let there : Contains (loads w) x = subst (λ (k : ℕ). Contains (loads_of w (range_with_len 0 k)) x)
+      (sym (ap (λ (t : Dimensions). t.k) (shape-after (opening s) es)))
       (in-loads w s.k 0 d x (omega arith) (omega (arith, below)) (live-load d (settled_items w d) (key, slot) found.1 lives)) in
       record {
         parcel = parcel_for s es rests x;
@@ -208,7 +214,8 @@ module _ (e : Eras) (stands : Stands e) (rest : IsAtRest e.world) where
     k1 : (read_era e).world.shape.k ≡ s'.k
     k1 = ap (λ (t : Dimensions). t.k) shape1 ∙ sym successor.partitions
 
-    own-era : (bases : _) (k : ℕ) (asked : List Event) (era : ℕ) (xs : List Entry) (ys : List EraEntry) → AreTold bases k asked era xs ys → Each (λ y. y.0 < suc era) ys
+    own-era : (bases : _) (k : ℕ) (asked : List Event) (era : ℕ) (xs : List Entry) (ys : List EraEntry)
+        → AreTold bases k asked era xs ys → Each (λ y. y.0 < suc era) ys
     own-era bases k asked era [] [] told = tt
     own-era bases k asked era [] (y ∷ ys) told = absurd told
     own-era bases k asked era (x ∷ xs) [] told = tt
@@ -229,7 +236,8 @@ module _ (e : Eras) (stands : Stands e) (rest : IsAtRest e.world) where
       before = (read_era e).log;
       own = [];
       log = sym (append-nil (read_era e).log);
-      earlier = subst (Each (λ y. y.0 < suc (read_era e).era)) (sym stands1.era.log) (earlier (read_era e).era stands1.era.before stands1.era.own stands1.era.earlier
+      earlier = subst (Each (λ y. y.0 < suc (read_era e).era)) (sym stands1.era.log)
+          (earlier (read_era e).era stands1.era.before stands1.era.own stands1.era.earlier
           (own-era (read_era e).bases (read_era e).world.shape.k stands1.era.asked (read_era e).era (read_era e).world.log stands1.era.own stands1.era.told));
       told = tt;
     }
@@ -245,7 +253,8 @@ module _ (e : Eras) (stands : Stands e) (rest : IsAtRest e.world) where
           items = λ key. item key ((own_table (read_era e)).items key) refl (j.items key);
         }
       where
-        count : (d : ℕ) → d < (read_era e).world.shape.k → slice_index (table_over (read_era e)).counts d ≡ with_base (read_era e).bases d (slice_index (own_table (read_era e)).counts d)
+        count : (d : ℕ) → d < (read_era e).world.shape.k → slice_index (table_over (read_era e)).counts d
+            ≡ with_base (read_era e).bases d (slice_index (own_table (read_era e)).counts d)
             → slice_index (table_over (read_era e)).counts d ≡ with_base (next_bases (read_era e)) d (slice_index (replicate (read_era e).world.shape.k 0) d)
         count d below is =
             let low : d < s.k = subst (λ (t : Dimensions). d < t.k) shape1 below in
@@ -265,7 +274,8 @@ module _ (e : Eras) (stands : Stands e) (rest : IsAtRest e.world) where
         item key o own (inl (Gone h is ends none)) = inl (Gone h is ends refl)
         item key None own (inl (Alike is has)) = inl (Alike (is ∙ ap (shift (read_era e).bases (home_of key (read_era e).world.shape.k)) own) tt)
         item key (Some h) own (inl (Alike is has)) = by (is_live 0 h.until) refl where
-          by : (b : Bool) → is_live 0 h.until ≡ b → Meets (next_bases (read_era e)) (read_era e).world.shape.k many IsCarried key ((table_over (read_era e)).items key) None
+          by : (b : Bool) → is_live 0 h.until ≡ b → Meets (next_bases (read_era e)) (read_era e).world.shape.k many
+              IsCarried key ((table_over (read_era e)).items key) None
           by true live = let found = carries key h (sym (items1 key) ∙ own) live in inr ((found.parcel, found.there, found.key_is), refl)
           by false dead = inl (Gone (shifted (read_era e).bases (home_of key (read_era e).world.shape.k) h)
               (is ∙ ap (shift (read_era e).bases (home_of key (read_era e).world.shape.k)) own) (dead-until h.until dead) refl)
@@ -274,7 +284,8 @@ module _ (e : Eras) (stands : Stands e) (rest : IsAtRest e.world) where
     standing2 = record {
       era = era2;
       legal = subst (λ (k : ℕ). IsLegal k (one_log (read_era e))) k1 stands1.legal;
-      joined = subst (λ (k : ℕ). (many : 1 ≤ k) → Joined (next_bases (read_era e)) k many IsCarried (table_of (empty_table k) (one_log (read_era e))) (empty_table k)) k1 joined2;
+      joined = subst (λ (k : ℕ). (many : 1 ≤ k) → Joined (next_bases (read_era e)) k many IsCarried
+          (table_of (empty_table k) (one_log (read_era e))) (empty_table k)) k1 joined2;
     }
 
     standing3 : Standing IsCarried (eras_after (next_era (read_era e) s') (setting (opening s') parcels))
@@ -283,18 +294,22 @@ module _ (e : Eras) (stands : Stands e) (rest : IsAtRest e.world) where
     carried-is : carried e s' ≡ eras_after (next_era (read_era e) s') (setting (opening s') parcels)
     carried-is = ap (λ (ps : List Parcel). eras_after (next_era (read_era e) s') (setting (opening s') ps)) parcels-are
 
-    follows3 : Follows (next_era (read_era e) s') (eras_after (next_era (read_era e) s') (setting (opening s') parcels)) (world_after (opening s') (setting (opening s') parcels))
+    follows3 : Follows (next_era (read_era e) s') (eras_after (next_era (read_era e) s') (setting (opening s') parcels))
+        (world_after (opening s') (setting (opening s') parcels))
     follows3 = follows e2 sets (each-weaker (IsPlain parcels) IsSame (plain-same parcels) sets all-set.plain)
 
     abbrev e3 : Eras
     e3 = eras_after (next_era (read_era e) s') (setting (opening s') parcels)
 
     own3-is : own_table e3 ≡ table_after_run s' (setting (opening s') parcels)
-    own3-is = ap (λ (v : World). table_of (empty_table v.shape.k) v.log) follows3.world_is ∙ ap (λ (t : Dimensions). table_of (empty_table t.k) (after s' sets).log) (shape-after (opening s') sets)
+    own3-is = ap (λ (v : World). table_of (empty_table v.shape.k) v.log) follows3.world_is
+        ∙ ap (λ (t : Dimensions). table_of (empty_table t.k) (after s' sets).log) (shape-after (opening s') sets)
 
     log-all : Each (λ (y : Entry). SetsOne parcels y.op) (after s' (setting (opening s') parcels)).log
     log-all = every (after s' sets).log (λ y there. there) where
-      every : (ys : List Entry) → ((y : Entry) → Contains ys y → Contains (after s' (setting (opening s') parcels)).log y) → Each (λ (y : Entry). SetsOne parcels y.op) ys
+      every : (ys : List Entry)
+          → ((y : Entry) → Contains ys y → Contains (after s' (setting (opening s') parcels)).log y)
+          → Each (λ (y : Entry). SetsOne parcels y.op) ys
       every [] within = tt
       every (y ∷ ys) within = (
         log-sets s' parcels (setting (opening s') parcels) setup.rests.run all-set.plain y (within y (0, omega arith, refl)),
@@ -318,7 +333,8 @@ module _ (e : Eras) (stands : Stands e) (rest : IsAtRest e.world) where
             items = λ key. item many key (j.items key);
           };
     } where
-      item : (many : 1 ≤ e3.world.shape.k) (key : List ℕ) → Meets e3.bases e3.world.shape.k many IsCarried key ((table_over e3).items key) ((own_table e3).items key)
+      item : (many : 1 ≤ e3.world.shape.k) (key : List ℕ) → Meets e3.bases e3.world.shape.k many IsCarried key
+          ((table_over e3).items key) ((own_table e3).items key)
           → Meets e3.bases e3.world.shape.k many NoKey key ((table_over e3).items key) ((own_table e3).items key)
       item many key (inl both) = inl both
       item many key (inr free) = absurd (cc (appeared free.0.0 free.0.1, ap (λ (k : List ℕ). is_some ((own_table e3).items k)) free.0.2, ap is_some free.1))
@@ -349,7 +365,9 @@ module _ (e : Eras) (stands : Stands e) (rest : IsAtRest e.world) where
         let old : at 0 (read_era e).bases d ≡ at 0 e.bases d = ap (λ (b : List ℕ). at 0 b d) follows1.bases in
         let new : at 0 e3.bases d ≡ at 0 (next_bases (read_era e)) d = ap (λ (b : List ℕ). at 0 b d) follows3.bases in
         let counts : slice_index (own_table e).counts d ≡ slice_index (own_table (read_era e)).counts d
-        = ap (λ (t : Contents). slice_index t.counts d) own-is ∙ sym (same-counts s es es1 rests.run well.rests_then.run settled1 d below) ∙ sym (ap (λ (t : Contents). slice_index t.counts d) own1-is) in
+        = ap (λ (t : Contents). slice_index t.counts d) own-is
+        ∙ sym (same-counts s es es1 rests.run well.rests_then.run settled1 d below)
+        ∙ sym (ap (λ (t : Contents). slice_index t.counts d) own1-is) in
         let logged = counts1 d below in
         omega (arith, j, base, here, old, new, counts, logged)
 
@@ -409,7 +427,13 @@ module _ (e : Eras) (stands : Stands e) (rest : IsAtRest e.world) where
         x = carried-as.parcel
 
         by : SetItem parcels key ((table_after_run s' (setting (opening s') parcels)).items key) → Now
-        by (NoItem none) = absurd (cc (appeared carried-as.parcel carried-as.there, ap (λ (k : List ℕ). is_some ((own_table e3).items k)) carried-as.key_is, ap (λ (t : Contents). is_some (t.items key)) own3-is, ap is_some none))
+        by (NoItem none) =
+            absurd (cc (
+              appeared carried-as.parcel carried-as.there,
+              ap (λ (k : List ℕ). is_some ((own_table e3).items k)) carried-as.key_is,
+              ap (λ (t : Contents). is_some (t.items key)) own3-is,
+              ap is_some none,
+            ))
         by (OfSet y new in-parcels key_is is of) =
             let same : y ≡ carried-as.parcel = one-parcel parcels y carried-as.parcel apart in-parcels carried-as.there (key_is ∙ sym carried-as.key_is) in
             let lives : is_live 0 carried-as.parcel.until ≡ true = ap (is_live 0) (sym carried-as.until ∙ was.until) ∙ live in
@@ -418,21 +442,25 @@ module _ (e : Eras) (stands : Stands e) (rest : IsAtRest e.world) where
               own = ap (λ (t : Contents). t.items key) own3-is ∙ is;
               flags = of.flags ∙ ap (λ (p : Parcel). p.flags) same ∙ sym carried-as.flags ∙ was.flags;
               value = of.value ∙ ap (λ (p : Parcel). p.value) same ∙ sym carried-as.value ∙ was.value;
-              until = of.until ∙ ap (λ (p : Parcel). until_of (expiry_of p.until) 0) same ∙ until-back carried-as.parcel.until lives ∙ sym carried-as.until ∙ was.until;
+              until = of.until ∙ ap (λ (p : Parcel). until_of (expiry_of p.until) 0) same
+                  ∙ until-back carried-as.parcel.until lives ∙ sym carried-as.until ∙ was.until;
               cas = of.cas;
             }
 
       kept3 : IsKept (table_over e) key h (table_over e3)
       kept3 = by ((stands3.joined many3).items key) where
         home3 : home_of key e3.world.shape.k ≡ home_of key s.k
-        home3 = ap (λ (v : World). home_of key v.shape.k) follows3.world_is ∙ ap (λ (t : Dimensions). home_of key t.k) (shape-after (opening s') sets) ∙ ap (home_of key) successor.partitions
+        home3 = ap (λ (v : World). home_of key v.shape.k) follows3.world_is ∙ ap (λ (t : Dimensions). home_of key t.k)
+            (shape-after (opening s') sets) ∙ ap (home_of key) successor.partitions
 
-        alike : (o : Option Holding) → (own_table e3).items key ≡ o → (table_over e3).items key ≡ shift e3.bases (home_of key e3.world.shape.k) o → IsKept (table_over e) key h (table_over e3)
+        alike : (o : Option Holding) → (own_table e3).items key ≡ o → (table_over e3).items key
+            ≡ shift e3.bases (home_of key e3.world.shape.k) o → IsKept (table_over e) key h (table_over e3)
         alike None own is = absurd (cc (now.own, own))
         alike (Some x) own is =
             let same : x ≡ now.new = some-same x now.new (sym own ∙ now.own) in
             let d : ℕ = home_of key s.k in
-            let count : count_of (table_over e) key ≡ slice_index (table_over e).counts d = ap (λ (n : ℕ). slice_index (table_over e).counts (home_of key n)) (stands.joined many).many_all in
+            let count : count_of (table_over e) key ≡ slice_index (table_over e).counts d =
+            ap (λ (n : ℕ). slice_index (table_over e).counts (home_of key n)) (stands.joined many).many_all in
             let base = base3 d (home-below key s.k many) many in
             let here : at 0 e3.bases (home_of key e3.world.shape.k) ≡ at 0 e3.bases d = ap (at 0 e3.bases) home3 in
             let some = now.cas in
@@ -446,7 +474,8 @@ module _ (e : Eras) (stands : Stands e) (rest : IsAtRest e.world) where
               above = omega (arith, count, base, here, some, cas);
             }
 
-        by : Meets e3.bases e3.world.shape.k many3 NoKey key ((table_over e3).items key) ((own_table e3).items key) → IsKept (table_over e) key h (table_over e3)
+        by : Meets e3.bases e3.world.shape.k many3 NoKey key ((table_over e3).items key) ((own_table e3).items key)
+            → IsKept (table_over e) key h (table_over e3)
         by (inl (Alike is has)) = alike ((own_table e3).items key) refl is
         by (inl (Gone x is ends none)) = absurd (cc (now.own, none))
         by (inr both) = absurd both.0
@@ -501,11 +530,13 @@ module _ (e : Eras) (stands : Stands e) (rest : IsAtRest e.world) where
 
       was3 : WasThere (table_over e) key h
       was3 = by ((stands3.joined stands3.era.run.0.k.0).items key) where
-        alike : (o : Option Holding) → (own_table e3).items key ≡ o → (table_over e3).items key ≡ shift e3.bases (home_of key e3.world.shape.k) o → WasThere (table_over e) key h
+        alike : (o : Option Holding) → (own_table e3).items key ≡ o → (table_over e3).items key
+            ≡ shift e3.bases (home_of key e3.world.shape.k) o → WasThere (table_over e) key h
         alike None own is = absurd (cc (is, there))
         alike (Some x) own is = from-set x own (some-same (shifted e3.bases (home_of key e3.world.shape.k) x) h (sym is ∙ there))
 
-        by : Meets e3.bases e3.world.shape.k stands3.era.run.0.k.0 NoKey key ((table_over e3).items key) ((own_table e3).items key) → WasThere (table_over e) key h
+        by : Meets e3.bases e3.world.shape.k stands3.era.run.0.k.0 NoKey key ((table_over e3).items key)
+            ((own_table e3).items key) → WasThere (table_over e) key h
         by (inl (Alike is has)) = alike ((own_table e3).items key) refl is
         by (inl (Gone x is ends none)) =
             let same : x ≡ h = some-same x h (sym is ∙ there) in

@@ -1,5 +1,6 @@
 -- How many updates are settled, and how many items are carried: no more than events were made.
-use Rattle.std.proofs.Common.{ℕ, zero, suc, ◌≡◌, ◌≢◌, ◌<◌, ◌≤◌, ◌+◌, Bool, true, false, cond, not, List, [], ◌∷◌, ◌++◌, length, map, Option, Some, None, ◌⊎◌, inl, inr, refl, sym, ap, subst, ◌∙◌, arith}
+use Rattle.std.proofs.Common.{ℕ, zero, suc, ◌≡◌, ◌≢◌, ◌<◌, ◌≤◌, ◌+◌, Bool, true, false, cond, not, List, [], ◌∷◌, ◌++◌}
+use Rattle.std.proofs.Common.{length, map, Option, Some, None, ◌⊎◌, inl, inr, refl, sym, ap, subst, ◌∙◌, arith}
 use Rattle.group_types.proofs.Eaches.{each-append, each-map, each-weaker}
 use Rattle.group_eras.proofs.Lists.{two-map}
 use Rattle.std.specs.Prelude.{Contains, filter}
@@ -86,7 +87,8 @@ without (x ∷ xs) y (suc i, low, is) =
   where
     behind : (later : Without xs y) (z : _) → Contains (x ∷ xs) z → z ≢ y → Contains (x ∷ later.rest) z
     behind later z (zero, less, same) apart = (zero, omega arith, same)
-    behind later z (suc j, less, same) apart = let found = later.others z (j, omega (arith, less), same) apart in (suc found.0, (let l = found.1 in omega (arith, l)), found.2)
+    behind later z (suc j, less, same) apart = let found = later.others z (j, omega (arith, less), same) apart in
+        (suc found.0, (let l = found.1 in omega (arith, l)), found.2)
 
 no-more : {X : Type 0} (xs ys : List X) → EachTwo (λ a b. a ≢ b) xs → Each (Contains ys) xs → length xs ≤ length ys
 no-more [] ys two among = omega arith
@@ -131,16 +133,25 @@ module _ (s : Dimensions) (es : List Event) (run : IsRun s es) where
 
   of-calls : (d : ℕ) → d < s.k → Each (OfCall d) (names d)
   of-calls d below = each-map (OfCall d) update_name (settled_of s es d)
-      (steps-each s calls d (λ u. OfCall d (update_name u)) (λ n store u fits step. record { call = step.call; there = step.asked; named = sym step.name; home = step.fits.home })
+      (steps-each s calls d (λ u. OfCall d (update_name u))
+      (λ n store u fits step. record {
+        call = step.call;
+        there = step.asked;
+        named = sym step.name;
+        home = step.fits.home;
+      })
       0 (no_store s) (settled_of s es d) (no_store-fits s) (fine d below).steps)
 
   names-differ : (d : ℕ) → d < s.k → EachTwo (λ a b. a ≢ b) (names d)
   names-differ d below = two-map (λ a b. a ≢ b) update_name (settled_of s es d) (two-weak ComesBefore (λ u v. update_name u ≢ update_name v)
-      (λ u v before same. let less = before (ap (λ (n : CallName). n.caller) same) in let one : u.call ≡ v.call = ap (λ (n : CallName). n.call) same in omega (arith, less, one)) (settled_of s es d) (fine d below).rising)
+      (λ u v before same. let less = before (ap (λ (n : CallName). n.caller) same) in
+      let one : u.call ≡ v.call = ap (λ (n : CallName). n.call) same in omega (arith, less, one)) (settled_of s es d)
+      (fine d below).rising)
 
   homes-differ : (d e : ℕ) (a b : CallName) → OfCall d a → OfCall e b → a ≡ b → d ≡ e
   homes-differ d e a b one two same =
-      let calls-same : one.call ≡ two.call = same-issued calls one.call two.call (logs-of s es run).differ one.there two.there (one.named ∙ same ∙ sym two.named) in
+      let calls-same : one.call ≡ two.call = same-issued calls one.call two.call (logs-of s es run).differ one.there
+      two.there (one.named ∙ same ∙ sym two.named) in
       sym one.home ∙ ap (λ (c : Call). home_of (key_of c.op.act) s.k) calls-same ∙ two.home
 
   -- the names of all settled updates
@@ -156,20 +167,25 @@ module _ (s : Dimensions) (es : List Event) (run : IsRun s es) where
   are-from zero a low = tt
   are-from (suc n) a low = each-append (FromOn a) (names a) (all-names (a + 1) n)
       (each-weaker (OfCall a) (FromOn a) (λ name of. (a, omega arith, of)) (names a) (of-calls a (omega (arith, low))))
-      (each-weaker (FromOn (a + 1)) (FromOn a) (λ name of. (of.0, (let from = of.1 in omega (arith, from)), of.2)) (all-names (a + 1) n) (are-from n (a + 1) (omega (arith, low))))
+      (each-weaker (FromOn (a + 1)) (FromOn a) (λ name of. (of.0, (let from = of.1 in omega (arith, from)), of.2))
+      (all-names (a + 1) n) (are-from n (a + 1) (omega (arith, low))))
 
   all-differ : (n a : ℕ) → a + n ≤ s.k → EachTwo (λ x y. x ≢ y) (all-names a n)
   unfolding all-names
   all-differ zero a low = tt
-  all-differ (suc n) a low = two-both (λ x y. x ≢ y) (names a) (all-names (a + 1) n) (names-differ a (omega (arith, low))) (all-differ n (a + 1) (omega (arith, low)))
+  all-differ (suc n) a low = two-both (λ x y. x ≢ y) (names a) (all-names (a + 1) n)
+      (names-differ a (omega (arith, low))) (all-differ n (a + 1) (omega (arith, low)))
       (each-weaker (OfCall a) (λ x. Each (λ y. x ≢ y) (all-names (a + 1) n)) (λ x of. each-weaker (FromOn (a + 1)) (λ y. x ≢ y)
-      (λ y from same. let one = homes-differ a from.0 x y of from.2 same in let above = from.1 in omega (arith, one, above)) (all-names (a + 1) n) (are-from n (a + 1) (omega (arith, low))))
+      (λ y from same. let one = homes-differ a from.0 x y of from.2 same in let above = from.1 in
+      omega (arith, one, above)) (all-names (a + 1) n) (are-from n (a + 1) (omega (arith, low))))
       (names a) (of-calls a (omega (arith, low))))
 
   few-names : length (all-names 0 s.k) ≤ length es
   few-names =
       let most = no-more (all-names 0 s.k) (map (λ (c : Call). c.name) calls) (all-differ s.k 0 (omega arith))
-      (each-weaker (FromOn 0) (Contains (map (λ (c : Call). c.name) calls)) (λ name of. subst (Contains (map (λ (c : Call). c.name) calls)) of.2.named (in-names calls of.2.call of.2.there)) (all-names 0 s.k) (are-from s.k 0 (omega arith))) in
+      (each-weaker (FromOn 0) (Contains (map (λ (c : Call). c.name) calls))
+      (λ name of. subst (Contains (map (λ (c : Call). c.name) calls)) of.2.named
+      (in-names calls of.2.call of.2.there)) (all-names 0 s.k) (are-from s.k 0 (omega arith))) in
       let long = length-map calls (λ (c : Call). c.name) in
       let few = issued-few (no_book s) es in
       omega (arith, most, long, few)
@@ -185,8 +201,10 @@ module _ (s : Dimensions) (es : List Event) (run : IsRun s es) where
     long : length (names a) ≡ length (settled_of s es a)
     long = length-map (settled_of s es a) update_name
 
-    by : (d ≡ a) ⊎ (d ≢ a) → (a + 1 ≤ d → length (settled_of s es d) ≤ length (all-names (a + 1) n)) → length (settled_of s es d) ≤ length (names a ++ all-names (a + 1) n)
-    by (inl same) later = let here : length (settled_of s es d) ≡ length (settled_of s es a) = ap (λ (e : ℕ). length (settled_of s es e)) same in omega (arith, both, long, here)
+    by : (d ≡ a) ⊎ (d ≢ a) → (a + 1 ≤ d → length (settled_of s es d) ≤ length (all-names (a + 1) n))
+        → length (settled_of s es d) ≤ length (names a ++ all-names (a + 1) n)
+    by (inl same) later = let here : length (settled_of s es d) ≡ length (settled_of s es a) =
+        ap (λ (e : ℕ). length (settled_of s es e)) same in omega (arith, both, long, here)
     by (inr other) later = let rest = later (omega (arith, from, other)) in omega (arith, both, rest)
 
   pub settled-few : (d : ℕ) → d < s.k → length (settled_of s es d) ≤ length es
@@ -194,7 +212,8 @@ module _ (s : Dimensions) (es : List Event) (run : IsRun s es) where
 
   pub count-few : (d : ℕ) → d < s.k → count_logged (after s es) d ≤ length es
   count-few d below =
-      let same = shown-long s d (no_store s) (settled_of s es d) (updates_of (after s es) d) (log_shows_settled s (stands-always s (whole-always s)) es run d below).updates in
+      let same = shown-long s d (no_store s) (settled_of s es d) (updates_of (after s es) d)
+      (log_shows_settled s (stands-always s (whole-always s)) es run d below).updates in
       let few = settled-few d below in
       omega (arith, same, few)
 
@@ -245,7 +264,8 @@ module _ (s : Dimensions) (es : List Event) (rests : Rests s es) where
       let names-both = length-append (map update_name (settled_of s es a)) (all-names s es rests.run (a + 1) n) in
       let long = length-map (settled_of s es a) update_name in
       let kept = filter-few a (settled_items (after s es) a) in
-      let are : length (settled_items (after s es) a) ≡ length (items_after [] (settled_of s es a)) = ap length (finding.items-are s es rests a (omega (arith, low))) in
+      let are : length (settled_items (after s es) a) ≡ length (items_after [] (settled_of s es a)) =
+      ap length (finding.items-are s es rests a (omega (arith, low))) in
       let few = items-few [] (settled_of s es a) in
       omega (arith, rest, both, names-both, long, kept, are, few)
 

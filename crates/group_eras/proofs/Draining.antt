@@ -90,12 +90,14 @@ module _ (s : Dimensions) where
     none e is = still-none e (delivery-still e is)
 
     by : (o : Option Event) → next_delivery (after s es) ≡ o
-        → ((e : Event) → IsRun s (es ++ e ∷ []) → ¬ (IsDown (after s (es ++ e ∷ []))) → Delivers (es ++ e ∷ []) (drain_events n (after s (es ++ e ∷ [])))) → Delivers es (behind n (after s es) o)
+        → ((e : Event) → IsRun s (es ++ e ∷ []) → ¬ (IsDown (after s (es ++ e ∷ []))) → Delivers (es ++ e ∷ [])
+        (drain_events n (after s (es ++ e ∷ [])))) → Delivers es (behind n (after s es) o)
     by None is later = record { run = tt; deliveries = tt; up = up }
     by (Some e) is later =
         let comes : NextComes (after s es) e = next-comes s es run up e is in
         let next : after s (es ++ e ∷ []) ≡ (step (after s es) e).world = after-more (opening s) es e in
-        let rest : Delivers (es ++ e ∷ []) (drain_events n (after s (es ++ e ∷ []))) = later e (more-run es e run comes.may) (more-up es e (none e comes.delivery) up) in
+        let rest : Delivers (es ++ e ∷ []) (drain_events n (after s (es ++ e ∷ []))) =
+        later e (more-run es e run comes.may) (more-up es e (none e comes.delivery) up) in
         let events : drain_events n (after s (es ++ e ∷ [])) ≡ drain_events n (step (after s es) e).world = ap (drain_events n) next in
         record {
           run = (comes.may, subst (λ (w : World). IsRunFrom w (drain_events n w)) next rest.run);

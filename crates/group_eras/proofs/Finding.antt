@@ -1,5 +1,7 @@
 -- The items of a group at rest are those of its log's table.
-use Rattle.std.proofs.Common.{ℕ, zero, suc, ◌≡◌, ◌≢◌, ◌<◌, ◌≤◌, ◌+◌, Bool, true, false, cond, List, [], ◌∷◌, length, AllPairs, Option, Some, None, if◌then◌else◌, ◌⊎◌, inl, inr, refl, sym, ap, subst, ◌∙◌, arith}
+use Rattle.std.proofs.Common.{ℕ, zero, suc, ◌≡◌, ◌≢◌, ◌<◌, ◌≤◌, ◌+◌, Bool, true, false, cond, List, [], ◌∷◌, length}
+use Rattle.std.proofs.Common.{AllPairs, Option, Some, None, if◌then◌else◌, ◌⊎◌, inl, inr, refl, sym, ap, subst, ◌∙◌}
+use Rattle.std.proofs.Common.{arith}
 use Rattle.std.specs.Prelude.{All, Contains, drop}
 use Rattle.std.proofs.lemmas.List.Elements.{All-drop, All-take}
 use Rattle.std.specs.List.{range_with_len}
@@ -36,21 +38,25 @@ use Rattle.group_eras.proofs.Draining.{shape-after}
 use Rattle.group_eras.proofs.Resting.{Rests, rests-items, settled_of, table_after_run, ties-of}
 
 -- the first that lives of a partition is its head
-first-is : (w : World) (d r a n : ℕ) → a ≤ r → r < a + n → is_dead w (of_rank d r) ≡ false → ((q : ℕ) → q < r → is_dead w (of_rank d q) ≡ true) → first_living w d (range_with_len a n) ≡ r
+first-is : (w : World) (d r a n : ℕ) → a ≤ r → r < a + n → is_dead w (of_rank d r) ≡ false
+    → ((q : ℕ) → q < r → is_dead w (of_rank d q) ≡ true) → first_living w d (range_with_len a n) ≡ r
 first-is w d r a zero low high lives lower = absurd (omega (arith, low, high))
-first-is w d r a (suc n) low high lives lower = by (is_dead w (of_rank d a)) refl (λ above. first-is w d r (a + 1) n above (omega (arith, high)) lives lower) where
-  by : (b : Bool) → is_dead w (of_rank d a) ≡ b → (a + 1 ≤ r → first_living w d (range_with_len (a + 1) n) ≡ r) → (if b then first_living w d (range_with_len (a + 1) n) else a) ≡ r
-  by true is later = later (above (cases_lt a r)) where
-    above : (a < r) ⊎ (r ≤ a) → a + 1 ≤ r
-    above (inl less) = omega (arith, less)
-    above (inr most) = let same : a ≡ r = omega (arith, low, most) in absurd (cc (is, ap (λ (q : ℕ). is_dead w (of_rank d q)) same, lives))
-  by false is later = equal (cases_lt a r) where
-    equal : (a < r) ⊎ (r ≤ a) → a ≡ r
-    equal (inl less) = absurd (cc (is, lower a less))
-    equal (inr most) = omega (arith, low, most)
+first-is w d r a (suc n) low high lives lower =
+    by (is_dead w (of_rank d a)) refl (λ above. first-is w d r (a + 1) n above (omega (arith, high)) lives lower) where
+      by : (b : Bool) → is_dead w (of_rank d a) ≡ b → (a + 1 ≤ r → first_living w d (range_with_len (a + 1) n) ≡ r)
+          → (if b then first_living w d (range_with_len (a + 1) n) else a) ≡ r
+      by true is later = later (above (cases_lt a r)) where
+        above : (a < r) ⊎ (r ≤ a) → a + 1 ≤ r
+        above (inl less) = omega (arith, less)
+        above (inr most) = let same : a ≡ r = omega (arith, low, most) in absurd (cc (is, ap (λ (q : ℕ). is_dead w (of_rank d q)) same, lives))
+      by false is later = equal (cases_lt a r) where
+        equal : (a < r) ⊎ (r ≤ a) → a ≡ r
+        equal (inl less) = absurd (cc (is, lower a less))
+        equal (inr most) = omega (arith, low, most)
 
 pub head-is : (w : World) (d r : ℕ) → Heads w d r → head_of w d ≡ of_rank d r
-head-is w d r heads = let within = heads.within in ap (of_rank d) (first-is w d r 0 (suc w.shape.m) (omega arith) (omega (arith, within)) heads.lives heads.lowest)
+head-is w d r heads = let within = heads.within in
+    ap (of_rank d) (first-is w d r 0 (suc w.shape.m) (omega arith) (omega (arith, within)) heads.lives heads.lowest)
 
 -- an item stands under its key, and what stands under a key is an item
 abbrev KeysDiffer : List ℕ × Slot → List ℕ × Slot → Type 0
@@ -68,7 +74,8 @@ found-key (y ∷ ys) x once (suc i, low, is) =
 pub key-found : (items : Items) (key : List ℕ) (slot : Slot) → slot_in items key ≡ Some slot → Contains items (key, slot)
 key-found [] key slot is = absurd (cc is)
 key-found (y ∷ ys) key slot is = by (same_key key y.0) refl is (key-found ys key slot) where
-  by : (b : Bool) → same_key key y.0 ≡ b → cond b (Some y.1) (slot_in ys key) ≡ Some slot → (slot_in ys key ≡ Some slot → Contains ys (key, slot)) → Contains (y ∷ ys) (key, slot)
+  by : (b : Bool) → same_key key y.0 ≡ b → cond b (Some y.1) (slot_in ys key) ≡ Some slot
+      → (slot_in ys key ≡ Some slot → Contains ys (key, slot)) → Contains (y ∷ ys) (key, slot)
   by true same is later = (0, omega arith, λ i. (sym (key-eq key y.0 same) i, some-same y.1 slot is i))
   by false same is later = let rest = later is in (suc rest.0, (let low = rest.1 in omega (arith, low)), rest.2)
 
@@ -104,7 +111,8 @@ module _ (s : Dimensions) (es : List Event) (rests : Rests s es) (d : ℕ) (belo
   keeps = by rank head-in heads.lives where
     by : (r : ℕ) → IsProcess w.shape (of_rank d r) → is_dead w (of_rank d r) ≡ false → KeepsAll w d (replica_of (process_of w (of_rank d r)) d)
     by zero pin lives = ((headline_always s es rests.run).not_undone rests.up).at_data d (pin, lives)
-    by (suc i) pin lives = ((headline_always s es rests.run).not_undone rests.up).at_parity i d (subst (λ (t : Dimensions). d < t.k) (sym shape) below) (pin, lives)
+    by (suc i) pin lives = ((headline_always s es rests.run).not_undone rests.up).at_parity i d
+        (subst (λ (t : Dimensions). d < t.k) (sym shape) below) (pin, lives)
 
   pub settled : IsSettled w d (replica_of (process_of w (head_of w d)) d)
   settled = subst (λ (p : ProcessId). IsSettled w d (replica_of (process_of w p) d)) (sym head) keeps.settled
@@ -132,8 +140,10 @@ module _ (s : Dimensions) (es : List Event) (rests : Rests s es) (d : ℕ) (belo
 
   pub in-table : (x : List ℕ × Slot) → Contains (settled_items w d) x → InTable x
   in-table x there =
-      let home : home_of x.0 s.k ≡ d = ap (λ (t : Dimensions). home_of x.0 t.k) (sym shape) ∙ ap (λ (y : List ℕ × Slot). home_of y.0 w.shape.k) (sym there.2) ∙ settled.homes there.0 x there.1 in
-      let inside = each-contained (λ y. y.1.at + y.1.len ≤ space_of s) (store_after s d us).items x fits.inside (subst (λ (items : Items). Contains items x) (sym store-is) there) in
+      let home : home_of x.0 s.k ≡ d = ap (λ (t : Dimensions). home_of x.0 t.k) (sym shape)
+      ∙ ap (λ (y : List ℕ × Slot). home_of y.0 w.shape.k) (sym there.2) ∙ settled.homes there.0 x there.1 in
+      let inside = each-contained (λ y. y.1.at + y.1.len ≤ space_of s) (store_after s d us).items x fits.inside
+      (subst (λ (items : Items). Contains items x) (sym store-is) there) in
       record {
         home = home;
         there = table-at x.0 home ∙ ap (held_in space) (found-key (settled_items w d) x settled.once there);
@@ -145,6 +155,7 @@ module _ (s : Dimensions) (es : List Event) (rests : Rests s es) (d : ℕ) (belo
   pub in-items : (key : List ℕ) (h : Holding) → home_of key s.k ≡ d → (table_after_run s es).items key ≡ Some h
       → (slot : Slot) × Contains (settled_items w d) (key, slot) × (h ≡ held_as slot (bytes_at slot.at slot.len space))
   in-items key h home is = by (slot_in (settled_items w d) key) refl (sym (table-at key home) ∙ is) where
-    by : (o : Option Slot) → slot_in (settled_items w d) key ≡ o → held_in space o ≡ Some h → (slot : Slot) × Contains (settled_items w d) (key, slot) × (h ≡ held_as slot (bytes_at slot.at slot.len space))
+    by : (o : Option Slot) → slot_in (settled_items w d) key ≡ o → held_in space o ≡ Some h → (slot : Slot)
+        × Contains (settled_items w d) (key, slot) × (h ≡ held_as slot (bytes_at slot.at slot.len space))
     by None same is = absurd (cc is)
     by (Some slot) same is = (slot, key-found (settled_items w d) key slot same, sym (some-same (held_as slot (bytes_at slot.at slot.len space)) h is))

@@ -100,7 +100,8 @@ uncas f (Prepend key value) is = absurd is
 uncas f (Incr key by) is = absurd is
 uncas f (Decr key by) is = absurd is
 
-told-sets : (all : List Parcel) (bases : Bases) (k : ℕ) (many : 1 ≤ k) (Free : List ℕ → Type 0) (asked : List Event) (era : ℕ) (xs : List Entry) (ys : List EraEntry) → AreTold bases k asked era xs ys
+told-sets : (all : List Parcel) (bases : Bases) (k : ℕ) (many : 1 ≤ k) (Free : List ℕ → Type 0) (asked : List Event)
+    (era : ℕ) (xs : List Entry) (ys : List EraEntry) → AreTold bases k asked era xs ys
     → ((entry : Entry) → Contains xs entry → SetsOne all entry.op) → Each (λ y. SetsFree bases k many Free y.1.op) ys
 told-sets all bases k many Free asked era [] [] told sets = tt
 told-sets all bases k many Free asked era [] (y ∷ ys) told sets = absurd told
@@ -112,12 +113,15 @@ told-sets all bases k many Free asked era (x ∷ xs) (y ∷ ys) told sets =
     )
 
 -- a fresh era in which parcels are set
-pub sets-along : (Free : List ℕ → Type 0) (all : List Parcel) (s : Dimensions) (e : Eras) (done : List Event) → Standing Free e → e.world ≡ after s done → IsRun s done → Each (IsPlain all) done
+pub sets-along : (Free : List ℕ → Type 0) (all : List Parcel) (s : Dimensions) (e : Eras) (done : List Event)
+    → Standing Free e → e.world ≡ after s done → IsRun s done → Each (IsPlain all) done
     → (events : List Event) → IsRunFrom e.world events → Each (IsPlain all) events → Standing Free (eras_after e events)
 sets-along Free all s e done standing world ran plain [] run more = standing
 sets-along Free all s e done standing world ran plain (x ∷ xs) run more =
     sets-along Free all s (era_step e x).eras (done ++ x ∷ [])
-    (standing-next Free e standing x run.0 (λ many. told-sets all e.bases e.world.shape.k many Free (making.asked e standing.era x run.0) e.era (making.logged e standing.era x run.0)
+    (standing-next Free e standing x run.0
+    (λ many. told-sets all e.bases e.world.shape.k many Free (making.asked e standing.era x run.0) e.era
+    (making.logged e standing.era x run.0)
     (era_step e x).logged (making.logged-told e standing.era x run.0) sets))
     (came ∙ sym next) next-run (each-end done plain) xs
     (subst (λ (y : Event). IsRunFrom (step e.world y).world xs) (sym same) run.1) more.1

@@ -1,5 +1,6 @@
 -- Histories that stay fronts of given ones: so no process can settle anything else.
-use Rattle.std.proofs.Common.{ℕ, zero, suc, ◌≡◌, ◌≢◌, ◌<◌, ◌≤◌, true, false, List, [], ◌++◌, length, take, Some, ◌⊎◌, inl, inr, refl, sym, ap, subst, ◌∙◌, arith}
+use Rattle.std.proofs.Common.{ℕ, zero, suc, ◌≡◌, ◌≢◌, ◌<◌, ◌≤◌, true, false, List, [], ◌++◌, length, take, Some, ◌⊎◌}
+use Rattle.std.proofs.Common.{inl, inr, refl, sym, ap, subst, ◌∙◌, arith}
 use Rattle.std.specs.Prelude.{All}
 use Rattle.std.proofs.lemmas.Bool.{cases_eq}
 use Rattle.std.proofs.lemmas.List.{append-nil, take_all}
@@ -62,14 +63,17 @@ module _ (limit : ℕ → List Update) where
       by : (d : ℕ) → d < s.k → GrewBy d (v.settled d) (w.settled d) (w.process p) → Prolongs (w.settled d) (limit d)
       by d below (inl same) = subst (λ (us : List Update). Prolongs us (limit d)) (sym same) (all.2 d below)
       by d below (inr has) =
-          let kept = ((leaves d below).0).replicas p pin living (keeper-rank d has.head.rank p (head-from s w d members below p has.head pin living has.heads).0) in
+          let kept = ((leaves d below).0).replicas p pin living
+          (keeper-rank d has.head.rank p (head-from s w d members below p has.head pin living has.heads).0) in
           begins-trans (w.settled d) (history (w.settled d) (replica_of (w.process p) d)) (limit d) kept.prolongs kept.fine.1
 
-    asks : (v w : State) (p : ProcessId) (name : CallName) (op : Asked) → IsProcess s p → IsUp s v → v.dead p ≡ false → All (λ b. b < 256) (value_of op.act) → IssueKeeps (Upto limit) s v p name op
+    asks : (v w : State) (p : ProcessId) (name : CallName) (op : Asked) → IsProcess s p → IsUp s v → v.dead p ≡ false
+        → All (λ b. b < 256) (value_of op.act) → IssueKeeps (Upto limit) s v p name op
         → AllUpto s v → Acted s v w p (ask_process s name op (v.process p)).step → AllUpto s w
     asks v w p name op pin up lives bytes issues all acts =
         upto-after v w p (reaching.asks-both (Upto limit) upto-laws s shaped v w p name op pin up lives bytes issues all.0 all.1 acts)
-        ((keeps s shaped).treats v w p (ask_process s name op (v.process p)).step pin up lives (Asks name op bytes) all.0 acts) pin (acts.dead p pin ∙ lives) all
+        ((keeps s shaped).treats v w p (ask_process s name op (v.process p)).step pin up lives (Asks name op bytes)
+        all.0 acts) pin (acts.dead p pin ∙ lives) all
 
     receives : (v u w : State) (x p : ProcessId) (m : Message) → IsProcess s x → IsProcess s p → x ≢ p → IsUp s v → v.dead p ≡ false → AllUpto s v
         → Popped s v u x p m → Acted s u w p (receive s x m (v.process p)) → AllUpto s w
@@ -79,9 +83,12 @@ module _ (limit : ℕ → List Update) where
 
   -- an ask keeps them so where what it issues does, and a delivery always
   pub upto-ask : (h : History) (caller : ℕ) (op : Asked) (p : ProcessId) → FramedHistory h → IsShape h.world.shape → MayCome h.world (Ask caller op p)
-      → IssueKeeps (Upto limit) h.world.shape (state_of h) p (next_name h.world caller) op → AllUpto h.world.shape (state_of h) → AllUpto h.world.shape (state_of (prolonged h (Ask caller op p)))
+      → IssueKeeps (Upto limit) h.world.shape (state_of h) p (next_name h.world caller) op
+      → AllUpto h.world.shape (state_of h) → AllUpto h.world.shape (state_of (prolonged h (Ask caller op p)))
   upto-ask h caller op p framed shaped may issues all =
-      by (call-comes h.world.shape h.world.nodes h.settled framed p (ask_process h.world.shape (next_name h.world caller) op (node_of h.world p).process) may.1 (node_of h.world p).down (node_of h.world p).dead refl refl) where
+      by (call-comes h.world.shape h.world.nodes h.settled framed p
+      (ask_process h.world.shape (next_name h.world caller) op (node_of h.world p).process) may.1
+      (node_of h.world p).down (node_of h.world p).dead refl refl) where
         by : {w : State} {answer : Answer}
             → Answers h.world.shape (state_of h) w p (ask_process h.world.shape (next_name h.world caller) op (node_of h.world p).process) answer
             → AllUpto h.world.shape w
@@ -91,14 +98,17 @@ module _ (limit : ℕ → List Update) where
   pub upto-deliver : (h : History) (from to : ProcessId) → FramedHistory h → IsShape h.world.shape → MayCome h.world (Deliver from to)
       → AllUpto h.world.shape (state_of h) → AllUpto h.world.shape (state_of (prolonged h (Deliver from to)))
   upto-deliver h from to framed shaped may all =
-      by (message-comes h.world.shape h.world.nodes h.settled framed from to may.0 may.1 may.2 (node_of h.world to).down (node_of h.world to).dead refl refl (at [] (node_of h.world from).links (index_of h.world.shape to)) refl) where
+      by (message-comes h.world.shape h.world.nodes h.settled framed from to may.0 may.1 may.2 (node_of h.world to).down
+      (node_of h.world to).dead refl refl (at [] (node_of h.world from).links (index_of h.world.shape to)) refl) where
         by : {w : State} → Delivers h.world.shape (state_of h) w from to → AllUpto h.world.shape w
         by (Nothing same) = subst (AllUpto h.world.shape) (sym same) all
         by {w} (Takes u m up lives pops acts) = receives h.world.shape shaped (state_of h) u w from to m may.0 may.1 may.2 up lives all pops acts
 
 -- where all is delivered, and each partition has a head, every history is what is settled
 module _ (s : Dimensions) (v : State) (reached : Reached s v) (told : Told s v) (empty : IsEmpty s v)
-    (headed : (d : ℕ) → d < s.k → (r : ℕ) × (v.dead (of_rank d r) ≡ false) × IsProcess s (of_rank d r) × ((q : ℕ) → q < r → v.dead (of_rank d q) ≡ true) × ((h : Head) × (head_at (v.process (of_rank d r)) d ≡ Some h))) where
+    (headed : (d : ℕ) → d < s.k → (r : ℕ) × (v.dead (of_rank d r) ≡ false) × IsProcess s (of_rank d r)
+    × ((q : ℕ) → q < r → v.dead (of_rank d q) ≡ true)
+    × ((h : Head) × (head_at (v.process (of_rank d r)) d ≡ Some h))) where
   module _ (d : ℕ) (below : d < s.k) where
     abbrev r : ℕ
     r = (headed d below).0
@@ -129,7 +139,8 @@ module _ (s : Dimensions) (v : State) (reached : Reached s v) (told : Told s v) 
 
     pub all-applied : (replica_of (v.process p) d).applied ≡ length (v.settled d)
     all-applied = by (kept.heads h heads).all_or where
-      by : ((replica_of (v.process p) d).applied ≡ length (v.settled d)) ⊎ (((replica_of (v.process p) d).applied < h.inherited) × (length (v.settled d) ≤ h.inherited))
+      by : ((replica_of (v.process p) d).applied ≡ length (v.settled d))
+          ⊎ (((replica_of (v.process p) d).applied < h.inherited) × (length (v.settled d) ≤ h.inherited))
           → (replica_of (v.process p) d).applied ≡ length (v.settled d)
       by (inl same) = same
       by (inr both) =
@@ -146,9 +157,12 @@ module _ (s : Dimensions) (v : State) (reached : Reached s v) (told : Told s v) 
 
     -- so the head's items are those of all that is settled
     pub head-items : (replica_of (v.process p) d).items ≡ items_after [] (v.settled d)
-    head-items = kept.holds.items ∙ ap (items_after []) (take_all (replica_of (v.process p) d).applied (v.settled d) (let all = all-applied in omega (arith, all)))
+    head-items = kept.holds.items
+        ∙ ap (items_after []) (take_all (replica_of (v.process p) d).applied (v.settled d) (let all = all-applied in
+        omega (arith, all)))
 
-    parity-history : (i : ℕ) → i < s.m → p ≢ ParityNode i → v.dead (ParityNode i) ≡ false → history (v.settled d) (replica_of (v.process (ParityNode i)) d) ≡ v.settled d
+    parity-history : (i : ℕ) → i < s.m → p ≢ ParityNode i → v.dead (ParityNode i) ≡ false
+        → history (v.settled d) (replica_of (v.process (ParityNode i)) d) ≡ v.settled d
     parity-history i iin apart living = ends.history_is ∙ head-history where
       ends : EndsAt (v.settled d) (replica_of (v.process p) d) h (seen_at d (v.settled d) (v.process (ParityNode i)))
       ends =
@@ -159,7 +173,8 @@ module _ (s : Dimensions) (v : State) (reached : Reached s v) (told : Told s v) 
 
     any-history : (q : ProcessId) → IsProcess s q → v.dead q ≡ false → IsKeeper d q → history (v.settled d) (replica_of (v.process q) d) ≡ v.settled d
     any-history (ParityNode i) qin living keeps = by r refl where
-      other : (n : ℕ) → r ≡ n → (of_rank d n ≡ ParityNode i) ⊎ (of_rank d n ≢ ParityNode i) → history (v.settled d) (replica_of (v.process (ParityNode i)) d) ≡ v.settled d
+      other : (n : ℕ) → r ≡ n → (of_rank d n ≡ ParityNode i) ⊎ (of_rank d n ≢ ParityNode i)
+          → history (v.settled d) (replica_of (v.process (ParityNode i)) d) ≡ v.settled d
       other n is (inl same) =
           subst (λ (y : ProcessId). history (v.settled d) (replica_of (v.process y) d) ≡ v.settled d) (ap (of_rank d) is ∙ same) head-history
       other n is (inr apart) = parity-history i qin (λ same. apart (sym (ap (of_rank d) is) ∙ same)) living
@@ -186,15 +201,28 @@ module _ (s : Dimensions) (v : State) (reached : Reached s v) (told : Told s v) 
             applied = old.applied;
             prolongs = old.prolongs;
             short = old.short;
-            fine = (old.fine.0, subst (λ (us : List Update). Prolongs us (v.settled d)) (sym (any-history q qin living keeps)) (record { reaches = omega arith; front = take_all (length (v.settled d)) (v.settled d) (omega arith) }));
+            fine = (
+              old.fine.0,
+              subst (λ (us : List Update). Prolongs us (v.settled d))
+                  (sym (any-history q qin living keeps))
+                  (record {
+                    reaches = omega arith;
+                    front = take_all (length (v.settled d)) (v.settled d)
+                        (omega arith);
+                  }),
+            );
             holds = old.holds;
             heads = old.heads;
           };
       lanes = λ x i xin iin apart living.
-          let old : LaneReaches Any d (v.settled d) x i (v.dead x) (head_at (v.process x) d) (replica_of (v.process x) d) (seen_at d (v.settled d) (v.process (ParityNode i))) (v.link x (ParityNode i)) (v.link (ParityNode i) x)
+          let old : LaneReaches Any d (v.settled d) x i (v.dead x) (head_at (v.process x) d)
+          (replica_of (v.process x) d) (seen_at d (v.settled d) (v.process (ParityNode i))) (v.link x (ParityNode i))
+          (v.link (ParityNode i) x)
           = (reached.1 d below).lanes x i xin iin apart living in
           record {
-            goes = subst (λ (ms : List Message). Along (next d) (Goes (Upto v.settled) d (v.settled d)) (seen_at d (v.settled d) (v.process (ParityNode i))) ms) (sym (empty x (ParityNode i) xin iin living apart)) tt;
+            goes = subst (λ (ms : List Message). Along (next d) (Goes (Upto v.settled) d (v.settled d))
+                (seen_at d (v.settled d) (v.process (ParityNode i))) ms)
+                (sym (empty x (ParityNode i) xin iin living apart)) tt;
             ends = old.ends;
             kept = old.kept;
             acks = old.acks;

@@ -1,5 +1,6 @@
 -- Gets of items in a group at rest: each is answered with the item, or has to wait for a block.
-use Rattle.std.proofs.Common.{ℕ, ◌≡◌, ◌<◌, ◌+◌, Bool, true, false, List, [], ◌∷◌, ◌++◌, length, Option, Some, None, if◌then◌else◌, refl, sym, ap, subst, ◌∙◌, arith}
+use Rattle.std.proofs.Common.{ℕ, ◌≡◌, ◌<◌, ◌+◌, Bool, true, false, List, [], ◌∷◌, ◌++◌, length, Option, Some, None}
+use Rattle.std.proofs.Common.{if◌then◌else◌, refl, sym, ap, subst, ◌∙◌, arith}
 use Rattle.group_types.specs.Dimensions.{Dimensions}
 use Rattle.group_types.specs.Hash.{home_of}
 use Rattle.group_types.specs.Names.{IsProcess, of_rank}
@@ -46,10 +47,14 @@ pub rest-nodes : (v w : World) → v.shape ≡ w.shape → v.nodes ≡ w.nodes �
 rest-nodes v w shape nodes drained from to fin tin apart =
     ap (λ (xs : List Node). link (record v { nodes = xs }) from to) nodes
     ∙ ap (λ (t : Dimensions). link (record v { shape = t; nodes = w.nodes }) from to) shape
-    ∙ drained from to (subst (λ (t : Dimensions). IsProcess t from) shape fin)
-    (subst (λ (t : Dimensions). IsProcess t to) shape tin.0, sym (ap (λ (xs : List Node). is_dead (record v { nodes = xs }) to) nodes ∙ ap (λ (t : Dimensions). is_dead (record v { shape = t; nodes = w.nodes }) to) shape) ∙ tin.1) apart
+    ∙ drained from to (subst (λ (t : Dimensions). IsProcess t from) shape fin) (
+      subst (λ (t : Dimensions). IsProcess t to) shape tin.0,
+      sym (ap (λ (xs : List Node). is_dead (record v { nodes = xs }) to) nodes
+          ∙ ap (λ (t : Dimensions). is_dead (record v { shape = t; nodes = w.nodes }) to) shape) ∙ tin.1,
+    ) apart
 
-module _ (s : Dimensions) (es : List Event) (rests : Rests s es) (d : ℕ) (below : d < s.k) (r : ℕ) (heads : Heads (after s es) d r) (pin : IsProcess (after s es).shape (of_rank d r))
+module _ (s : Dimensions) (es : List Event) (rests : Rests s es) (d : ℕ) (below : d < s.k) (r : ℕ)
+    (heads : Heads (after s es) d r) (pin : IsProcess (after s es).shape (of_rank d r))
     (key : List ℕ) (home : home_of key s.k ≡ d) (h : Holding) (there : (table_after_run s es).items key ≡ Some h) (live : is_live 0 h.until ≡ true) where
   abbrev w : World
   w = after s es

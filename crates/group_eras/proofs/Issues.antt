@@ -80,7 +80,8 @@ module _ (w : World) (d : ℕ) (us : List Update) (ready : IsReadyAt w d us) (to
   pub new-here : slot_in (replica_of (process_of w (DataNode d)) d).items key ≡ None
   new-here = ap (λ (items : Items). slot_in items key) ready.items ∙ fresh-slot key us new
 
-  pub placed : (run : Run) × (place_for (space_of w.shape) (replica_of (process_of w (DataNode d)) d) (length value) ≡ Some run) × IsOnTop total (length value) run
+  pub placed : (run : Run) × (place_for (space_of w.shape) (replica_of (process_of w (DataNode d)) d) (length value)
+      ≡ Some run) × IsOnTop total (length value) run
   placed = placed-on-top (space_of w.shape) total r piled-here ready.quiet (length value) fits
 
   abbrev run : Run
@@ -88,7 +89,8 @@ module _ (w : World) (d : ℕ) (us : List Update) (ready : IsReadyAt w d us) (to
 
   -- the update
   pub issued-put : Update
-  issued-put = update_of (next_name w carrier) (put_op key flags expiry value) d (body_with key flags expiry value placed.0 (bytes_at placed.0.at placed.0.len p.space)) ends.Stored p
+  issued-put = update_of (next_name w carrier) (put_op key flags expiry value) d
+      (body_with key flags expiry value placed.0 (bytes_at placed.0.at placed.0.len p.space)) ends.Stored p
 
   pub put-key : issued-put.key ≡ key
   unfolding issued-put
@@ -96,18 +98,23 @@ module _ (w : World) (d : ℕ) (us : List Update) (ready : IsReadyAt w d us) (to
 
   pub decided : (inherited : ℕ) → decide (space_of w.shape) inherited r (put_op key flags expiry value) (found_at w.shape d p p.name)
       ≡ decides.Issue (body_with key flags expiry value placed.0 (bytes_at placed.0.at placed.0.len p.space)) ends.Stored
-  decided inherited = decide-put key flags expiry value (space_of w.shape) inherited r (found_at w.shape d p p.name) placed.0 (bytes_at placed.0.at placed.0.len p.space) ready.quiet new-here placed.1
+  decided inherited = decide-put key flags expiry value (space_of w.shape) inherited r (found_at w.shape d p p.name)
+      placed.0 (bytes_at placed.0.at placed.0.len p.space) ready.quiet new-here placed.1
       (ap (λ (y : ProcessId). found_at w.shape d p y placed.0) ready.name)
 
   -- it prolongs what is settled
-  pub issues : (limit : ℕ → List Update) → limit d ≡ us ++ issued-put ∷ [] → IssuesIn (Upto limit) w.shape d us p (next_name w carrier) (put_op key flags expiry value)
+  pub issues : (limit : ℕ → List Update) → limit d ≡ us ++ issued-put ∷ []
+      → IssuesIn (Upto limit) w.shape d us p (next_name w carrier) (put_op key flags expiry value)
   unfolding issued-put
   issues limit is h body outcome heads decides_so =
-      let same = issue-same (body_with key flags expiry value placed.0 (bytes_at placed.0.at placed.0.len p.space)) body ends.Stored outcome (sym (decided h.inherited) ∙ decides_so) in
+      let same = issue-same (body_with key flags expiry value placed.0 (bytes_at placed.0.at placed.0.len p.space)) body
+      ends.Stored outcome (sym (decided h.inherited) ∙ decides_so) in
       let front : us ++ issued-put ∷ [] ≡ history us r ++ update_of (next_name w carrier) (put_op key flags expiry value) d body outcome p ∷ []
       = ap₂ (λ (b : Body) (o : Outcome). us ++ update_of (next_name w carrier) (put_op key flags expiry value) d b o p ∷ []) same.0 same.1
       ∙ ap (λ (xs : List Update). xs ++ update_of (next_name w carrier) (put_op key flags expiry value) d body outcome p ∷ []) (sym ready.whole) in
-      subst (λ (xs : List Update). Prolongs (history us r ++ update_of (next_name w carrier) (put_op key flags expiry value) d body outcome p ∷ []) xs) (sym (is ∙ front))
+      subst (λ (xs : List Update).
+      Prolongs (history us r ++ update_of (next_name w carrier) (put_op key flags expiry value) d body outcome p
+      ∷ []) xs) (sym (is ∙ front))
       (record {
         reaches = omega arith;
         front = take_all (length (history us r ++ update_of (next_name w carrier) (put_op key flags expiry value) d body outcome p ∷ []))

@@ -1,5 +1,6 @@
 -- The table over all eras and that of the current one, op by op.
-use Rattle.std.proofs.Common.{ℕ, ◌≡◌, ◌≢◌, ◌<◌, ◌≤◌, ◌+◌, ◌==◌, nat_le, Bool, true, false, List, [], ◌∷◌, ◌++◌, length, map, Option, Some, None, if◌then◌else◌, ◌⊎◌, inl, inr, refl, sym, ap, subst, ◌∙◌, arith}
+use Rattle.std.proofs.Common.{ℕ, ◌≡◌, ◌≢◌, ◌<◌, ◌≤◌, ◌+◌, ◌==◌, nat_le, Bool, true, false, List, [], ◌∷◌, ◌++◌, length}
+use Rattle.std.proofs.Common.{map, Option, Some, None, if◌then◌else◌, ◌⊎◌, inl, inr, refl, sym, ap, subst, ◌∙◌, arith}
 use Rattle.std.specs.Prelude.{slice_index, slice_set}
 use Rattle.std.proofs.lemmas.Bool.{cases_eq}
 use Rattle.std.proofs.lemmas.List.{get_or-set_other, get_or-set_same, length-set}
@@ -134,14 +135,18 @@ module _ (bases : Bases) (k : ℕ) (some : 1 ≤ k) (Free : List ℕ → Type 0)
             ap (ruling_of op.moment (with_base bases (home key) (count_of own key + 1)) op.act) (same-live bases (home key) op.moment (all.items key) y same)
             ∙ ruling-shift bases (home key) op.moment (count_of own key + 1) op.act (live_at op.moment y) (cas-live bases (home key) op.moment y has)
 
-        by : Meets key (all.items key) (own.items key) → ruling_of op.moment (with_base bases (home key) (count_of own key + 1)) op.act (live_at op.moment (all.items key))
+        by : Meets key (all.items key) (own.items key)
+            → ruling_of op.moment (with_base bases (home key) (count_of own key + 1)) op.act
+            (live_at op.moment (all.items key))
             ≡ shift_ruling bases (home key) (ruling_of op.moment (count_of own key + 1) act (live_at op.moment (own.items key)))
         by (inl (Alike is has)) = of-same (own.items key) has (Alike is has)
         by (inl (Gone h is ends none)) = of-same (own.items key) (subst HasCas (sym none) tt) (Gone h is ends none)
-        by (inr both) = set-shift bases (home key) op.moment (count_of own key + 1) op.act (live_at op.moment (all.items key)) (live_at op.moment (own.items key)) (sets both.0)
+        by (inr both) = set-shift bases (home key) op.moment (count_of own key + 1) op.act
+            (live_at op.moment (all.items key)) (live_at op.moment (own.items key)) (sets both.0)
 
       own-ruling : ruling_on own (op_in bases k op) ≡ ruling_of op.moment (count_of own key + 1) act (live_at op.moment (own.items key))
-      own-ruling = ap (λ (x : List ℕ). ruling_of op.moment (count_of own x + 1) act (live_at op.moment (own.items x))) (key-cas (without_base bases (home key)) op.act)
+      own-ruling = ap (λ (x : List ℕ). ruling_of op.moment (count_of own x + 1) act (live_at op.moment (own.items x)))
+          (key-cas (without_base bases (home key)) op.act)
 
       -- what comes of the op is what comes of it in the era
       pub ruling-joined : ruling_on all op ≡ shift_ruling bases (home key) (ruling_on own (op_in bases k op))
@@ -158,13 +163,15 @@ module _ (bases : Bases) (k : ℕ) (some : 1 ≤ k) (Free : List ℕ → Type 0)
 
       leaves : LeavesCas (ruling_on own (op_in bases k op))
       leaves = subst LeavesCas (sym own-ruling)
-          (ruling-cas op.moment (count_of own key + 1) act (live_at op.moment (own.items key)) (omega arith) (cas-live bases (home key) op.moment (own.items key) own-cas))
+          (ruling-cas op.moment (count_of own key + 1) act (live_at op.moment (own.items key)) (omega arith)
+          (cas-live bases (home key) op.moment (own.items key) own-cas))
 
       pub reply-joined : reply_of all op ≡ told_reply bases (home key) (reply_of own (op_in bases k op))
       reply-joined = ap reply_in ruling-joined ∙ by (ruling_on own (op_in bases k op)) (accepting own) where
         -- a reply that accepts has no number
         accepting : (t : Contents) → Tells (ruling_on t (op_in bases k op))
-        accepting t = tells op.moment (count_of t (key_of (op_in bases k op).act) + 1) (op_in bases k op).act (live_at op.moment (t.items (key_of (op_in bases k op).act)))
+        accepting t = tells op.moment (count_of t (key_of (op_in bases k op).act) + 1) (op_in bases k op).act
+            (live_at op.moment (t.items (key_of (op_in bases k op).act)))
 
         by : (r : Ruling) → Tells r → reply_in (shift_ruling bases (home key) r) ≡ told_reply bases (home key) (reply_in r)
         by (Refused reply) tells = refl
@@ -186,7 +193,8 @@ module _ (bases : Bases) (k : ℕ) (some : 1 ≤ k) (Free : List ℕ → Type 0)
       at-place t d many = ap (λ (i : ℕ). slice_index (slice_set t.counts i (count_of t key + 1)) d) (place t many)
 
       counted : (d : ℕ) → d < k → (d ≡ home key) ⊎ (d ≢ home key)
-          → slice_index (slice_set all.counts (partition_of all key) (count_of all key + 1)) d ≡ with_base bases d (slice_index (slice_set own.counts (partition_of own key) (count_of own key + 1)) d)
+          → slice_index (slice_set all.counts (partition_of all key) (count_of all key + 1)) d
+          ≡ with_base bases d (slice_index (slice_set own.counts (partition_of own key) (count_of own key + 1)) d)
       counted d below (inl same) =
           let a = at-place all d joined.many_all ∙ ap (slice_index (slice_set all.counts (home key) (count_of all key + 1))) same
           ∙ get_or-set_same all.counts (home key) (count_of all key + 1) 0 (let low = home-below key k some in omega (arith, joined.many_all, low)) in
@@ -203,21 +211,27 @@ module _ (bases : Bases) (k : ℕ) (some : 1 ≤ k) (Free : List ℕ → Type 0)
           let c = joined.counts d below in
           omega (arith, a, o, c)
 
-      item : (other : List ℕ) (b : Bool) → same_key key other ≡ b → Meets other (if same_key key other then shift bases (home key) left else all.items other) (if same_key key other then left else own.items other)
+      item : (other : List ℕ) (b : Bool) → same_key key other ≡ b
+          → Meets other (if same_key key other then shift bases (home key) left else all.items other)
+          (if same_key key other then left else own.items other)
       item other true is =
           let here : key ≡ other = key-eq key other is in
           inl (Alike (ap (λ (t : Bool). if t then shift bases (home key) left else all.items other) is
           ∙ ap (λ (q : List ℕ). shift bases (home q) left) here ∙ ap (λ (t : Bool). shift bases (home other) (if t then left else own.items other)) (sym is))
           (subst (λ (t : Bool). HasCas (if t then left else own.items other)) (sym is) has))
-      item other false is = subst (λ (t : Bool). Meets other (if t then shift bases (home key) left else all.items other) (if t then left else own.items other)) (sym is) (joined.items other)
+      item other false is =
+          subst (λ (t : Bool). Meets other (if t then shift bases (home key) left else all.items other)
+          (if t then left else own.items other)) (sym is) (joined.items other)
 
     -- so they are joined after it
     pub after-joined : (op : Asked) → SetsFree op → Joined (table_after all op) (table_after own (op_in bases k op))
     after-joined op sets =
         let r : Ruling = ruling_on own (op_in bases k op) in
-        let next : Joined (after_ruling all (key_of op.act) (shift_ruling bases (home (key_of op.act)) r)) (after_ruling own (key_of op.act) r) = after (key_of op.act) r (leaves op sets) in
+        let next : Joined (after_ruling all (key_of op.act) (shift_ruling bases (home (key_of op.act)) r))
+        (after_ruling own (key_of op.act) r) = after (key_of op.act) r (leaves op sets) in
         subst (λ (x : Ruling). Joined (after_ruling all (key_of op.act) x) (table_after own (op_in bases k op))) (sym (ruling-joined op sets))
-        (subst (λ (q : List ℕ). Joined (after_ruling all (key_of op.act) (shift_ruling bases (home (key_of op.act)) r)) (after_ruling own q r)) (sym (key-cas (without_base bases (home (key_of op.act))) op.act)) next)
+        (subst (λ (q : List ℕ). Joined (after_ruling all (key_of op.act) (shift_ruling bases (home (key_of op.act)) r))
+        (after_ruling own q r)) (sym (key-cas (without_base bases (home (key_of op.act))) op.act)) next)
 
   -- a log of the era, as it is told, is legal behind that of the eras before
   pub told-legal : (asked : List Event) (era : ℕ) (all own : Contents) (entries : List Entry) (told : List EraEntry) → Joined all own → IsLegalFrom own entries
@@ -230,6 +244,14 @@ module _ (bases : Bases) (k : ℕ) (some : 1 ≤ k) (Free : List ℕ → Type 0)
       let told = are.1 in
       let op : Asked = y.1.op in
       let is : x.op ≡ op_in bases k op = told.op in
-      let next : Joined (table_after all op) (table_after own x.op) = subst (λ (o : Asked). Joined (table_after all op) (table_after own o)) (sym is) (after-joined all own joined op sets.0) in
-      let rest = told-legal asked era (table_after all op) (table_after own x.op) xs ys next legal.1 are.2 sets.1 in
-      ((told.reply ∙ ap (told_reply bases (home (key_of op.act))) (legal.0 ∙ ap (reply_of own) is) ∙ sym (reply-joined all own joined op sets.0), rest.0), rest.1)
+      let next : Joined (table_after all op) (table_after own x.op) =
+      subst (λ (o : Asked). Joined (table_after all op) (table_after own o)) (sym is)
+      (after-joined all own joined op sets.0) in
+      let rest = told-legal asked era (table_after all op) (table_after own x.op) xs ys next legal.1 are.2 sets.1 in (
+        (
+          told.reply ∙ ap (told_reply bases (home (key_of op.act))) (legal.0 ∙ ap (reply_of own) is)
+              ∙ sym (reply-joined all own joined op sets.0),
+          rest.0,
+        ),
+        rest.1,
+      )

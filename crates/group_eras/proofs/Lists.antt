@@ -32,7 +32,8 @@ map-both f (x ∷ xs) ys = ap (λ (zs : List _). f x ∷ zs) (map-both f xs ys)
 pub contains-map : {X Y : Type 0} (f : X → Y) (xs : List X) (x : X) → Contains xs x → Contains (map f xs) (f x)
 contains-map f [] x there = absurd (let low = there.1 in omega (arith, low))
 contains-map f (y ∷ ys) x (zero, low, is) = (0, omega arith, ap f is)
-contains-map f (y ∷ ys) x (suc i, low, is) = let rest = contains-map f ys x (i, omega (arith, low), is) in (suc rest.0, (let less = rest.1 in omega (arith, less)), rest.2)
+contains-map f (y ∷ ys) x (suc i, low, is) = let rest = contains-map f ys x (i, omega (arith, low), is) in
+    (suc rest.0, (let less = rest.1 in omega (arith, less)), rest.2)
 
 pub each-self : {X : Type 0} (xs : List X) → Each (Contains xs) xs
 each-self xs = inside xs (λ x there. there) where

@@ -1,5 +1,6 @@
 -- Items that live, and what a carry makes of them.
-use Rattle.std.proofs.Common.{ℕ, zero, suc, ◌≡◌, ◌<◌, ◌≤◌, ◌+◌, ◌==◌, nat_le, nat_lt, Bool, true, false, cond, List, [], ◌∷◌, ◌++◌, map, Option, Some, None, if◌then◌else◌, ◌⊎◌, inl, inr, refl, ap, subst, arith}
+use Rattle.std.proofs.Common.{ℕ, zero, suc, ◌≡◌, ◌<◌, ◌≤◌, ◌+◌, ◌==◌, nat_le, nat_lt, Bool, true, false, cond, List, []}
+use Rattle.std.proofs.Common.{◌∷◌, ◌++◌, map, Option, Some, None, if◌then◌else◌, ◌⊎◌, inl, inr, refl, ap, subst, arith}
 use Rattle.std.specs.Prelude.{Contains, filter}
 use Rattle.std.specs.List.{range_with_len}
 use Rattle.std.proofs.lemmas.Bool.{cases_lt}
@@ -13,13 +14,15 @@ use Rattle.group_eras.specs.Carry.{expiry_of}
 use Rattle.group_eras.specs.Items.{Load, load_from, loads_in, loads_of}
 
 -- an item that lives is carried
-pub live-load : (d : ℕ) (items : Items) (x : List ℕ × Slot) → Contains items x → is_live 0 x.1.until ≡ true → Contains (map (load_from d) (filter (λ y. is_live 0 y.1.until) items)) (load_from d x)
+pub live-load : (d : ℕ) (items : Items) (x : List ℕ × Slot) → Contains items x → is_live 0 x.1.until ≡ true
+    → Contains (map (load_from d) (filter (λ y. is_live 0 y.1.until) items)) (load_from d x)
 live-load d [] x there live = absurd (let low = there.1 in omega (arith, low))
 live-load d (y ∷ ys) x there live = by there (is_live 0 y.1.until) refl (λ rest. live-load d ys x rest live) where
   tail : List Load
   tail = map (load_from d) (filter (λ z. is_live 0 z.1.until) ys)
 
-  by : Contains (y ∷ ys) x → (b : Bool) → is_live 0 y.1.until ≡ b → (Contains ys x → Contains (map (load_from d) (filter (λ z. is_live 0 z.1.until) ys)) (load_from d x))
+  by : Contains (y ∷ ys) x → (b : Bool) → is_live 0 y.1.until ≡ b
+      → (Contains ys x → Contains (map (load_from d) (filter (λ z. is_live 0 z.1.until) ys)) (load_from d x))
       → Contains (map (load_from d) (cond b (y ∷ filter (λ z. is_live 0 z.1.until) ys) (filter (λ z. is_live 0 z.1.until) ys))) (load_from d x)
   by (zero, low, is) true same later = (0, omega arith, ap (load_from d) is)
   by (zero, low, is) false same later = absurd (cc (same, is, live))

@@ -1,5 +1,6 @@
 -- The items that are carried have different keys, and their values are as long as their slots say.
-use Rattle.std.proofs.Common.{ℕ, zero, suc, ◌≡◌, ◌≢◌, ◌<◌, ◌≤◌, ◌+◌, ◌==◌, Bool, true, false, cond, List, [], ◌∷◌, ◌++◌, length, map, AllPairs, ◌⊎◌, inl, inr, refl, sym, ap, subst, ◌∙◌, arith}
+use Rattle.std.proofs.Common.{ℕ, zero, suc, ◌≡◌, ◌≢◌, ◌<◌, ◌≤◌, ◌+◌, ◌==◌, Bool, true, false, cond, List, [], ◌∷◌, ◌++◌}
+use Rattle.std.proofs.Common.{length, map, AllPairs, ◌⊎◌, inl, inr, refl, sym, ap, subst, ◌∙◌, arith}
 use Rattle.group_types.proofs.Eaches.{each-append, each-weaker}
 use Rattle.group_eras.proofs.Lists.{map-both}
 use Rattle.std.specs.Prelude.{Contains, filter}
@@ -28,7 +29,10 @@ KeysApart x y = x.key ≢ y.key
 
 two-of : {X : Type 0} (R : X → X → Type 0) (xs : List X) → AllPairs R xs → EachTwo R xs
 two-of R [] all = tt
-two-of R (x ∷ xs) all = (first xs (λ i d low. all 0 (suc i) d (omega arith) (omega (arith, low))), two-of R xs (λ i j d before below. all (suc i) (suc j) d (omega (arith, before)) (omega (arith, below)))) where
+two-of R (x ∷ xs) all = (
+  first xs (λ i d low. all 0 (suc i) d (omega arith) (omega (arith, low))),
+  two-of R xs (λ i j d before below. all (suc i) (suc j) d (omega (arith, before)) (omega (arith, below))),
+) where
   first : (ys : List _) → ((i : ℕ) (d : _) → i < length ys → R x (slice_index_or ys i d)) → Each (R x) ys
   first [] each = tt
   first (y ∷ ys) each = (each 0 y (omega arith), first ys (λ i d low. each (suc i) d (omega (arith, low))))
@@ -86,7 +90,8 @@ module _ (s : Dimensions) (es : List Event) (rests : Rests s es) where
   homes-from zero a low = tt
   homes-from (suc n) a low = each-append (HomeFrom a) (loads_in w a) (loads_of w (range_with_len (a + 1) n))
       (each-weaker (OfPartition a) (HomeFrom a) (λ x of. let home = of.1 in omega (arith, home)) (loads_in w a) (of-partition a (omega (arith, low))))
-      (each-weaker (HomeFrom (a + 1)) (HomeFrom a) (λ x from. omega (arith, from)) (loads_of w (range_with_len (a + 1) n)) (homes-from n (a + 1) (omega (arith, low))))
+      (each-weaker (HomeFrom (a + 1)) (HomeFrom a) (λ x from. omega (arith, from))
+      (loads_of w (range_with_len (a + 1) n)) (homes-from n (a + 1) (omega (arith, low))))
 
   two-loads : (n a : ℕ) → a + n ≤ s.k → EachTwo KeysApart (loads_of w (range_with_len a n))
   two-loads zero a low = tt
@@ -112,7 +117,8 @@ module _ (s : Dimensions) (es : List Event) (rests : Rests s es) where
   abbrev pub parcels_of : List Load → List Parcel
   parcels_of xs = map (parcel_for s es rests) xs
 
-  weight-one : (d e : ℕ) (xs : List Load) → Each (IsLoad s w) xs → Each (OfPartition d) xs → weight e (parcels_of xs) ≡ weight_if (d == e) (sum_by (λ x. x.slot.len) xs)
+  weight-one : (d e : ℕ) (xs : List Load) → Each (IsLoad s w) xs → Each (OfPartition d) xs → weight e (parcels_of xs)
+      ≡ weight_if (d == e) (sum_by (λ x. x.slot.len) xs)
   weight-one d e [] loads of = nothing (d == e) where
     nothing : (b : Bool) → 0 ≡ weight_if b 0
     nothing true = refl
@@ -124,18 +130,24 @@ module _ (s : Dimensions) (es : List Event) (rests : Rests s es) where
     by : (b : Bool) → weight e (parcels_of xs) ≡ weight_if b (sum_by (λ y. y.slot.len) xs) → (x.partition == e) ≡ b
         → weight_if (x.partition == e) (length (parcel_for s es rests x).value) + weight e (parcels_of xs) ≡ weight_if b (sum_by (λ y. y.slot.len) (x ∷ xs))
     by true rest same =
-        let one : weight_if (x.partition == e) (length (parcel_for s es rests x).value) ≡ length (parcel_for s es rests x).value = ap (λ (b : Bool). weight_if b (length (parcel_for s es rests x).value)) same in
+        let one : weight_if (x.partition == e) (length (parcel_for s es rests x).value)
+        ≡ length (parcel_for s es rests x).value =
+        ap (λ (b : Bool). weight_if b (length (parcel_for s es rests x).value)) same in
         let cons = sum_by-cons (λ (y : Load). y.slot.len) x xs in
         omega (arith, one, cons, rest, long)
     by false rest same =
-        let none : weight_if (x.partition == e) (length (parcel_for s es rests x).value) ≡ 0 = ap (λ (b : Bool). weight_if b (length (parcel_for s es rests x).value)) same in
+        let none : weight_if (x.partition == e) (length (parcel_for s es rests x).value) ≡ 0 =
+        ap (λ (b : Bool). weight_if b (length (parcel_for s es rests x).value)) same in
         omega (arith, none, rest)
 
   no-weight : (e n a : ℕ) → e < a → a + n ≤ s.k → weight e (parcels_of (loads_of w (range_with_len a n))) ≡ 0
   no-weight e zero a above low = refl
   no-weight e (suc n) a above low =
-      let both = ap (weight e) (map-both (parcel_for s es rests) (loads_in w a) (loads_of w (range_with_len (a + 1) n))) ∙ weight-both e (parcels_of (loads_in w a)) (parcels_of (loads_of w (range_with_len (a + 1) n))) in
-      let here : weight e (parcels_of (loads_in w a)) ≡ 0 = weight-one a e (loads_in w a) (some-loads s w a (omega (arith, low)) (settled_items w a) (λ x there. there)) (of-partition a (omega (arith, low)))
+      let both = ap (weight e) (map-both (parcel_for s es rests) (loads_in w a) (loads_of w (range_with_len (a + 1) n)))
+      ∙ weight-both e (parcels_of (loads_in w a)) (parcels_of (loads_of w (range_with_len (a + 1) n))) in
+      let here : weight e (parcels_of (loads_in w a)) ≡ 0 =
+      weight-one a e (loads_in w a) (some-loads s w a (omega (arith, low)) (settled_items w a) (λ x there. there))
+      (of-partition a (omega (arith, low)))
       ∙ ap (λ (b : Bool). weight_if b (sum_by (λ x. x.slot.len) (loads_in w a))) (ne_eqb a e (λ (same : a ≡ e). omega (arith, same, above))) in
       let rest = no-weight e n (a + 1) (omega (arith, above)) (omega (arith, low)) in
       omega (arith, both, here, rest)
@@ -143,23 +155,29 @@ module _ (s : Dimensions) (es : List Event) (rests : Rests s es) where
   weight-loads : (e n a : ℕ) → a ≤ e → e < a + n → a + n ≤ s.k → weight e (parcels_of (loads_of w (range_with_len a n))) ≡ bytes_in w e
   weight-loads e zero a from to low = absurd (omega (arith, from, to))
   weight-loads e (suc n) a from to low = by (cases_eq a e) (λ above. weight-loads e n (a + 1) above (omega (arith, to)) (omega (arith, low))) where
-    both : weight e (parcels_of (loads_of w (range_with_len a (suc n)))) ≡ weight e (parcels_of (loads_in w a)) + weight e (parcels_of (loads_of w (range_with_len (a + 1) n)))
-    both = ap (weight e) (map-both (parcel_for s es rests) (loads_in w a) (loads_of w (range_with_len (a + 1) n))) ∙ weight-both e (parcels_of (loads_in w a)) (parcels_of (loads_of w (range_with_len (a + 1) n)))
+    both : weight e (parcels_of (loads_of w (range_with_len a (suc n)))) ≡ weight e (parcels_of (loads_in w a)) + weight
+        e (parcels_of (loads_of w (range_with_len (a + 1) n)))
+    both = ap (weight e) (map-both (parcel_for s es rests) (loads_in w a) (loads_of w (range_with_len (a + 1) n)))
+        ∙ weight-both e (parcels_of (loads_in w a)) (parcels_of (loads_of w (range_with_len (a + 1) n)))
 
     one : weight e (parcels_of (loads_in w a)) ≡ weight_if (a == e) (sum_by (λ x. x.slot.len) (loads_in w a))
     one = weight-one a e (loads_in w a) (some-loads s w a (omega (arith, low)) (settled_items w a) (λ x there. there)) (of-partition a (omega (arith, low)))
 
-    by : (a ≡ e) ⊎ (a ≢ e) → (a + 1 ≤ e → weight e (parcels_of (loads_of w (range_with_len (a + 1) n))) ≡ bytes_in w e) → weight e (parcels_of (loads_of w (range_with_len a (suc n)))) ≡ bytes_in w e
+    by : (a ≡ e) ⊎ (a ≢ e) → (a + 1 ≤ e → weight e (parcels_of (loads_of w (range_with_len (a + 1) n))) ≡ bytes_in w e)
+        → weight e (parcels_of (loads_of w (range_with_len a (suc n)))) ≡ bytes_in w e
     by (inl same) later =
-        let here : weight_if (a == e) (sum_by (λ x. x.slot.len) (loads_in w a)) ≡ bytes_in w a = ap (λ (b : Bool). weight_if b (sum_by (λ x. x.slot.len) (loads_in w a))) (eq-eqb a e same) in
+        let here : weight_if (a == e) (sum_by (λ x. x.slot.len) (loads_in w a)) ≡ bytes_in w a =
+        ap (λ (b : Bool). weight_if b (sum_by (λ x. x.slot.len) (loads_in w a))) (eq-eqb a e same) in
         let rest = no-weight e n (a + 1) (omega (arith, same)) (omega (arith, low)) in
         let all : weight e (parcels_of (loads_of w (range_with_len a (suc n)))) ≡ bytes_in w a = omega (arith, both, one, here, rest) in
         all ∙ ap (bytes_in w) same
     by (inr other) later =
-        let none : weight_if (a == e) (sum_by (λ x. x.slot.len) (loads_in w a)) ≡ 0 = ap (λ (b : Bool). weight_if b (sum_by (λ x. x.slot.len) (loads_in w a))) (ne_eqb a e other) in
+        let none : weight_if (a == e) (sum_by (λ x. x.slot.len) (loads_in w a)) ≡ 0 =
+        ap (λ (b : Bool). weight_if b (sum_by (λ x. x.slot.len) (loads_in w a))) (ne_eqb a e other) in
         let rest = later (omega (arith, from, other)) in
         omega (arith, both, one, none, rest)
 
   -- all values of a partition have as many bytes as its items
   pub weight-is : (d : ℕ) → d < s.k → weight d (parcels_of (loads w)) ≡ bytes_in w d
-  weight-is d below = ap (λ (k : ℕ). weight d (parcels_of (loads_of w (range_with_len 0 k)))) partitions ∙ weight-loads d s.k 0 (omega arith) (omega (arith, below)) (omega arith)
+  weight-is d below = ap (λ (k : ℕ). weight d (parcels_of (loads_of w (range_with_len 0 k)))) partitions
+      ∙ weight-loads d s.k 0 (omega arith) (omega (arith, below)) (omega arith)

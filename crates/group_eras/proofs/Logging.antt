@@ -1,5 +1,6 @@
 -- What an event logs is of its own call, or accepted; and who is accepted by a cas has a cas number above 0.
-use Rattle.std.proofs.Common.{ℕ, zero, suc, ◌≡◌, ◌≤◌, ◌+◌, ◌==◌, Bool, true, false, List, [], ◌∷◌, length, Option, Some, None, if◌then◌else◌, ◌⊎◌, inl, inr, refl, sym, ap, subst, ◌∙◌, arith}
+use Rattle.std.proofs.Common.{ℕ, zero, suc, ◌≡◌, ◌≤◌, ◌+◌, ◌==◌, Bool, true, false, List, [], ◌∷◌, length, Option, Some}
+use Rattle.std.proofs.Common.{None, if◌then◌else◌, ◌⊎◌, inl, inr, refl, sym, ap, subst, ◌∙◌, arith}
 use Rattle.std.specs.Prelude.{Contains}
 use Rattle.std.specs.List.{range_with_len}
 use Rattle.std.proofs.lemmas.Bool.{eqb-true}
@@ -25,7 +26,9 @@ use Rattle.group_calls.specs.declared.event.Answer.{Answer}
 use Rattle.group_calls.specs.declared.event.Answer.TheVariants as says
 use Rattle.group_calls.specs.declared.event.Event.{Event}
 use Rattle.group_run.specs.Applying.{Settlement}
-use Rattle.group_run.specs.World.{Call, Ledger, Ticket, World, call_of, entries_for, entry_then, group_step, grown, ledger_after, ledger_with, logged_at_once, new_ones, op_in, refusal_logged, settled_in, step, tickets_after, update_name}
+use Rattle.group_run.specs.World.{Call, Ledger, Ticket, World, call_of, entries_for, entry_then, group_step, grown}
+use Rattle.group_run.specs.World.{ledger_after, ledger_with, logged_at_once, new_ones, op_in, refusal_logged}
+use Rattle.group_run.specs.World.{settled_in, step, tickets_after, update_name}
 use Rattle.law_moves.proofs.Reading.{grown-is}
 use Rattle.law_log.proofs.Entries.{accepted-from}
 use Rattle.group_eras.proofs.Shifts.{HasCas, LeavesCas, cas-live, ruling-cas}
@@ -33,12 +36,14 @@ use Rattle.group_eras.proofs.Shifts.{HasCas, LeavesCas, cas-live, ruling-cas}
 accepted-for : (tickets : List Ticket) (us : List Update) (e : Entry) → Contains (entries_for tickets us) e → accepts e.reply ≡ true
 accepted-for tickets [] e there = absurd (let low = there.1 in omega (arith, low))
 accepted-for tickets (u ∷ us) e there = by (op_in (update_name u) tickets) there (accepted-for tickets us e) where
-  by : (o : Option Asked) → Contains (entry_then u o (entries_for tickets us)) e → (Contains (entries_for tickets us) e → accepts e.reply ≡ true) → accepts e.reply ≡ true
+  by : (o : Option Asked) → Contains (entry_then u o (entries_for tickets us)) e
+      → (Contains (entries_for tickets us) e → accepts e.reply ≡ true) → accepts e.reply ≡ true
   by None there rest = rest there
   by (Some op) (zero, low, is) rest = ap (λ (x : Entry). accepts x.reply) (sym is) ∙ accepted-from u.outcome
   by (Some op) (suc i, low, is) rest = rest (i, omega (arith, low), is)
 
-in-ledger : (tickets : List Ticket) (settled : List Settlement) (ds : List ℕ) (ledger : Ledger) (e : Entry) → Contains (ledger_after tickets settled ds ledger).logged e
+in-ledger : (tickets : List Ticket) (settled : List Settlement) (ds : List ℕ) (ledger : Ledger) (e : Entry)
+    → Contains (ledger_after tickets settled ds ledger).logged e
     → Contains ledger.logged e ⊎ (accepts e.reply ≡ true)
 in-ledger tickets settled [] ledger e there = inl there
 in-ledger tickets settled (d ∷ ds) ledger e there = by (in-ledger tickets settled ds (ledger_with tickets d (news d) ledger) e there) where
@@ -46,10 +51,12 @@ in-ledger tickets settled (d ∷ ds) ledger e there = by (in-ledger tickets sett
   news d = new_ones (length (at [] ledger.places d)) (settled_in d settled)
 
   split : (us : List Update) → Contains (grown ledger.logged (entries_for tickets us)) e → Contains ledger.logged e ⊎ (accepts e.reply ≡ true)
-  split us here = cases (Contains-append_cases ledger.logged (entries_for tickets us) e (subst (λ (es : List Entry). Contains es e) (grown-is ledger.logged (entries_for tickets us)) here)) where
-    cases : Contains ledger.logged e ⊎ Contains (entries_for tickets us) e → Contains ledger.logged e ⊎ (accepts e.reply ≡ true)
-    cases (inl old) = inl old
-    cases (inr new) = inr (accepted-for tickets us e new)
+  split us here =
+      cases (Contains-append_cases ledger.logged (entries_for tickets us) e
+      (subst (λ (es : List Entry). Contains es e) (grown-is ledger.logged (entries_for tickets us)) here)) where
+        cases : Contains ledger.logged e ⊎ Contains (entries_for tickets us) e → Contains ledger.logged e ⊎ (accepts e.reply ≡ true)
+        cases (inl old) = inl old
+        cases (inr new) = inr (accepted-for tickets us e new)
 
   by : Contains (grown ledger.logged (entries_for tickets (news d))) e ⊎ (accepts e.reply ≡ true) → Contains ledger.logged e ⊎ (accepts e.reply ≡ true)
   by (inl here) = split (news d) here
@@ -99,14 +106,17 @@ abbrev pub AllHaveCas : Contents → Type 0
 AllHaveCas t = (key : List ℕ) → HasCas (t.items key)
 
 pub cas-after : (t : Contents) (op : Asked) → AllHaveCas t → AllHaveCas (table_after t op)
-cas-after t op all other = by (ruling_on t op) (ruling-cas op.moment (count_of t (key_of op.act) + 1) op.act (live_at op.moment (t.items (key_of op.act))) (omega arith) (cas-live [] 0 op.moment (t.items (key_of op.act)) (all (key_of op.act)))) where
-  choose : (b : Bool) (left : Option Holding) → HasCas left → HasCas (if b then left else t.items other)
-  choose true left has = has
-  choose false left has = all other
+cas-after t op all other =
+    by (ruling_on t op) (ruling-cas op.moment (count_of t (key_of op.act) + 1) op.act
+    (live_at op.moment (t.items (key_of op.act))) (omega arith)
+    (cas-live [] 0 op.moment (t.items (key_of op.act)) (all (key_of op.act)))) where
+      choose : (b : Bool) (left : Option Holding) → HasCas left → HasCas (if b then left else t.items other)
+      choose true left has = has
+      choose false left has = all other
 
-  by : (r : Ruling) → LeavesCas r → HasCas ((after_ruling t (key_of op.act) r).items other)
-  by (Refused reply) has = all other
-  by (Accepted reply left) has = choose (same_key (key_of op.act) other) left has
+      by : (r : Ruling) → LeavesCas r → HasCas ((after_ruling t (key_of op.act) r).items other)
+      by (Refused reply) has = all other
+      by (Accepted reply left) has = choose (same_key (key_of op.act) other) left has
 
 -- the cas number that an act brings is above 0, if it brings one
 abbrev pub BringsCas : Act → Type 0
@@ -120,7 +130,9 @@ brings t n (Add key flags expiry value) y has is = tt
 brings t n (Replace key flags expiry value) y has is = tt
 brings t n (Cas key flags expiry cas value) None has is = absurd (cc is)
 brings t n (Cas key flags expiry cas value) (Some h) has is = by (h.item.cas == cas) refl is where
-  by : (b : Bool) → (h.item.cas == cas) ≡ b → accepts (reply_in (if b then ruling_of t n (Set key flags expiry value) None else Refused reply.Exists)) ≡ true → 1 ≤ cas
+  by : (b : Bool) → (h.item.cas == cas) ≡ b
+      → accepts (reply_in (if b then ruling_of t n (Set key flags expiry value) None else Refused reply.Exists)) ≡ true
+      → 1 ≤ cas
   by true same is = let one : h.item.cas ≡ cas = eqb-true h.item.cas cas same in omega (arith, one, has)
   by false same is = absurd (cc is)
 brings t n (Delete key) y has is = tt
@@ -130,11 +142,14 @@ brings t n (Prepend key value) y has is = tt
 brings t n (Incr key by) y has is = tt
 brings t n (Decr key by) y has is = tt
 
-pub accepted-brings : (t : Contents) (log : List Entry) (e : Entry) → AllHaveCas t → IsLegalFrom t log → Contains log e → accepts e.reply ≡ true → BringsCas e.op.act
+pub accepted-brings : (t : Contents) (log : List Entry) (e : Entry) → AllHaveCas t → IsLegalFrom t log → Contains log e
+    → accepts e.reply ≡ true → BringsCas e.op.act
 accepted-brings t [] e all legal there is = absurd (let low = there.1 in omega (arith, low))
 accepted-brings t (x ∷ xs) e all legal (zero, low, same) is =
     let op : Asked = x.op in
     let here : accepts (reply_of t x.op) ≡ true = ap accepts (sym legal.0) ∙ ap (λ (y : Entry). accepts y.reply) same ∙ is in
     subst (λ (y : Entry). BringsCas y.op.act) same
-    (brings op.moment (count_of t (key_of op.act) + 1) op.act (live_at op.moment (t.items (key_of op.act))) (cas-live [] 0 op.moment (t.items (key_of op.act)) (all (key_of op.act))) here)
-accepted-brings t (x ∷ xs) e all legal (suc i, low, same) is = accepted-brings (table_after t x.op) xs e (cas-after t x.op all) legal.1 (i, omega (arith, low), same) is
+    (brings op.moment (count_of t (key_of op.act) + 1) op.act (live_at op.moment (t.items (key_of op.act)))
+    (cas-live [] 0 op.moment (t.items (key_of op.act)) (all (key_of op.act))) here)
+accepted-brings t (x ∷ xs) e all legal (suc i, low, same) is = accepted-brings (table_after t x.op) xs e
+    (cas-after t x.op all) legal.1 (i, omega (arith, low), same) is

@@ -1,5 +1,6 @@
 -- An era stays a run of its own when an event is made in it.
-use Rattle.std.proofs.Common.{ℕ, suc, ◌≡◌, ◌<◌, ◌≤◌, Bool, true, false, List, [], ◌∷◌, ◌++◌, length, map, take, Some, if◌then◌else◌, ◌⊎◌, inl, inr, refl, sym, ap, subst, ◌∙◌, arith}
+use Rattle.std.proofs.Common.{ℕ, suc, ◌≡◌, ◌<◌, ◌≤◌, Bool, true, false, List, [], ◌∷◌, ◌++◌, length, map, take, Some}
+use Rattle.std.proofs.Common.{if◌then◌else◌, ◌⊎◌, inl, inr, refl, sym, ap, subst, ◌∙◌, arith}
 use Rattle.group_eras.proofs.Lists.{get-front, map-more, take-front, take-whole}
 use Rattle.std.specs.Prelude.{All, Contains, slice_get}
 use Rattle.std.proofs.lemmas.Option.{slice_get_within}
@@ -58,7 +59,12 @@ value-cas f (Incr key by) = refl
 value-cas f (Decr key by) = refl
 
 pub may-in : (bases : Bases) (k : ℕ) (w : World) (e : Event) → MayCome w e → MayCome w (event_in bases k e)
-may-in bases k w (Ask caller op p) may = (may.0, may.1, subst (λ (v : List ℕ). All (λ b. b < 256) v) (sym (value-cas (without_base bases (home_of (key_of op.act) k)) op.act)) may.2)
+may-in bases k w (Ask caller op p) may = (
+  may.0,
+  may.1,
+  subst (λ (v : List ℕ). All (λ b. b < 256) v)
+      (sym (value-cas (without_base bases (home_of (key_of op.act) k)) op.act)) may.2,
+)
 may-in bases k w (Collect caller call p) may = may
 may-in bases k w (Deliver from to) may = may
 may-in bases k w (Fail p keep) may = may
@@ -66,7 +72,8 @@ may-in bases k w (Flush p) may = may
 may-in bases k w (Trace caller call d p) may = may
 
 -- a cas number that came in above 0 goes out as it was
-cas-back : (bases : Bases) (d : ℕ) (act : Act) → BringsCas (with_cas (without_base bases d) act) → with_cas (with_base bases d) (with_cas (without_base bases d) act) ≡ act
+cas-back : (bases : Bases) (d : ℕ) (act : Act) → BringsCas (with_cas (without_base bases d) act)
+    → with_cas (with_base bases d) (with_cas (without_base bases d) act) ≡ act
 cas-back bases d (Get key) some = refl
 cas-back bases d (Set key flags expiry value) some = refl
 cas-back bases d (Add key flags expiry value) some = refl
@@ -81,7 +88,8 @@ cas-back bases d (Decr key by) some = refl
 
 op-back : (bases : Bases) (k : ℕ) (op : Asked) → BringsCas (op_in bases k op).act → op_out bases k (op_in bases k op) ≡ op
 op-back bases k op some =
-    ap (λ (d : ℕ). record { moment = op.moment; act = with_cas (with_base bases d) (op_in bases k op).act }) (ap (λ (key : List ℕ). home_of key k) (key-cas (without_base bases (home_of (key_of op.act) k)) op.act))
+    ap (λ (d : ℕ). record { moment = op.moment; act = with_cas (with_base bases d) (op_in bases k op).act })
+    (ap (λ (key : List ℕ). home_of key k) (key-cas (without_base bases (home_of (key_of op.act) k)) op.act))
     ∙ ap (λ (act : Act). record { moment = op.moment; act = act }) (cas-back bases (home_of (key_of op.act) k) op.act some)
 
 -- more asks
@@ -95,15 +103,25 @@ ask-later asked more name op ask =
       counted = ap (asks_among name.caller) (take-front asked more ask.place (omega (arith, low))) ∙ ask.counted;
     }
 
-pub told-later : (bases : Bases) (k : ℕ) (asked more : List Event) (era : ℕ) (xs : List Entry) (ys : List EraEntry) → AreTold bases k asked era xs ys → AreTold bases k (asked ++ more) era xs ys
+pub told-later : (bases : Bases) (k : ℕ) (asked more : List Event) (era : ℕ) (xs : List Entry) (ys : List EraEntry)
+    → AreTold bases k asked era xs ys → AreTold bases k (asked ++ more) era xs ys
 told-later bases k asked more era [] [] told = tt
 told-later bases k asked more era [] (y ∷ ys) told = told
 told-later bases k asked more era (x ∷ xs) [] told = told
 told-later bases k asked more era (x ∷ xs) (y ∷ ys) told =
-    let one : TellsEntry bases k asked x y.1 = told.1 in
-    (told.0, record { name = one.name; was_asked = ask-later asked more (name_of y.1) y.1.op one.was_asked; op = one.op; reply = one.reply }, told-later bases k asked more era xs ys told.2)
+    let one : TellsEntry bases k asked x y.1 = told.1 in (
+      told.0,
+      record {
+        name = one.name;
+        was_asked = ask-later asked more (name_of y.1) y.1.op one.was_asked;
+        op = one.op;
+        reply = one.reply;
+      },
+      told-later bases k asked more era xs ys told.2,
+    )
 
-pub told-append : (bases : Bases) (k : ℕ) (asked : List Event) (era : ℕ) (xs us : List Entry) (ys vs : List EraEntry) → AreTold bases k asked era xs ys → AreTold bases k asked era us vs
+pub told-append : (bases : Bases) (k : ℕ) (asked : List Event) (era : ℕ) (xs us : List Entry) (ys vs : List EraEntry)
+    → AreTold bases k asked era xs ys → AreTold bases k asked era us vs
     → AreTold bases k asked era (xs ++ us) (ys ++ vs)
 told-append bases k asked era [] us [] vs told more = more
 told-append bases k asked era [] us (y ∷ ys) vs told more = absurd told
@@ -188,7 +206,8 @@ module _ (e : Eras) (era : IsEra e) (event : Event) (may : MayCome e.world event
         let turn : Turn = got.1 in
         let ask : IsAsk (turns_of s events) j turn name entry.op = got.3 in
         let at-events : slice_get events j ≡ Some (Ask entry.caller entry.op ask.at) = turn-event (opening s) events j turn ask.there ∙ ap Some ask.event in
-        let was : WasAsked e.bases k asked j entry.caller entry.op ask.at = was-asked e.bases k asked j entry.caller entry.op ask.at (ap (λ (xs : List Event). slice_get xs j) (sym changed) ∙ at-events) in
+        let was : WasAsked e.bases k asked j entry.caller entry.op ask.at = was-asked e.bases k asked j entry.caller
+        entry.op ask.at (ap (λ (xs : List Event). slice_get xs j) (sym changed) ∙ at-events) in
         let few : j ≤ length era.events = got.2 in
         record {
           place = j;
@@ -205,7 +224,9 @@ module _ (e : Eras) (era : IsEra e) (event : Event) (may : MayCome e.world event
     brings-cas : accepts entry.reply ≡ true → BringsCas entry.op.act
     brings-cas accepted =
         accepted-brings (empty_table k) (after s events).log entry (no-items k) headline.one_log.legal
-        (subst (λ (w : World). Contains w.log entry) stands (subst (λ (xs : List Entry). Contains xs entry) (sym (grown-is e.world.log logged)) (Contains-append_right e.world.log logged entry logs))) accepted
+        (subst (λ (w : World). Contains w.log entry) stands
+        (subst (λ (xs : List Entry). Contains xs entry) (sym (grown-is e.world.log logged))
+        (Contains-append_right e.world.log logged entry logs))) accepted
 
     earlier : (f : Found) → f.place < length era.asked → op_out e.bases k entry.op ≡ f.op
     earlier f low = by (own-or-accepted e.world came entry logs) where
@@ -215,7 +236,9 @@ module _ (e : Eras) (era : IsEra e) (event : Event) (may : MayCome e.world event
       fewer : entry.call < at 0 e.world.asked entry.caller
       fewer =
           let before = among-before entry.caller f.place era.asked f.op f.at front in
-          let same : asks_among entry.caller (take f.place era.asked) ≡ entry.call = ap (asks_among entry.caller) (sym (take-front era.asked (event ∷ []) f.place (omega (arith, low)))) ∙ f.counted in
+          let same : asks_among entry.caller (take f.place era.asked) ≡ entry.call =
+          ap (asks_among entry.caller) (sym (take-front era.asked (event ∷ []) f.place (omega (arith, low))))
+          ∙ f.counted in
           let all = counted-all entry.caller in
           omega (arith, before, same, all)
 
@@ -242,7 +265,9 @@ module _ (e : Eras) (era : IsEra e) (event : Event) (may : MayCome e.world event
       name-apart who = call-ne (next_name e.world who) name (λ same.
           let front : slice_get era.asked f.place ≡ Some (Ask entry.caller f.op f.at) = sym (get-front era.asked (event ∷ []) f.place low) ∙ f.there in
           let before = among-before entry.caller f.place era.asked f.op f.at front in
-          let was : asks_among entry.caller (take f.place era.asked) ≡ entry.call = ap (asks_among entry.caller) (sym (take-front era.asked (event ∷ []) f.place (omega (arith, low)))) ∙ f.counted in
+          let was : asks_among entry.caller (take f.place era.asked) ≡ entry.call =
+          ap (asks_among entry.caller) (sym (take-front era.asked (event ∷ []) f.place (omega (arith, low))))
+          ∙ f.counted in
           let all = counted-all entry.caller in
           let one : who ≡ entry.caller = ap (λ (n : CallName). n.caller) same in
           let two : at 0 e.world.asked who ≡ entry.call = ap (λ (n : CallName). n.call) same in
@@ -256,20 +281,21 @@ module _ (e : Eras) (era : IsEra e) (event : Event) (may : MayCome e.world event
       by (Fail p keep) is back = back
       by (Flush p) is back = back
       by (Trace who call d p) is back = back
-    told-is f (inr high) = ap (λ (x : Event). told_op e.bases k (call_of e.world x) entry) here ∙ ap (λ (b : Bool). if b then f.op else op_out e.bases k entry.op) own where
-      place : f.place ≡ length era.asked
-      place = let low = f.low in omega (arith, low, high)
+    told-is f (inr high) = ap (λ (x : Event). told_op e.bases k (call_of e.world x) entry) here
+        ∙ ap (λ (b : Bool). if b then f.op else op_out e.bases k entry.op) own where
+          place : f.place ≡ length era.asked
+          place = let low = f.low in omega (arith, low, high)
 
-      here : event ≡ Ask entry.caller f.op f.at
-      here = some-same event (Ask entry.caller f.op f.at) (sym (get-last era.asked event) ∙ ap (slice_get asked) (sym place) ∙ f.there)
+          here : event ≡ Ask entry.caller f.op f.at
+          here = some-same event (Ask entry.caller f.op f.at) (sym (get-last era.asked event) ∙ ap (slice_get asked) (sym place) ∙ f.there)
 
-      call-is : at 0 e.world.asked entry.caller ≡ entry.call
-      call-is = counted-all entry.caller ∙ ap (asks_among entry.caller) (sym (take-whole era.asked (length era.asked) (omega arith)))
-          ∙ ap (asks_among entry.caller) (sym (take-front era.asked (event ∷ []) (length era.asked) (omega arith)))
-          ∙ ap (λ (n : ℕ). asks_among entry.caller (take n asked)) (sym place) ∙ f.counted
+          call-is : at 0 e.world.asked entry.caller ≡ entry.call
+          call-is = counted-all entry.caller ∙ ap (asks_among entry.caller) (sym (take-whole era.asked (length era.asked) (omega arith)))
+              ∙ ap (asks_among entry.caller) (sym (take-front era.asked (event ∷ []) (length era.asked) (omega arith)))
+              ∙ ap (λ (n : ℕ). asks_among entry.caller (take n asked)) (sym place) ∙ f.counted
 
-      own : same_call (next_name e.world entry.caller) name ≡ true
-      own = ap (λ (n : ℕ). same_call (record { caller = entry.caller; call = n }) name) call-is ∙ call-refl name
+          own : same_call (next_name e.world entry.caller) name ≡ true
+          own = ap (λ (n : ℕ). same_call (record { caller = entry.caller; call = n }) name) call-is ∙ call-refl name
 
     pub is-told : TellsEntry e.bases k asked entry (told_entry e.bases k (call_of e.world event) entry)
     is-told =
@@ -281,13 +307,18 @@ module _ (e : Eras) (era : IsEra e) (event : Event) (may : MayCome e.world event
           op = f.came_in ∙ ap (op_in e.bases k) (sym is);
           reply = ap (λ (key : List ℕ). told_reply e.bases (home_of key k) entry.reply)
               (ap (λ (x : Asked). key_of x.act) (f.came_in ∙ ap (op_in e.bases k) (sym is))
-              ∙ key-cas (without_base e.bases (home_of (key_of (told_op e.bases k (call_of e.world event) entry).act) k)) (told_op e.bases k (call_of e.world event) entry).act);
+              ∙ key-cas (without_base e.bases (home_of (key_of (told_op e.bases k (call_of e.world event) entry).act)
+              k)) (told_op e.bases k (call_of e.world event) entry).act);
         }
 
-  all-told : (entries : List Entry) → ((entry : Entry) → Contains entries entry → Contains logged entry) → AreTold e.bases k asked e.era entries (logged_in_era e event entries)
+  all-told : (entries : List Entry) → ((entry : Entry) → Contains entries entry → Contains logged entry)
+      → AreTold e.bases k asked e.era entries (logged_in_era e event entries)
   all-told [] within = tt
-  all-told (x ∷ xs) within =
-      (refl, is-told x (within x (0, omega arith, refl)), all-told xs (λ entry there. within entry (suc there.0, (let low = there.1 in omega (arith, low)), there.2)))
+  all-told (x ∷ xs) within = (
+    refl,
+    is-told x (within x (0, omega arith, refl)),
+    all-told xs (λ entry there. within entry (suc there.0, (let low = there.1 in omega (arith, low)), there.2)),
+  )
 
   pub logged-told : AreTold e.bases k asked e.era logged (logged_in_era e event logged)
   logged-told = all-told logged (λ entry there. there)
@@ -312,6 +343,7 @@ module _ (e : Eras) (era : IsEra e) (event : Event) (may : MayCome e.world event
     log = ap (λ (xs : List EraEntry). xs ++ logged_in_era e event logged) era.log ∙ append_assoc era.before era.own (logged_in_era e event logged);
     earlier = era.earlier;
     told = subst (λ (xs : List Entry). AreTold e.bases k asked e.era xs (era.own ++ logged_in_era e event logged)) (sym (grown-is e.world.log logged))
-        (told-append e.bases k asked e.era e.world.log logged era.own (logged_in_era e event logged) (told-later e.bases k era.asked (event ∷ []) e.era e.world.log era.own era.told)
+        (told-append e.bases k asked e.era e.world.log logged era.own (logged_in_era e event logged)
+        (told-later e.bases k era.asked (event ∷ []) e.era e.world.log era.own era.told)
         logged-told);
   }

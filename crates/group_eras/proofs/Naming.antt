@@ -23,10 +23,13 @@ use Rattle.group_eras.proofs.Asking.{among-before, turn-event, turns-asks}
 use Rattle.group_eras.proofs.Making.{asked-among}
 
 -- an entry of the log is one that a turn logged
-pub logged-turn : (turns : List Turn) (entry : Entry) → Contains (log_of turns) entry → (i : ℕ) × (turn : Turn) × (slice_get turns i ≡ Some turn) × Contains turn.logged entry
+pub logged-turn : (turns : List Turn) (entry : Entry) → Contains (log_of turns) entry → (i : ℕ) × (turn : Turn)
+    × (slice_get turns i ≡ Some turn) × Contains turn.logged entry
 logged-turn [] entry there = absurd (let low = there.1 in omega (arith, low))
 logged-turn (t ∷ ts) entry there = by (Contains-append_cases t.logged (log_of ts) entry there) (logged-turn ts entry) where
-  by : Contains t.logged entry ⊎ Contains (log_of ts) entry → (Contains (log_of ts) entry → (i : ℕ) × (turn : Turn) × (slice_get ts i ≡ Some turn) × Contains turn.logged entry)
+  by : Contains t.logged entry ⊎ Contains (log_of ts) entry
+      → (Contains (log_of ts) entry → (i : ℕ) × (turn : Turn) × (slice_get ts i ≡ Some turn)
+      × Contains turn.logged entry)
       → (i : ℕ) × (turn : Turn) × (slice_get (t ∷ ts) i ≡ Some turn) × Contains turn.logged entry
   by (inl here) later = (0, t, refl, here)
   by (inr behind) later = let found = later behind in (suc found.0, found.1, found.2, found.3)
@@ -35,7 +38,9 @@ logged-turn (t ∷ ts) entry there = by (Contains-append_cases t.logged (log_of 
 pub log-grows : (w : World) (es : List Event) (entry : Entry) → Contains w.log entry → Contains (world_after w es).log entry
 log-grows w [] entry there = there
 log-grows w (e ∷ es) entry there =
-    log-grows (step w e).world es entry (subst (λ (log : List Entry). Contains log entry) (sym (grown-is w.log (step w e).turn.logged)) (Contains-append_left w.log (step w e).turn.logged entry there))
+    log-grows (step w e).world es entry
+    (subst (λ (log : List Entry). Contains log entry) (sym (grown-is w.log (step w e).turn.logged))
+    (Contains-append_left w.log (step w e).turn.logged entry there))
 
 among-both : (caller : ℕ) (es fs : List Event) → asks_among caller (es ++ fs) ≡ asks_among caller es + asks_among caller fs
 among-both caller [] fs = omega arith
@@ -46,13 +51,15 @@ get-at [] ys x = refl
 get-at (z ∷ zs) ys x = get-at zs ys x
 
 -- of those behind an ask each counts it
-among-behind : (caller : ℕ) (es rest : List Event) (op : Asked) (p : ProcessId) (j : ℕ) → length es < j → suc (asks_among caller es) ≤ asks_among caller (take j (es ++ Ask caller op p ∷ rest))
+among-behind : (caller : ℕ) (es rest : List Event) (op : Asked) (p : ProcessId) (j : ℕ) → length es < j
+    → suc (asks_among caller es) ≤ asks_among caller (take j (es ++ Ask caller op p ∷ rest))
 among-behind caller [] rest op p zero low = absurd (omega (arith, low))
 among-behind caller [] rest op p (suc j) low = let one = asks-self caller op p in omega (arith, one)
 among-behind caller (e ∷ es) rest op p zero low = absurd (omega (arith, low))
 among-behind caller (e ∷ es) rest op p (suc j) low = let later = among-behind caller es rest op p j (omega (arith, low)) in omega (arith, later)
 
-module _ (s : Dimensions) (es rest : List Event) (caller : ℕ) (op : Asked) (p : ProcessId) (run : IsRun s es) (whole : IsRun s (es ++ Ask caller op p ∷ rest)) where
+module _ (s : Dimensions) (es rest : List Event) (caller : ℕ) (op : Asked) (p : ProcessId) (run : IsRun s es)
+    (whole : IsRun s (es ++ Ask caller op p ∷ rest)) where
   abbrev all : List Event
   all = es ++ Ask caller op p ∷ rest
 
@@ -60,7 +67,9 @@ module _ (s : Dimensions) (es rest : List Event) (caller : ℕ) (op : Asked) (p 
   counted = asked-among s es run caller
 
   -- the ask of this name is the one behind the first events
-  one-ask : (j : ℕ) (turn : Turn) (other : Asked) → IsAsk (turns_of s all) j turn (record { caller = caller; call = at 0 (after s es).asked caller }) other → other ≡ op
+  one-ask : (j : ℕ) (turn : Turn) (other : Asked)
+      → IsAsk (turns_of s all) j turn (record { caller = caller; call = at 0 (after s es).asked caller }) other
+      → other ≡ op
   one-ask j turn other ask = by (cases_lt j (length es)) (cases_lt (length es) j) where
     there : slice_get all j ≡ Some (Ask caller other ask.at)
     there = turn-event (opening s) all j turn ask.there ∙ ap Some ask.event
@@ -84,11 +93,13 @@ module _ (s : Dimensions) (es rest : List Event) (caller : ℕ) (op : Asked) (p 
     by (inr high) (inl later) = let behind = among-behind caller es rest op p j later in absurd (omega (arith, behind, calls))
     by (inr high) (inr low) =
         let place : j ≡ length es = omega (arith, high, low) in
-        let here : Ask caller other ask.at ≡ Ask caller op p = some-same (Ask caller other ask.at) (Ask caller op p) (sym there ∙ ap (slice_get all) place ∙ get-at es rest (Ask caller op p)) in
+        let here : Ask caller other ask.at ≡ Ask caller op p = some-same (Ask caller other ask.at) (Ask caller op p)
+        (sym there ∙ ap (slice_get all) place ∙ get-at es rest (Ask caller op p)) in
         ap op-of here
 
   -- so an entry of that name has its op
-  pub named-op : (entry : Entry) → Contains (after s (es ++ Ask caller op p ∷ rest)).log entry → name_of entry ≡ record { caller = caller; call = at 0 (after s es).asked caller } → entry.op ≡ op
+  pub named-op : (entry : Entry) → Contains (after s (es ++ Ask caller op p ∷ rest)).log entry
+      → name_of entry ≡ record { caller = caller; call = at 0 (after s es).asked caller } → entry.op ≡ op
   named-op entry there named =
       let h = headline_always s all whole in
       let found = logged-turn (turns_of s all) entry (subst (λ (log : List Entry). Contains log entry) h.one_log.kept there) in

@@ -122,8 +122,14 @@ others_tell_none e event led may other = by event may.may other where
 
   by : (x : Event) → MayCome e.world x → ¬ (IsAsking x) → ¬ (HasNumber (turn_in e x).answer)
   by (Ask caller op p) may other = λ has. other tt
-  by (Collect caller call p) may other = event-none e.world (step e.world (Collect caller call p)).world (Collect caller call p) (step e.world (Collect caller call p)).turn.answer other (causes (Collect caller call p) may)
-  by (Deliver from to) may other = event-none e.world (step e.world (Deliver from to)).world (Deliver from to) (step e.world (Deliver from to)).turn.answer other (causes (Deliver from to) may)
-  by (Fail p keep) may other = event-none e.world (step e.world (Fail p keep)).world (Fail p keep) (step e.world (Fail p keep)).turn.answer other (causes (Fail p keep) may)
+  by (Collect caller call p) may other = event-none e.world (step e.world (Collect caller call p)).world
+      (Collect caller call p) (step e.world (Collect caller call p)).turn.answer other
+      (causes (Collect caller call p) may)
+  by (Deliver from to) may other = event-none e.world (step e.world (Deliver from to)).world (Deliver from to)
+      (step e.world (Deliver from to)).turn.answer other (causes (Deliver from to) may)
+  by (Fail p keep) may other = event-none e.world (step e.world (Fail p keep)).world (Fail p keep)
+      (step e.world (Fail p keep)).turn.answer other (causes (Fail p keep) may)
   by (Flush p) may other = event-none e.world (step e.world (Flush p)).world (Flush p) (step e.world (Flush p)).turn.answer other (causes (Flush p) may)
-  by (Trace caller call d p) may other = event-none e.world (step e.world (Trace caller call d p)).world (Trace caller call d p) (step e.world (Trace caller call d p)).turn.answer other (causes (Trace caller call d p) may)
+  by (Trace caller call d p) may other = event-none e.world (step e.world (Trace caller call d p)).world
+      (Trace caller call d p) (step e.world (Trace caller call d p)).turn.answer other
+      (causes (Trace caller call d p) may)

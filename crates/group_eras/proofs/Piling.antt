@@ -1,5 +1,6 @@
 -- Items that lie one upon another from the bottom of a space: the next value gets the run on top of them.
-use Rattle.std.proofs.Common.{ℕ, zero, suc, ◌≡◌, ◌<◌, ◌≤◌, ◌+◌, ◌-◌, nat_lt, Bool, true, false, not, ◌&&◌, ◌||◌, cond, List, [], ◌∷◌, Option, Some, None, ◌⊎◌, inl, inr, refl, ap, ap₂, ◌∙◌, arith}
+use Rattle.std.proofs.Common.{ℕ, zero, suc, ◌≡◌, ◌<◌, ◌≤◌, ◌+◌, ◌-◌, nat_lt, Bool, true, false, not, ◌&&◌, ◌||◌, cond}
+use Rattle.std.proofs.Common.{List, [], ◌∷◌, Option, Some, None, ◌⊎◌, inl, inr, refl, ap, ap₂, ◌∙◌, arith}
 use Rattle.std.specs.List.{list_any}
 use Rattle.std.proofs.lemmas.Bool.{cases_lt}
 use Rattle.std.proofs.lemmas.Grind.{common_steps}
@@ -62,7 +63,9 @@ any-put f key slot (e ∷ es) new some = by (slice_cmp nat_cmp key e.0) refl (an
   first (inl is) = or-true (f (key, slot)) (list_any f (e ∷ es)) is
   first (inr is) = ap (λ (b : Bool). b || list_any f (e ∷ es)) is
 
-  later : (list_any f (e ∷ es) ≡ true) ⊎ (f (key, slot) ≡ true) → (slot_in es key ≡ None → (list_any f es ≡ true) ⊎ (f (key, slot) ≡ true) → list_any f (entries.put (slice_cmp nat_cmp) key slot es) ≡ true)
+  later : (list_any f (e ∷ es) ≡ true) ⊎ (f (key, slot) ≡ true)
+      → (slot_in es key ≡ None → (list_any f es ≡ true) ⊎ (f (key, slot) ≡ true)
+      → list_any f (entries.put (slice_cmp nat_cmp) key slot es) ≡ true)
       → list_any f (e ∷ entries.put (slice_cmp nat_cmp) key slot es) ≡ true
   later (inr is) rest = or-true (f e) (list_any f (entries.put (slice_cmp nat_cmp) key slot es)) (rest (rest-new (same_key key e.0) new) (inr is))
   later (inl is) rest = which (parts (f e) (list_any f es) is) where
@@ -159,7 +162,8 @@ module _ (space total : ℕ) (r : Replica) (piled : Piled total r.items) (quiet 
     run-is : IsFreeRun space (is_free space r) total (space - total)
     run-is = top-run (suc n) (omega arith) fits
 
-    by : (o : Option Run) → place_for space r (suc n) ≡ o → IsPlaced space r (suc n) o → (run : Run) × (place_for space r (suc n) ≡ Some run) × IsOnTop total (suc n) run
+    by : (o : Option Run) → place_for space r (suc n) ≡ o → IsPlaced space r (suc n) o → (run : Run)
+        × (place_for space r (suc n) ≡ Some run) × IsOnTop total (suc n) run
     by None is none = let short = none total (space - total) run-is in absurd (omega (arith, short, fits))
     by (Some run) is placed = (run, is, (placed.0, inl (omega arith, at-top (cases_lt run.at total) (cases_lt total run.at)))) where
       free : IsFreeRun space (is_free space r) run.at placed.1.0

@@ -1,5 +1,7 @@
 -- Untils of items are those that exptimes of 64 bits ask for.
-use Rattle.std.proofs.Common.{ℕ, ℤ, pos, negsuc, suc, ◌≡◌, ◌≤◌, ◌+◌, ◌^◌, ◌==◌, nat_le, Bool, true, false, List, [], ◌∷◌, ◌++◌, length, take, Option, Some, None, if◌then◌else◌, refl, sym, ap, subst, ◌∙◌, arith}
+use Rattle.std.proofs.Common.{ℕ, ℤ, pos, negsuc, suc, ◌≡◌, ◌≤◌, ◌+◌, ◌^◌, ◌==◌, nat_le, Bool, true, false, List, []}
+use Rattle.std.proofs.Common.{◌∷◌, ◌++◌, length, take, Option, Some, None, if◌then◌else◌, refl, sym, ap, subst, ◌∙◌}
+use Rattle.std.proofs.Common.{arith}
 use Rattle.group_types.proofs.Eaches.{each-append, each-map, each-take, each-weaker}
 use Rattle.std.specs.Prelude.{Contains, slice_get}
 use Rattle.std.proofs.lemmas.Grind.{common_steps}
@@ -146,7 +148,10 @@ LeavesLow (Accepted reply left) = HeldLow left
 
 joined-low : (n : ℕ) (h : Holding) (value : List ℕ) → IsLowUntil h.until → LeavesLow (joined n h value)
 joined-low n h value low = by (nat_le (length value) longest_value) where
-  by : (b : Bool) → LeavesLow (if b then Accepted reply.Stored (Some (record { item = record { flags = h.item.flags; cas = n; value = value }; until = h.until })) else Refused reply.TooLarge)
+  by : (b : Bool)
+      → LeavesLow (if b then Accepted reply.Stored
+      (Some (record { item = record { flags = h.item.flags; cas = n; value = value }; until = h.until })) else Refused
+      reply.TooLarge)
   by true = low
   by false = tt
 
@@ -191,21 +196,24 @@ live-low t (Some h) low = by (is_live t h.until) where
   by true = low
   by false = tt
 
-table-low : (t : Contents) (log : List Entry) → ((key : List ℕ) → HeldLow (t.items key)) → Each (λ e. IsLowAct e.op.moment e.op.act) log → (key : List ℕ) → HeldLow ((table_of t log).items key)
+table-low : (t : Contents) (log : List Entry) → ((key : List ℕ) → HeldLow (t.items key))
+    → Each (λ e. IsLowAct e.op.moment e.op.act) log → (key : List ℕ) → HeldLow ((table_of t log).items key)
 table-low t [] all ops key = all key
 table-low t (e ∷ es) all ops key = table-low (table_after t e.op) es (λ other. next other) es-ops key where
   es-ops : Each (λ x. IsLowAct x.op.moment x.op.act) es
   es-ops = ops.1
 
   next : (other : List ℕ) → HeldLow ((table_after t e.op).items other)
-  next other = by (ruling_on t e.op) (ruling-low e.op.moment (count_of t (key_of e.op.act) + 1) e.op.act (live_at e.op.moment (t.items (key_of e.op.act))) ops.0 (live-low e.op.moment (t.items (key_of e.op.act)) (all (key_of e.op.act)))) where
-    choose : (b : Bool) (left : Option Holding) → HeldLow left → HeldLow (if b then left else t.items other)
-    choose true left low = low
-    choose false left low = all other
+  next other = by (ruling_on t e.op) (ruling-low e.op.moment (count_of t (key_of e.op.act) + 1) e.op.act
+      (live_at e.op.moment (t.items (key_of e.op.act))) ops.0
+      (live-low e.op.moment (t.items (key_of e.op.act)) (all (key_of e.op.act)))) where
+        choose : (b : Bool) (left : Option Holding) → HeldLow left → HeldLow (if b then left else t.items other)
+        choose true left low = low
+        choose false left low = all other
 
-    by : (r : Ruling) → LeavesLow r → HeldLow ((after_ruling t (key_of e.op.act) r).items other)
-    by (Refused reply) low = all other
-    by (Accepted reply left) low = choose (same_key (key_of e.op.act) other) left low
+        by : (r : Ruling) → LeavesLow r → HeldLow ((after_ruling t (key_of e.op.act) r).items other)
+        by (Refused reply) low = all other
+        by (Accepted reply left) low = choose (same_key (key_of e.op.act) other) left low
 
 -- an era whose events ask for nothing else
 pub record Ranged (e : Eras) : Type 0 where
@@ -227,13 +235,21 @@ module _ (s : Dimensions) (es : List Event) (run : IsRun s es) (low : Each IsLow
   items-low = table-low (empty_table s.k) (after s es).log (λ key. tt) (every (after s es).log (λ y there. there)) where
     every : (ys : List Entry) → ((y : Entry) → Contains ys y → Contains (after s es).log y) → Each (λ y. IsLowAct y.op.moment y.op.act) ys
     every [] within = tt
-    every (y ∷ ys) within = (entry-low y (within y (0, omega arith, refl)), every ys (λ z there. within z (suc there.0, (let less = there.1 in omega (arith, less)), there.2)))
+    every (y ∷ ys) within = (
+      entry-low y (within y (0, omega arith, refl)),
+      every ys (λ z there. within z (suc there.0, (let less = there.1 in omega (arith, less)), there.2)),
+    )
 
 low-loads : (e : Eras) → Ranged e → IsAtRest e.world → Each (λ x. IsLowUntil x.slot.until) (loads e.world)
 low-loads e ranged rest =
     let s : Dimensions = e.world.shape in
     let es : List Event = ranged.events in
-    let rests : Rests e.world.shape ranged.events = record { run = ranged.run; drained = subst IsDrained ranged.stands rest.drained; up = λ down. rest.up (subst IsDown (sym ranged.stands) down) } in
+    let rests : Rests e.world.shape ranged.events =
+    record {
+      run = ranged.run;
+      drained = subst IsDrained ranged.stands rest.drained;
+      up = λ down. rest.up (subst IsDown (sym ranged.stands) down);
+    } in
     subst (λ (v : World). Each (λ x. IsLowUntil x.slot.until) (loads v)) (sym ranged.stands)
     (each-weaker (IsLoad s (after s es)) (λ x. IsLowUntil x.slot.until)
     (λ x load. subst HeldLow (finding.in-table s es rests x.partition load.below (x.key, x.slot) load.there).there (items-low s es ranged.run ranged.low x.key))
@@ -244,12 +260,17 @@ ranged-next e ranged event may low =
     let came : Event = event_in e.bases e.world.shape.k event in
     record {
       events = ranged.events ++ came ∷ [];
-      run = (ranged.run.0, run-more (opening e.world.shape) ranged.events came ranged.run.1 (subst (λ (w : World). MayCome w came) ranged.stands (may-in e.bases e.world.shape.k e.world event may)));
+      run = (
+        ranged.run.0,
+        run-more (opening e.world.shape) ranged.events came ranged.run.1
+            (subst (λ (w : World). MayCome w came) ranged.stands (may-in e.bases e.world.shape.k e.world event may)),
+      );
       stands = ap (λ (w : World). (step w came).world) ranged.stands ∙ sym (after-more (opening e.world.shape) ranged.events came);
       low = each-append IsLowEvent ranged.events (came ∷ []) ranged.low (in-low e.bases e.world.shape.k event low, tt);
     }
 
-ranged-along : (e : Eras) → Ranged e → (events : List Event) → Each IsSame events → IsRunFrom e.world events → Each IsLowEvent events → Ranged (eras_after e events)
+ranged-along : (e : Eras) → Ranged e → (events : List Event) → Each IsSame events → IsRunFrom e.world events
+    → Each IsLowEvent events → Ranged (eras_after e events)
 ranged-along e ranged [] same run low = ranged
 ranged-along e ranged (x ∷ xs) same run low =
     ranged-along (era_step e x).eras (ranged-next e ranged x run.0 low.0) xs same.1
@@ -260,7 +281,8 @@ expiry-low None low = omega arith
 expiry-low (Some u) low = low
 
 plain-low : (all : List Parcel) → Each (λ x. IsLowUntil x.until) all → (e : Event) → IsPlain all e → IsLowEvent e
-plain-low all low (Ask caller op p) plain = subst (λ (o : Asked). IsLowAct o.moment o.act) (sym plain.2) (omega arith, expiry-low plain.0.until (each-contained (λ x. IsLowUntil x.until) all plain.0 low plain.1))
+plain-low all low (Ask caller op p) plain = subst (λ (o : Asked). IsLowAct o.moment o.act) (sym plain.2)
+    (omega arith, expiry-low plain.0.until (each-contained (λ x. IsLowUntil x.until) all plain.0 low plain.1))
 plain-low all low (Deliver from to) plain = tt
 plain-low all low (Collect caller call p) plain = absurd plain
 plain-low all low (Fail p keep) plain = absurd plain
@@ -276,7 +298,9 @@ module _ (e : Eras) (stands : Stands e) (ranged : Ranged e) (rest : IsAtRest e.w
       (run-first many e.world (reading e.world).events (carrying.run-read e stands rest)) (each-take IsLowEvent many (reading e.world).events reads-low)
 
   parcels-low : Each (λ x. IsLowUntil x.until) (carrying.parcels e stands rest)
-  parcels-low = each-map (λ (x : Parcel). IsLowUntil x.until) (parcel_for e.world.shape stands.era.events (carrying.rests e stands rest)) (loads (after e.world.shape stands.era.events))
+  parcels-low = each-map (λ (x : Parcel). IsLowUntil x.until)
+      (parcel_for e.world.shape stands.era.events (carrying.rests e stands rest))
+      (loads (after e.world.shape stands.era.events))
       (subst (λ (v : World). Each (λ x. IsLowUntil x.slot.until) (loads v)) (carrying.world e stands rest) (low-loads e ranged rest))
 
   carried-ranged : (s : Dimensions) (successor : IsSuccessor e.world s) (can : CanCarry e.world s) → Ranged (carried e s)
@@ -285,9 +309,13 @@ module _ (e : Eras) (stands : Stands e) (ranged : Ranged e) (rest : IsAtRest e.w
       let sets : List Event = setting (opening s) (carrying.parcels e stands rest) in
       record {
         events = sets;
-        run = subst (λ (t : Dimensions). IsRun t (setting (opening s) (carrying.parcels e stands rest))) (sym shape) (carrying.setup e stands rest s successor can).rests.run;
-        stands = carrying.world3 e stands rest s successor can ∙ ap (λ (t : Dimensions). after t (setting (opening s) (carrying.parcels e stands rest))) (sym shape);
-        low = each-weaker (IsPlain (carrying.parcels e stands rest)) IsLowEvent (plain-low (carrying.parcels e stands rest) parcels-low) sets (carrying.all-set e stands rest s successor can).plain;
+        run = subst (λ (t : Dimensions). IsRun t (setting (opening s) (carrying.parcels e stands rest))) (sym shape)
+            (carrying.setup e stands rest s successor can).rests.run;
+        stands = carrying.world3 e stands rest s successor can
+            ∙ ap (λ (t : Dimensions). after t (setting (opening s) (carrying.parcels e stands rest))) (sym shape);
+        low = each-weaker (IsPlain (carrying.parcels e stands rest)) IsLowEvent
+            (plain-low (carrying.parcels e stands rest) parcels-low) sets
+            (carrying.all-set e stands rest s successor can).plain;
       }
 
 deed-ranged : (e : Eras) (deed : Deed) → Stands e → Ranged e → MayBeDone e deed → Ranged (done e deed)
@@ -303,4 +331,7 @@ first-ranged : (s : Dimensions) → IsShape s → Ranged (first_era (opening s))
 first-ranged s shaped = record { events = []; run = (shaped, tt); stands = refl; low = tt }
 
 pub untils_are_low : UntilsAreLow
-untils_are_low e led rest = low-loads e (subst Ranged (sym led.is) (all-ranged (first_era (opening led.s)) led.deeds (stands-first led.s led.limits) (first-ranged led.s led.limits) led.may)) rest
+untils_are_low e led rest =
+    low-loads e (subst Ranged (sym led.is)
+    (all-ranged (first_era (opening led.s)) led.deeds (stands-first led.s led.limits) (first-ranged led.s led.limits)
+    led.may)) rest

@@ -1,5 +1,6 @@
 -- All items of a group at rest are read, one after the other, and nothing more is settled.
-use Rattle.std.proofs.Common.{ℕ, zero, suc, ◌≡◌, ◌<◌, ◌≤◌, ◌+◌, ◌*◌, Bool, true, false, cond, List, [], ◌∷◌, ◌++◌, length, map, Some, ◌⊎◌, inl, inr, refl, sym, ap, ap₂, subst, ◌∙◌, arith}
+use Rattle.std.proofs.Common.{ℕ, zero, suc, ◌≡◌, ◌<◌, ◌≤◌, ◌+◌, ◌*◌, Bool, true, false, cond, List, [], ◌∷◌, ◌++◌}
+use Rattle.std.proofs.Common.{length, map, Some, ◌⊎◌, inl, inr, refl, sym, ap, ap₂, subst, ◌∙◌, arith}
 use Rattle.group_types.proofs.Eaches.{each-append}
 use Rattle.std.specs.Prelude.{Contains, filter}
 use Rattle.std.specs.List.{range_with_len}
@@ -38,16 +39,20 @@ abbrev pub total : Dimensions → ℕ → List Turn → ℕ
 total s zero turns = 0
 total s (suc n) turns = block_waits (process_at s n) turns + total s n turns
 
-pub total-both : (s : Dimensions) (n : ℕ) (w : World) (es fs : List Event) → total s n (turns_from w (es ++ fs)) ≡ total s n (turns_from w es) + total s n (turns_from (world_after w es) fs)
+pub total-both : (s : Dimensions) (n : ℕ) (w : World) (es fs : List Event) → total s n (turns_from w (es ++ fs))
+    ≡ total s n (turns_from w es) + total s n (turns_from (world_after w es) fs)
 total-both s zero w es fs = omega arith
 total-both s (suc n) w es fs = let one = trying.waits-both (process_at s n) w es fs in let rest = total-both s n w es fs in omega (arith, one, rest)
 
 pub total-has : (s : Dimensions) (n x : ℕ) (turns : List Turn) → x < n → block_waits (process_at s x) turns ≤ total s n turns
 total-has s zero x turns low = absurd (omega (arith, low))
 total-has s (suc n) x turns low = by (cases_lt x n) (λ less. total-has s n x turns less) where
-  by : (x < n) ⊎ (n ≤ x) → (x < n → block_waits (process_at s x) turns ≤ total s n turns) → block_waits (process_at s x) turns ≤ block_waits (process_at s n) turns + total s n turns
+  by : (x < n) ⊎ (n ≤ x) → (x < n → block_waits (process_at s x) turns ≤ total s n turns)
+      → block_waits (process_at s x) turns ≤ block_waits (process_at s n) turns + total s n turns
   by (inl less) later = let rest = later less in omega (arith, rest)
-  by (inr most) later = let same : x ≡ n = omega (arith, low, most) in let here : block_waits (process_at s x) turns ≡ block_waits (process_at s n) turns = ap (λ (y : ℕ). block_waits (process_at s y) turns) same in omega (arith, here)
+  by (inr most) later = let same : x ≡ n = omega (arith, low, most) in let here : block_waits (process_at s x) turns
+      ≡ block_waits (process_at s n) turns = ap (λ (y : ℕ). block_waits (process_at s y) turns) same in
+      omega (arith, here)
 
 -- an item that is carried
 pub record IsLoad (s : Dimensions) (w : World) (x : Load) : Type 0 where
@@ -56,7 +61,9 @@ pub record IsLoad (s : Dimensions) (w : World) (x : Load) : Type 0 where
   pub live : is_live 0 x.slot.until ≡ true
 
 module _ (s : Dimensions) (w : World) where
-  pub some-loads : (d : ℕ) → d < s.k → (items : Items) → ((x : List ℕ × Slot) → Contains items x → Contains (settled_items w d) x) → Each (IsLoad s w) (map (load_from d) (filter (λ x. is_live 0 x.1.until) items))
+  pub some-loads : (d : ℕ) → d < s.k → (items : Items)
+      → ((x : List ℕ × Slot) → Contains items x → Contains (settled_items w d) x)
+      → Each (IsLoad s w) (map (load_from d) (filter (λ x. is_live 0 x.1.until) items))
   some-loads d below [] within = tt
   some-loads d below (x ∷ xs) within =
       by (is_live 0 x.1.until) refl (some-loads d below xs (λ y there. within y (suc there.0, (let low = there.1 in omega (arith, low)), there.2))) where
@@ -67,10 +74,13 @@ module _ (s : Dimensions) (w : World) where
 
   all-loads : (n a : ℕ) → a + n ≤ s.k → Each (IsLoad s w) (loads_of w (range_with_len a n))
   all-loads zero a low = tt
-  all-loads (suc n) a low = each-append (IsLoad s w) (loads_in w a) (loads_of w (range_with_len (a + 1) n)) (some-loads a (omega (arith, low)) (settled_items w a) (λ x there. there)) (all-loads n (a + 1) (omega (arith, low)))
+  all-loads (suc n) a low = each-append (IsLoad s w) (loads_in w a) (loads_of w (range_with_len (a + 1) n))
+      (some-loads a (omega (arith, low)) (settled_items w a) (λ x there. there))
+      (all-loads n (a + 1) (omega (arith, low)))
 
   pub are-loads : w.shape ≡ s → Each (IsLoad s w) (loads w)
-  are-loads shape = subst (λ (k : ℕ). Each (IsLoad s w) (loads_of w (range_with_len 0 k))) (sym (ap (λ (t : Dimensions). t.k) shape)) (all-loads s.k 0 (omega arith))
+  are-loads shape = subst (λ (k : ℕ). Each (IsLoad s w) (loads_of w (range_with_len 0 k)))
+      (sym (ap (λ (t : Dimensions). t.k) shape)) (all-loads s.k 0 (omega arith))
 
 module _ (s : Dimensions) (es : List Event) (rests : Rests s es) where
   abbrev pub space_in : ℕ → List ℕ
@@ -113,7 +123,8 @@ module _ (s : Dimensions) (es : List Event) (rests : Rests s es) where
 
     pub came-load : trying.Came s fs now x.partition load.below r heads-now pin-now x.key in-table.home (item_of x) there-now load.live fs (got (after s fs) x)
     came-load = subst (λ (p : ProcessId). trying.Came s fs now x.partition load.below r heads-now pin-now x.key in-table.home (item_of x) there-now load.live fs
-        (get_with (after s fs).shape.blocks (Ask carrier (record { moment = 0; act = Get x.key }) p) (step (after s fs) (Ask carrier (record { moment = 0; act = Get x.key }) p))))
+        (get_with (after s fs).shape.blocks (Ask carrier (record { moment = 0; act = Get x.key }) p)
+        (step (after s fs) (Ask carrier (record { moment = 0; act = Get x.key }) p))))
         (sym (finding.head s fs now x.partition load.below))
         (trying.came s fs now x.partition load.below r heads-now pin-now x.key in-table.home (item_of x) there-now load.live)
 
@@ -128,13 +139,15 @@ module _ (s : Dimensions) (es : List Event) (rests : Rests s es) where
     one-world = came-load.world ∙ ap (after s) (append_assoc es gs (got (after s fs) x).events)
 
     -- its waits are among all
-    pub one-few : length (got (after s (es ++ gs)) x).events ≤ 1 + total s (s.k + s.m) (turns_from (after s (es ++ gs)) (got (after s (es ++ gs)) x).events) * 131073
+    pub one-few : length (got (after s (es ++ gs)) x).events ≤ 1 + total s (s.k + s.m)
+        (turns_from (after s (es ++ gs)) (got (after s (es ++ gs)) x).events) * 131073
     one-few =
         let p : ProcessId = of_rank x.partition r in
         let pin : IsProcess s p = subst (λ (t : Dimensions). IsProcess t p) (shape-after (opening s) fs) pin-now in
         let few = came-load.few in
         let has = total-has s (s.k + s.m) (index_of s p) (turns_from (after s fs) (got (after s fs) x).events) (let low = index-below s p pin in omega arith) in
-        let same : block_waits (process_at s (index_of s p)) (turns_from (after s fs) (got (after s fs) x).events) ≡ block_waits p (turns_from (after s fs) (got (after s fs) x).events)
+        let same : block_waits (process_at s (index_of s p)) (turns_from (after s fs) (got (after s fs) x).events)
+        ≡ block_waits p (turns_from (after s fs) (got (after s fs) x).events)
         = ap (λ (q : ProcessId). block_waits q (turns_from (after s fs) (got (after s fs) x).events)) (process_at-index s p pin) in
         omega (arith, few, has, same)
 
@@ -144,7 +157,8 @@ module _ (s : Dimensions) (es : List Event) (rests : Rests s es) where
     pub one-parcel : parcel_of x (got (after s (es ++ gs)) x).answer ≡ parcel_for x
     one-parcel = ap (parcel_of x) came-load.answer
 
-  pub read-well : (gs : List Event) (still : Each IsStill gs) (now : Rests s (es ++ gs)) (xs : List Load) → Each (IsLoad s (after s es)) xs → ReadWell (es ++ gs) xs (read_all (after s (es ++ gs)) xs)
+  pub read-well : (gs : List Event) (still : Each IsStill gs) (now : Rests s (es ++ gs)) (xs : List Load)
+      → Each (IsLoad s (after s es)) xs → ReadWell (es ++ gs) xs (read_all (after s (es ++ gs)) xs)
   read-well gs still now [] all = record {
     rests_then = subst (Rests s) (sym (append-nil (es ++ gs))) now;
     still = tt;
@@ -165,20 +179,25 @@ module _ (s : Dimensions) (es : List Event) (rests : Rests s es) where
       let more : List Event = (read_all (got (after s (es ++ gs)) x).world xs).events in
       let passed : after s (es ++ (gs ++ (got (after s (es ++ gs)) x).events)) ≡ world_after (after s (es ++ gs)) (got (after s (es ++ gs)) x).events
       = ap (after s) (sym (append_assoc es gs g.events)) ∙ after-is s (es ++ gs) g.events in
-      let events : (es ++ hs) ++ more ≡ (es ++ gs) ++ (g.events ++ more) = append_assoc es hs more ∙ ap (λ (ys : List Event). es ++ ys) (append_assoc gs g.events more) ∙ sym (append_assoc es gs (g.events ++ more)) in
+      let events : (es ++ hs) ++ more ≡ (es ++ gs) ++ (g.events ++ more) = append_assoc es hs more
+      ∙ ap (λ (ys : List Event). es ++ ys) (append_assoc gs g.events more)
+      ∙ sym (append_assoc es gs (g.events ++ more)) in
       record {
         rests_then = subst (Rests s) events rest.rests_then;
         still = each-append IsStill g.events more (trying.Came.still (came-load gs still now x all.0)) rest.still;
         world = rest.world ∙ ap (after s) events;
         parcels = ap₂ (λ (p : Parcel) (ps : List Parcel). p ∷ ps) (one-parcel gs still now x all.0) rest.parcels;
         are_got = (one-got gs still now x all.0, subst (λ (w : World). AreGot w xs) (sym world) later.are_got);
-        asked = trying.asked-both (after s (es ++ gs)) g.events more (trying.Came.asked (came-load gs still now x all.0)) (subst (λ (w : World). AskedDrained w more) passed rest.asked);
+        asked = trying.asked-both (after s (es ++ gs)) g.events more
+            (trying.Came.asked (came-load gs still now x all.0))
+            (subst (λ (w : World). AskedDrained w more) passed rest.asked);
         few =
             let one = one-few gs still now x all.0 in
             let few-rest = rest.few in
             let long = length-append g.events more in
             let both = total-both s (s.k + s.m) (after s (es ++ gs)) g.events more in
-            let same : total s (s.k + s.m) (turns_from (after s (es ++ (gs ++ (got (after s (es ++ gs)) x).events))) more) ≡ total s (s.k + s.m) (turns_from (world_after (after s (es ++ gs)) g.events) more)
+            let same : total s (s.k + s.m) (turns_from (after s (es ++ (gs ++ (got (after s (es ++ gs)) x).events)))
+            more) ≡ total s (s.k + s.m) (turns_from (world_after (after s (es ++ gs)) g.events) more)
             = ap (λ (w : World). total s (s.k + s.m) (turns_from w more)) passed in
             omega (arith, one, few-rest, long, both, same);
       }

@@ -30,7 +30,9 @@ use Rattle.group_calls.specs.declared.event.Event.{Event}
 use Rattle.group_calls.specs.declared.event.Event.TheVariants.{Ask, Collect, Deliver, Fail, Flush, Trace}
 use Rattle.group_run.specs.Applying.{head_at, replica_of}
 use Rattle.group_run.specs.Asking.{found_at}
-use Rattle.group_run.specs.Deciding.{Bytes, Found, Missing, blind_reply, decide, decide_blind, decide_found, decide_ruled, decide_waiting, item_found, length_of, run_needed, ruling_with, unseen, waits_for}
+use Rattle.group_run.specs.Deciding.{Bytes, Found, Missing, blind_reply, decide, decide_blind, decide_found}
+use Rattle.group_run.specs.Deciding.{decide_ruled, decide_waiting, item_found, length_of, run_needed, ruling_with}
+use Rattle.group_run.specs.Deciding.{unseen, waits_for}
 use Rattle.group_run.specs.Headline.{IsRun, MayCome}
 use Rattle.group_run.specs.History.{History, history, prolonged}
 use Rattle.group_run.specs.Meaning.{HasTakenOver, Heads, IsDown, IsDrained, is_dead, process_of}
@@ -99,7 +101,8 @@ get-decides space inherited r op read get = by (waits_for inherited op.act (numb
   by (Some n) = tt
   by None = blind (blind_reply (length_of slot) (ruling_with r op slot (unseen slot)))
 
-pub get-keeps : (F : ℕ → ℕ → List Update → Type 0) (s : Dimensions) (v : State) (p : ProcessId) (name : CallName) (op : Asked) → IsGet op.act → IssueKeeps F s v p name op
+pub get-keeps : (F : ℕ → ℕ → List Update → Type 0) (s : Dimensions) (v : State) (p : ProcessId) (name : CallName)
+    (op : Asked) → IsGet op.act → IssueKeeps F s v p name op
 get-keeps F s v p name op get h body outcome heads is =
     let d : ℕ = home_of (key_of op.act) s.k in
     absurd (subst NotIssued is (get-decides (space_of s) h.inherited (replica_of (v.process p) d) op (found_at s d (v.process p) (v.process p).name) get))
@@ -122,28 +125,36 @@ settled_of s es d = at [] (book_of s es).history.settled d
 abbrev pub state_at : Dimensions → List Event → State
 state_at s es = state_of (book_of s es).history
 
-module _ (h : History) (reached : Reached h.world.shape (state_of h)) (told : Told h.world.shape (state_of h)) (drained : IsDrained h.world) (headed : IsHeaded h.world) (finished : IsFinished h.world) where
+module _ (h : History) (reached : Reached h.world.shape (state_of h)) (told : Told h.world.shape (state_of h))
+    (drained : IsDrained h.world) (headed : IsHeaded h.world) (finished : IsFinished h.world) where
   empty : IsEmpty h.world.shape (state_of h)
   empty from to fin tin living apart = drained from to fin (tin, living) apart
 
   abbrev pub heads-at-rest : (d : ℕ) → d < h.world.shape.k
-      → (r : ℕ) × (is_dead h.world (of_rank d r) ≡ false) × IsProcess h.world.shape (of_rank d r) × ((q : ℕ) → q < r → is_dead h.world (of_rank d q) ≡ true) × ((x : Head) × (head_at (process_of h.world (of_rank d r)) d ≡ Some x))
+      → (r : ℕ) × (is_dead h.world (of_rank d r) ≡ false) × IsProcess h.world.shape (of_rank d r)
+      × ((q : ℕ) → q < r → is_dead h.world (of_rank d q) ≡ true)
+      × ((x : Head) × (head_at (process_of h.world (of_rank d r)) d ≡ Some x))
   heads-at-rest d below =
       let head = headed d below in
       let one = finished d head.0 below head.1 in
       (head.0, head.1.lives, rank-in h.world.shape d head.0 below head.1.within, head.1.lowest, (one.0, one.1))
 
-  pub history-items : (d : ℕ) (below : d < h.world.shape.k) → (replica_of (process_of h.world (of_rank d (headed d below).0)) d).items ≡ items_after [] (at [] h.settled d)
+  pub history-items : (d : ℕ) (below : d < h.world.shape.k)
+      → (replica_of (process_of h.world (of_rank d (headed d below).0)) d).items ≡ items_after [] (at [] h.settled d)
   history-items d below = head-items h.world.shape (state_of h) reached told empty heads-at-rest d below
 
-  pub history-heads : (d : ℕ) (below : d < h.world.shape.k) → history (at [] h.settled d) (replica_of (process_of h.world (of_rank d (headed d below).0)) d) ≡ at [] h.settled d
+  pub history-heads : (d : ℕ) (below : d < h.world.shape.k)
+      → history (at [] h.settled d) (replica_of (process_of h.world (of_rank d (headed d below).0)) d)
+      ≡ at [] h.settled d
   history-heads d below = head-history h.world.shape (state_of h) reached told empty heads-at-rest d below
 
   pub history-rests : AllUpto (λ d. at [] h.settled d) h.world.shape (state_of h)
   history-rests = rest-upto h.world.shape (state_of h) reached told empty heads-at-rest
 
 module _ (s : Dimensions) where
-  pub rests-items : (es : List Event) (rests : Rests s es) (d : ℕ) → d < s.k → (r : ℕ) × Heads (after s es) d r × HasTakenOver (after s es) d r × ((replica_of (process_of (after s es) (of_rank d r)) d).items ≡ items_after [] (settled_of s es d))
+  pub rests-items : (es : List Event) (rests : Rests s es) (d : ℕ) → d < s.k → (r : ℕ) × Heads (after s es) d r
+      × HasTakenOver (after s es) d r
+      × ((replica_of (process_of (after s es) (of_rank d r)) d).items ≡ items_after [] (settled_of s es d))
       × (history (settled_of s es d) (replica_of (process_of (after s es) (of_rank d r)) d) ≡ settled_of s es d)
   rests-items es rests d below =
       let h : History = (book_of s es).history in
@@ -152,9 +163,11 @@ module _ (s : Dimensions) where
       let shape : h.world.shape ≡ s = book-shape s es in
       let headed : IsHeaded h.world = subst IsHeaded (sym world) (headed_always s es rests.run rests.drained rests.up) in
       let low : d < h.world.shape.k = subst (λ (t : Dimensions). d < t.k) (sym shape) below in
-      let items = history-items h (subst (λ (t : Dimensions). Reached t (state_of h)) (sym shape) both.0) (subst (λ (t : Dimensions). Told t (state_of h)) (sym shape) both.1)
+      let items = history-items h (subst (λ (t : Dimensions). Reached t (state_of h)) (sym shape) both.0)
+      (subst (λ (t : Dimensions). Told t (state_of h)) (sym shape) both.1)
       (subst IsDrained (sym world) rests.drained) headed (subst IsFinished (sym world) (finished_always s es rests.run rests.drained)) d low in
-      let whole = history-heads h (subst (λ (t : Dimensions). Reached t (state_of h)) (sym shape) both.0) (subst (λ (t : Dimensions). Told t (state_of h)) (sym shape) both.1)
+      let whole = history-heads h (subst (λ (t : Dimensions). Reached t (state_of h)) (sym shape) both.0)
+      (subst (λ (t : Dimensions). Told t (state_of h)) (sym shape) both.1)
       (subst IsDrained (sym world) rests.drained) headed (subst IsFinished (sym world) (finished_always s es rests.run rests.drained)) d low in
       let r : ℕ = (headed d low).0 in (
         r,
@@ -171,14 +184,18 @@ module _ (s : Dimensions) where
       let world : h.world ≡ after s es = book-world s es in
       let shape : h.world.shape ≡ s = book-shape s es in
       subst (λ (t : Dimensions). AllUpto (settled_of s es) t (state_of h)) shape
-      (history-rests h (subst (λ (t : Dimensions). Reached t (state_of h)) (sym shape) both.0) (subst (λ (t : Dimensions). Told t (state_of h)) (sym shape) both.1)
-      (subst IsDrained (sym world) rests.drained) (subst IsHeaded (sym world) (headed_always s es rests.run rests.drained rests.up)) (subst IsFinished (sym world) (finished_always s es rests.run rests.drained)))
+      (history-rests h (subst (λ (t : Dimensions). Reached t (state_of h)) (sym shape) both.0)
+      (subst (λ (t : Dimensions). Told t (state_of h)) (sym shape) both.1)
+      (subst IsDrained (sym world) rests.drained)
+      (subst IsHeaded (sym world) (headed_always s es rests.run rests.drained rests.up))
+      (subst IsFinished (sym world) (finished_always s es rests.run rests.drained)))
 
   module _ (limit : ℕ → List Update) where
     -- one event
     upto-one : (h : History) (e : Event) → FramedHistory h → IsShape h.world.shape → MayCome h.world e → IsStill e → AllUpto limit h.world.shape (state_of h)
         → AllUpto limit h.world.shape (state_of (prolonged h e))
-    upto-one h (Ask caller op p) framed shaped may still all = upto-ask limit h caller op p framed shaped may (get-keeps (Upto limit) h.world.shape (state_of h) p (next_name h.world caller) op still) all
+    upto-one h (Ask caller op p) framed shaped may still all = upto-ask limit h caller op p framed shaped may
+        (get-keeps (Upto limit) h.world.shape (state_of h) p (next_name h.world caller) op still) all
     upto-one h (Deliver from to) framed shaped may still all = upto-deliver limit h from to framed shaped may all
     upto-one h (Collect caller call p) framed shaped may still all = absurd still
     upto-one h (Fail p keep) framed shaped may still all = absurd still
@@ -186,14 +203,18 @@ module _ (s : Dimensions) where
     upto-one h (Trace caller call d p) framed shaped may still all = absurd still
 
     pub upto-book : (es : List Event) (e : Event) → IsRun s es → MayCome (after s es) e
-        → ((h : History) → FramedHistory h → IsShape h.world.shape → MayCome h.world e → AllUpto limit h.world.shape (state_of h) → AllUpto limit h.world.shape (state_of (prolonged h e)))
+        → ((h : History) → FramedHistory h → IsShape h.world.shape → MayCome h.world e → AllUpto limit h.world.shape
+        (state_of h) → AllUpto limit h.world.shape (state_of (prolonged h e)))
         → AllUpto limit s (state_at s es) → AllUpto limit s (state_at s (es ++ e ∷ []))
     upto-book es e run may one all =
         let h : History = (book_of s es).history in
         let shape : h.world.shape ≡ s = book-shape s es in
-        let next : AllUpto limit h.world.shape (state_of (prolonged h e)) = one h (book-framed s es run) (subst IsShape (sym shape) run.0) (subst (λ (w : World). MayCome w e) (sym (book-world s es)) may)
+        let next : AllUpto limit h.world.shape (state_of (prolonged h e)) =
+        one h (book-framed s es run) (subst IsShape (sym shape) run.0)
+        (subst (λ (w : World). MayCome w e) (sym (book-world s es)) may)
         (subst (λ (t : Dimensions). AllUpto limit t (state_of h)) (sym shape) all) in
-        subst (λ (b : Book). AllUpto limit s (state_of b.history)) (sym (book-append (no_book s) es (e ∷ []))) (subst (λ (t : Dimensions). AllUpto limit t (state_of (prolonged h e))) shape next)
+        subst (λ (b : Book). AllUpto limit s (state_of b.history)) (sym (book-append (no_book s) es (e ∷ [])))
+        (subst (λ (t : Dimensions). AllUpto limit t (state_of (prolonged h e))) shape next)
 
     pub upto-still : (es fs : List Event) → IsRun s (es ++ fs) → Each IsStill fs → AllUpto limit s (state_at s es) → AllUpto limit s (state_at s (es ++ fs))
     upto-still es [] run still all = subst (λ (xs : List Event). AllUpto limit s (state_at s xs)) (sym (append-nil es)) all
@@ -213,7 +234,9 @@ module _ (s : Dimensions) where
       let low : d < 0 + h.world.shape.k = let many = ap (λ (t : Dimensions). t.k) (book-shape s es) in omega (arith, below, many) in
       let one : Prolongs (settled_of s es d) (at [] (prolonged h f).settled d)
       = subst (Prolongs (settled_of s es d)) (sym (settled-at _ h.world.shape.k 0 d h.settled (omega arith) low)) (settled-begins _ d (settled_of s es d)) in
-      let next : Prolongs (settled_of s es d) (settled_of s (es ++ f ∷ []) d) = subst (λ (b : Book). Prolongs (settled_of s es d) (at [] b.history.settled d)) (sym (book-append (no_book s) es (f ∷ []))) one in
+      let next : Prolongs (settled_of s es d) (settled_of s (es ++ f ∷ []) d) =
+      subst (λ (b : Book). Prolongs (settled_of s es d) (at [] b.history.settled d))
+      (sym (book-append (no_book s) es (f ∷ []))) one in
       begins-trans (settled_of s es d) (settled_of s (es ++ f ∷ []) d) (settled_of s (es ++ f ∷ fs) d) next
       (subst (λ (xs : List Event). Prolongs (settled_of s (es ++ f ∷ []) d) (settled_of s xs d)) there (settled-grows (es ++ f ∷ []) fs d below))
 
@@ -222,9 +245,11 @@ module _ (s : Dimensions) where
       sym (take_all (length us) vs (let x = b.reaches in omega (arith, x))) ∙ a.front
 
   -- so gets settle nothing
-  pub still-settled : (es fs : List Event) → Rests s es → IsRun s (es ++ fs) → Each IsStill fs → (d : ℕ) → d < s.k → settled_of s (es ++ fs) d ≡ settled_of s es d
+  pub still-settled : (es fs : List Event) → Rests s es → IsRun s (es ++ fs) → Each IsStill fs → (d : ℕ) → d < s.k
+      → settled_of s (es ++ fs) d ≡ settled_of s es d
   still-settled es fs rests run still d below =
-      both-fronts (settled_of s es d) (settled_of s (es ++ fs) d) (settled-grows es fs d below) ((upto-still (settled_of s es) es fs run still (rests-upto es rests)).2 d below)
+      both-fronts (settled_of s es d) (settled_of s (es ++ fs) d) (settled-grows es fs d below)
+      ((upto-still (settled_of s es) es fs run still (rests-upto es rests)).2 d below)
 
   pub logs-of : (es : List Event) → IsRun s es → LogsOf (book_of s es)
   logs-of es run = logs_always s (stands-always s (whole-always s)) es run
@@ -234,12 +259,16 @@ module _ (s : Dimensions) where
 
   pub ties-of : (es : List Event) → IsRun s es → Ties s (book_of s es).history.settled (table_after_run es)
   ties-of es run = subst (λ (w : World). Ties s (book_of s es).history.settled (table_of (empty_table s.k) w.log)) (book-world s es)
-      (subst (λ (t : Dimensions). Ties t (book_of s es).history.settled (table_of (empty_table t.k) (book_of s es).history.world.log)) (book-shape s es) (logs-of es run).stands.ties)
+      (subst (λ (t : Dimensions). Ties t (book_of s es).history.settled
+      (table_of (empty_table t.k) (book_of s es).history.world.log)) (book-shape s es) (logs-of es run).stands.ties)
 
   -- the tables of runs that settle the same
-  pub same-items : (es fs : List Event) → IsRun s es → IsRun s fs → ((d : ℕ) → d < s.k → settled_of s fs d ≡ settled_of s es d) → (key : List ℕ) → (table_after_run fs).items key ≡ (table_after_run es).items key
+  pub same-items : (es fs : List Event) → IsRun s es → IsRun s fs
+      → ((d : ℕ) → d < s.k → settled_of s fs d ≡ settled_of s es d) → (key : List ℕ) → (table_after_run fs).items key
+      ≡ (table_after_run es).items key
   same-items es fs run more same key =
-      (ties-of fs more).items key ∙ ap (λ (us : List Update). held (store_after s (home_of key s.k) us) key) (same (home_of key s.k) (home-below key s.k run.0.k.0)) ∙ sym ((ties-of es run).items key)
+      (ties-of fs more).items key ∙ ap (λ (us : List Update). held (store_after s (home_of key s.k) us) key)
+      (same (home_of key s.k) (home-below key s.k run.0.k.0)) ∙ sym ((ties-of es run).items key)
 
   pub same-counts : (es fs : List Event) → IsRun s es → IsRun s fs → ((d : ℕ) → d < s.k → settled_of s fs d ≡ settled_of s es d) → (d : ℕ) → d < s.k
       → slice_index (table_after_run fs).counts d ≡ slice_index (table_after_run es).counts d

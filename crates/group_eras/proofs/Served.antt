@@ -1,6 +1,7 @@
 -- The set of a fresh key, in a group at rest of which no process is dead, is issued, and settled once the group is
 -- drained.
-use Rattle.std.proofs.Common.{ℕ, ℤ, zero, suc, ◌≡◌, ◌<◌, ◌≤◌, ◌+◌, Bool, false, List, [], ◌∷◌, ◌++◌, length, Option, Some, None, if◌then◌else◌, ◌⊎◌, inl, inr, refl, sym, ap, subst, ◌∙◌, arith}
+use Rattle.std.proofs.Common.{ℕ, ℤ, zero, suc, ◌≡◌, ◌<◌, ◌≤◌, ◌+◌, Bool, false, List, [], ◌∷◌, ◌++◌, length, Option}
+use Rattle.std.proofs.Common.{Some, None, if◌then◌else◌, ◌⊎◌, inl, inr, refl, sym, ap, subst, ◌∙◌, arith}
 use Rattle.group_types.proofs.Eaches.{each-weaker}
 use Rattle.group_eras.proofs.Lists.{take-front, take-whole}
 use Rattle.std.specs.Prelude.{All, Contains, slice_get, take}
@@ -56,7 +57,8 @@ use Rattle.law_causes.proofs.Lasting.{held_last_always}
 use Rattle.law_progress.specs.Ends.{IsDelivery}
 use Rattle.group_eras.specs.Carry.{draining}
 use Rattle.group_eras.specs.Eras.{carrier}
-use Rattle.group_eras.proofs.Draining.{Delivers, NoFailure, after-is, dead-after, dead-still, delivers, delivery-still, drained-rests, more-run, more-up, shape-after, still-none}
+use Rattle.group_eras.proofs.Draining.{Delivers, NoFailure, after-is, dead-after, dead-still, delivers, delivery-still}
+use Rattle.group_eras.proofs.Draining.{drained-rests, more-run, more-up, shape-after, still-none}
 use Rattle.group_eras.proofs.Issues.{IsReadyAt}
 use Rattle.group_eras.proofs.Making.{asked-among}
 use Rattle.group_eras.proofs.Asking.{among-all, turns-long}
@@ -100,13 +102,15 @@ first-heads s es rests live d below =
     by (suc i) heads items whole = absurd (cc (heads.lowest 0 (omega arith), live (DataNode d)))
 
 -- held calls last while messages are delivered
-held-lasts : (s : Dimensions) (es fs : List Event) (p : ProcessId) (d : ℕ) (h : Held) → IsProcess s p → IsRun s es → IsRunFrom (after s es) fs → Each IsDelivery fs
+held-lasts : (s : Dimensions) (es fs : List Event) (p : ProcessId) (d : ℕ) (h : Held) → IsProcess s p → IsRun s es
+    → IsRunFrom (after s es) fs → Each IsDelivery fs
     → Contains (held_at (process_of (after s es) p) d) h → Contains (held_at (process_of (after s (es ++ fs)) p) d) h
 held-lasts s es [] p d h pin run more all there = subst (λ (xs : List Event). Contains (held_at (process_of (after s xs) p) d) h) (sym (append-nil es)) there
 held-lasts s es (f ∷ fs) p d h pin run more all there =
     let next : after s (es ++ f ∷ []) ≡ (step (after s es) f).world = after-more (opening s) es f in
     let last = held_last_always s es run f p d h more.0 (subst (λ (t : Dimensions). IsProcess t p) (sym (shape-after (opening s) es)) pin) there in
-    let now : Contains (held_at (process_of (after s (es ++ f ∷ [])) p) d) h = subst (λ (w : World). Contains (held_at (process_of w p) d) h) (sym next) (kept f all.0 last) in
+    let now : Contains (held_at (process_of (after s (es ++ f ∷ [])) p) d) h =
+    subst (λ (w : World). Contains (held_at (process_of w p) d) h) (sym next) (kept f all.0 last) in
     subst (λ (xs : List Event). Contains (held_at (process_of (after s xs) p) d) h) (append_assoc es (f ∷ []) fs)
     (held-lasts s (es ++ f ∷ []) fs p d h pin (more-run s es f run more.0) (subst (λ (w : World). IsRunFrom w fs) (sym next) more.1) all.1 now)
   where
@@ -126,8 +130,10 @@ pub record HasNamed (us : List Update) (name : CallName) : Type 0 where
   pub there : Contains us update
   pub named : update_name update ≡ name
 
-module _ (s : Dimensions) (es : List Event) (rests : Rests s es) (live : AllLive s es) (d : ℕ) (below : d < s.k) (total : ℕ) (piled : Piled total (items_after [] (settled_of s es d)))
-    (key : List ℕ) (home : home_of key s.k ≡ d) (flags : ℕ) (expiry : ℤ) (value : List ℕ) (bytes : All (λ b. b < 256) value) (fits : total + length value ≤ space_of s) where
+module _ (s : Dimensions) (es : List Event) (rests : Rests s es) (live : AllLive s es) (d : ℕ) (below : d < s.k)
+    (total : ℕ) (piled : Piled total (items_after [] (settled_of s es d)))
+    (key : List ℕ) (home : home_of key s.k ≡ d) (flags : ℕ) (expiry : ℤ) (value : List ℕ)
+    (bytes : All (λ b. b < 256) value) (fits : total + length value ≤ space_of s) where
   abbrev w : World
   w = after s es
 
@@ -161,14 +167,23 @@ module _ (s : Dimensions) (es : List Event) (rests : Rests s es) (live : AllLive
     Ticketed : (n : ℕ) → answer ≡ says.Ticket n → Issued answer
 
   ready : IsReady w (DataNode d) (home_in w op)
-  ready = subst (λ (e : ℕ). IsReady w (DataNode d) e) (sym here) (record { rank = 0; name = refl; heads = first.heads; taken_over = λ q from lower fin apart has. absurd (omega (arith, lower)) })
+  ready = subst (λ (e : ℕ). IsReady w (DataNode d) e) (sym here)
+      (record {
+        rank = 0;
+        name = refl;
+        heads = first.heads;
+        taken_over = λ q from lower fin apart has.
+            absurd (omega (arith, lower));
+      })
 
   no-room : FindsNoRun w (DataNode d) op → ⊥
-  no-room finds = some-place (space_of s) total (replica_of (process_of w (DataNode d)) d) (subst (Piled total) (sym first.ready.items) piled) first.ready.quiet (length value)
+  no-room finds = some-place (space_of s) total (replica_of (process_of w (DataNode d)) d)
+      (subst (Piled total) (sym first.ready.items) piled) first.ready.quiet (length value)
       (subst (λ (xs : List ℕ). 0 < length xs) same finds.some) fits
       (subst (λ (xs : List ℕ). NoPlace (space_of s) (is_free (space_of s) (replica_of (process_of w (DataNode d)) d)) (length xs)) same
       (subst (λ (e : ℕ). NoPlace (space_of s) (is_free (space_of s) (replica_of (process_of w (DataNode d)) e)) (length finds.value.item.value)) here
-      (subst (λ (t : Dimensions). NoPlace (space_of t) (is_free (space_of t) (replica_for w (DataNode d) op)) (length finds.value.item.value)) shape finds.none)))
+      (subst (λ (t : Dimensions). NoPlace (space_of t) (is_free (space_of t) (replica_for w (DataNode d) op))
+      (length finds.value.item.value)) shape finds.none)))
     where
       holding : Holding
       holding = record { item = record { flags = flags; cas = count_of (table_now w) key + 1; value = value }; until = until_of expiry 0 }
@@ -243,21 +258,35 @@ module _ (s : Dimensions) (es : List Event) (rests : Rests s es) (live : AllLive
 
     of-ticket : (n : ℕ) → (step w put_event).turn.answer ≡ says.Ticket n → HasNamed (settled_of s done_put d) put_name
     of-ticket n is =
-        let ticket : HoldsTicket w (step w put_event).world carrier op (DataNode d) n = tickets_held_always s es rests.run carrier op (DataNode d) n may-put is in
+        let ticket : HoldsTicket w (step w put_event).world carrier op (DataNode d) n =
+        tickets_held_always s es rests.run carrier op (DataNode d) n may-put is in
         let h : Held = record { caller = carrier; call = at 0 w.asked carrier; number = n; outcome = ticket.outcome } in
         let first-held : Contains (held_at (process_of (step w put_event).world (DataNode d)) (home_in w op)) h
-        = subst (λ (hs : List Held). Contains hs h) (sym ticket.held) (Contains-append_right (held_at (process_of w (DataNode d)) (home_in w op)) (h ∷ []) h (0, omega arith, refl)) in
+        = subst (λ (hs : List Held). Contains hs h) (sym ticket.held)
+        (Contains-append_right (held_at (process_of w (DataNode d)) (home_in w op)) (h ∷ []) h
+        (0, omega arith, refl)) in
         let now : Contains (held_at (process_of (after s after_put) (DataNode d)) d) h
-        = subst (λ (e : ℕ). Contains (held_at (process_of (after s after_put) (DataNode d)) e) h) here (subst (λ (v : World). Contains (held_at (process_of v (DataNode d)) (home_in w op)) h) (sym next) first-held) in
+        = subst (λ (e : ℕ). Contains (held_at (process_of (after s after_put) (DataNode d)) e) h) here
+        (subst (λ (v : World). Contains (held_at (process_of v (DataNode d)) (home_in w op)) h) (sym next)
+        first-held) in
         let lasts : Contains (held_at (process_of (after s done_put) (DataNode d)) d) h
-        = subst (λ (xs : List Event). Contains (held_at (process_of (after s xs) (DataNode d)) d) h) there (held-lasts s after_put drain (DataNode d) d h below run-put delivered-put.run delivered-put.deliveries now) in
+        = subst (λ (xs : List Event). Contains (held_at (process_of (after s xs) (DataNode d)) d) h) there
+        (held-lasts s after_put drain (DataNode d) d h below run-put delivered-put.run delivered-put.deliveries
+        now) in
         let stand : HeldStand s (state_at s done_put) = (held-book s done_put rests-put.run).0 in
         let world : (book_of s done_put).history.world ≡ after s done_put = book-world s done_put in
-        let seated : head_at (process_of (book_of s done_put).history.world (DataNode d)) d ≡ Some later.head = subst (λ (v : World). head_at (process_of v (DataNode d)) d ≡ Some later.head) (sym world) later.seated in
-        let alive : is_dead (book_of s done_put).history.world (DataNode d) ≡ false = subst (λ (v : World). is_dead v (DataNode d) ≡ false) (sym world) (live-put (DataNode d)) in
+        let seated : head_at (process_of (book_of s done_put).history.world (DataNode d)) d ≡ Some later.head =
+        subst (λ (v : World). head_at (process_of v (DataNode d)) d ≡ Some later.head) (sym world) later.seated in
+        let alive : is_dead (book_of s done_put).history.world (DataNode d) ≡ false =
+        subst (λ (v : World). is_dead v (DataNode d) ≡ false) (sym world) (live-put (DataNode d)) in
         let each = (stand (DataNode d) d below alive below).heads later.head seated in
-        let held-there : Contains (held_at (process_of (book_of s done_put).history.world (DataNode d)) d) h = subst (λ (v : World). Contains (held_at (process_of v (DataNode d)) d) h) (sym world) lasts in
-        let is-held = each-contained (IsHeldOf (history (settled_of s done_put d) (replica_of (process_of (book_of s done_put).history.world (DataNode d)) d))) (held_at (process_of (book_of s done_put).history.world (DataNode d)) d) h each held-there in
+        let held-there : Contains (held_at (process_of (book_of s done_put).history.world (DataNode d)) d) h =
+        subst (λ (v : World). Contains (held_at (process_of v (DataNode d)) d) h) (sym world) lasts in
+        let is-held =
+        each-contained
+        (IsHeldOf (history (settled_of s done_put d)
+        (replica_of (process_of (book_of s done_put).history.world (DataNode d)) d)))
+        (held_at (process_of (book_of s done_put).history.world (DataNode d)) d) h each held-there in
         let whole : history (settled_of s done_put d) (replica_of (process_of (book_of s done_put).history.world (DataNode d)) d) ≡ settled_of s done_put d
         = ap (λ (v : World). history (settled_of s done_put d) (replica_of (process_of v (DataNode d)) d)) world ∙ later.ready.whole in
         record {
@@ -270,33 +299,44 @@ module _ (s : Dimensions) (es : List Event) (rests : Rests s es) (live : AllLive
     of-reply is =
         let turns-are = turns-more (opening s) es put_event in
         let last : slice_get (turns_of s after_put) (length es) ≡ Some (step w put_event).turn
-        = ap (λ (turns : List Turn). slice_get turns (length es)) turns-are ∙ ap (slice_get (turns_of s es ++ (step w put_event).turn ∷ [])) (sym (turns-long (opening s) es)) ∙ get-last (turns_of s es) (step w put_event).turn in
+        = ap (λ (turns : List Turn). slice_get turns (length es)) turns-are
+        ∙ ap (slice_get (turns_of s es ++ (step w put_event).turn ∷ [])) (sym (turns-long (opening s) es))
+        ∙ get-last (turns_of s es) (step w put_event).turn in
         let within = (headline_always s after_put run-put).one_log.within in
         let ask : IsAsk (turns_of s after_put) (length es) (step w put_event).turn put_name op = record {
           there = last;
           at = DataNode d;
           event = refl;
           place = ap (λ (turns : List Turn). asks_of carrier (take (length es) turns)) turns-are
-              ∙ ap (asks_of carrier) (take-front (turns_of s es) ((step w put_event).turn ∷ []) (length es) (let long = turns-long (opening s) es in omega (arith, long)))
+              ∙ ap (asks_of carrier) (take-front (turns_of s es) ((step w put_event).turn ∷ []) (length es)
+              (let long = turns-long (opening s) es in omega (arith, long)))
               ∙ ap (asks_of carrier) (take-whole (turns_of s es) (length es) (let long = turns-long (opening s) es in omega (arith, long)))
               ∙ among-all carrier (opening s) es ∙ sym (asked-among s es rests.run carrier);
         } in
-        let logged : Contains (step w put_event).turn.logged (entry_of put_name op reply.Stored) = within.at_once (length es) (step w put_event).turn put_name op reply.Stored ask is in
+        let logged : Contains (step w put_event).turn.logged (entry_of put_name op reply.Stored) =
+        within.at_once (length es) (step w put_event).turn put_name op reply.Stored ask is in
         let in-log : Contains (step w put_event).world.log (entry_of put_name op reply.Stored)
-        = subst (λ (log : List Entry). Contains log (entry_of put_name op reply.Stored)) (sym (grown-is w.log (step w put_event).turn.logged)) (Contains-append_right w.log (step w put_event).turn.logged (entry_of put_name op reply.Stored) logged) in
+        = subst (λ (log : List Entry). Contains log (entry_of put_name op reply.Stored))
+        (sym (grown-is w.log (step w put_event).turn.logged))
+        (Contains-append_right w.log (step w put_event).turn.logged (entry_of put_name op reply.Stored) logged) in
         let at-end : Contains (after s done_put).log (entry_of put_name op reply.Stored)
         = subst (λ (v : World). Contains v.log (entry_of put_name op reply.Stored)) (sym (ap (after s) (sym there) ∙ after-is s after_put drain))
-        (log-grows (after s after_put) drain (entry_of put_name op reply.Stored) (subst (λ (v : World). Contains v.log (entry_of put_name op reply.Stored)) (sym next) in-log)) in
+        (log-grows (after s after_put) drain (entry_of put_name op reply.Stored)
+        (subst (λ (v : World). Contains v.log (entry_of put_name op reply.Stored)) (sym next) in-log)) in
         let world : (book_of s done_put).history.world ≡ after s done_put = book-world s done_put in
         let all = (logs-of s done_put rests-put.run).stands.entries in
-        let stands = each-contained (EntryStands (book_of s done_put).history.world.shape (book_of s done_put).issued (book_of s done_put).history.settled) (book_of s done_put).history.world.log
+        let stands = each-contained (EntryStands (book_of s done_put).history.world.shape (book_of s done_put).issued
+        (book_of s done_put).history.settled) (book_of s done_put).history.world.log
         (entry_of put_name op reply.Stored) all (subst (λ (v : World). Contains v.log (entry_of put_name op reply.Stored)) (sym world) at-end) in
         entry-named stands
       where
         home-end : home_of key (book_of s done_put).history.world.shape.k ≡ d
-        home-end = ap (λ (v : World). home_of key v.shape.k) (book-world s done_put) ∙ ap (λ (t : Dimensions). home_of key t.k) (shape-after (opening s) done_put) ∙ home
+        home-end = ap (λ (v : World). home_of key v.shape.k) (book-world s done_put)
+            ∙ ap (λ (t : Dimensions). home_of key t.k) (shape-after (opening s) done_put) ∙ home
 
-        entry-named : EntryStands (book_of s done_put).history.world.shape (book_of s done_put).issued (book_of s done_put).history.settled (entry_of put_name op reply.Stored) → HasNamed (settled_of s done_put d) put_name
+        entry-named : EntryStands (book_of s done_put).history.world.shape (book_of s done_put).issued
+            (book_of s done_put).history.settled (entry_of put_name op reply.Stored)
+            → HasNamed (settled_of s done_put d) put_name
         entry-named (inl entry) = record {
           update = entry.update;
           there = subst (λ (e : ℕ). Contains (at [] (book_of s done_put).history.settled e) entry.update) home-end entry.there;

@@ -82,7 +82,8 @@ pub record AllSet (s : Dimensions) (all : List Parcel) (es : List Event) (ps qs 
   pub plain : Each (IsPlain all) (setting (after s es) qs)
   pub short : length (setting (after s es) qs) ≤ length qs * 9
 
-pub set-all : (s : Dimensions) (all : List Parcel) (es : List Event) (ps qs : List Parcel) → Each (Contains all) qs → SetUp s es ps → AllCome s ps qs → AllSet s all es ps qs
+pub set-all : (s : Dimensions) (all : List Parcel) (es : List Event) (ps qs : List Parcel) → Each (Contains all) qs
+    → SetUp s es ps → AllCome s ps qs → AllSet s all es ps qs
 set-all s all es ps [] inside up come = record {
   setup = subst (λ (xs : List Event). SetUp s xs (ps ++ [])) (sym (append-nil es)) (subst (SetUp s es) (sym (append-nil ps)) up);
   plain = tt;
@@ -91,13 +92,17 @@ set-all s all es ps [] inside up come = record {
 set-all s all es ps (x ∷ xs) inside up come =
     let drain : List Event = draining (step (after s es) (set_of x)).world in
     let done : List Event = es ++ set_of x ∷ drain in
-    let world : after s (es ++ set_of x ∷ draining (step (after s es) (set_of x)).world) ≡ drained (step (after s es) (set_of x)).world = after-is s es (set_of x ∷ drain) in
-    let events : (es ++ set_of x ∷ draining (step (after s es) (set_of x)).world) ++ setting (drained (step (after s es) (set_of x)).world) xs ≡ es ++ setting (after s es) (x ∷ xs)
+    let world : after s (es ++ set_of x ∷ draining (step (after s es) (set_of x)).world)
+    ≡ drained (step (after s es) (set_of x)).world = after-is s es (set_of x ∷ drain) in
+    let events : (es ++ set_of x ∷ draining (step (after s es) (set_of x)).world)
+    ++ setting (drained (step (after s es) (set_of x)).world) xs ≡ es ++ setting (after s es) (x ∷ xs)
     = append_assoc es (set_of x ∷ drain) (setting (drained (step (after s es) (set_of x)).world) xs) in
-    let rest : AllSet s all (es ++ set_of x ∷ draining (step (after s es) (set_of x)).world) (ps ++ x ∷ []) xs = set-all s all done (ps ++ x ∷ []) xs inside.1 (set-next s es ps up x come.0) come.1 in
+    let rest : AllSet s all (es ++ set_of x ∷ draining (step (after s es) (set_of x)).world) (ps ++ x ∷ []) xs =
+    set-all s all done (ps ++ x ∷ []) xs inside.1 (set-next s es ps up x come.0) come.1 in
     record {
       setup = subst (SetUp s (es ++ setting (after s es) (x ∷ xs))) (append_assoc ps (x ∷ []) xs)
-          (subst (λ (ys : List Event). SetUp s ys ((ps ++ x ∷ []) ++ xs)) events (subst (λ (w : World). SetUp s (done ++ setting w xs) ((ps ++ x ∷ []) ++ xs)) world rest.setup));
+          (subst (λ (ys : List Event). SetUp s ys ((ps ++ x ∷ []) ++ xs)) events
+          (subst (λ (w : World). SetUp s (done ++ setting w xs) ((ps ++ x ∷ []) ++ xs)) world rest.setup));
       plain = each-append (IsPlain all) (set_of x ∷ drain) (setting (drained (step (after s es) (set_of x)).world) xs)
           ((x, inside.0, refl), each-weaker IsDelivery (IsPlain all) (delivery-plain all) drain (deliveries s es ps up x come.0))
           (subst (λ (w : World). Each (IsPlain all) (setting w xs)) world rest.plain);
@@ -106,7 +111,9 @@ set-all s all es ps (x ∷ xs) inside up come =
           let one = set-drain s es ps up x come.0 in
           let few = up.rests.run.0.m in
           let later = rest.short in
-          let same : length (setting (after s (es ++ set_of x ∷ draining (step (after s es) (set_of x)).world)) xs) ≡ length (setting (drained (step (after s es) (set_of x)).world) xs) = ap (λ (w : World). length (setting w xs)) world in
+          let same : length (setting (after s (es ++ set_of x ∷ draining (step (after s es) (set_of x)).world)) xs)
+          ≡ length (setting (drained (step (after s es) (set_of x)).world) xs) =
+          ap (λ (w : World). length (setting w xs)) world in
           omega (arith, both, one, few, later, same);
     }
 
@@ -120,7 +127,8 @@ abbrev pub Apart : Parcel → Parcel → Type 0
 Apart x y = x.key ≢ y.key
 
 -- parcels with different keys that the space has room for come
-pub all-come : (s : Dimensions) (ps qs : List Parcel) → Each (IsOfGroup s) qs → EachTwo Apart qs → Each (λ x. Each (Apart x) qs) ps → ((d : ℕ) → d < s.k → weight d (ps ++ qs) ≤ space_of s) → AllCome s ps qs
+pub all-come : (s : Dimensions) (ps qs : List Parcel) → Each (IsOfGroup s) qs → EachTwo Apart qs
+    → Each (λ x. Each (Apart x) qs) ps → ((d : ℕ) → d < s.k → weight d (ps ++ qs) ≤ space_of s) → AllCome s ps qs
 all-come s ps [] of two cross room = tt
 all-come s ps (x ∷ xs) of two cross room = (
   record {
@@ -130,11 +138,13 @@ all-come s ps (x ∷ xs) of two cross room = (
     room =
         let most = room x.partition of.0.below in
         let both = weight-both x.partition ps (x ∷ xs) in
-        let one : weight_if (x.partition == x.partition) (length x.value) ≡ length x.value = ap (λ (b : Bool). weight_if b (length x.value)) (eq-eqb x.partition x.partition refl) in
+        let one : weight_if (x.partition == x.partition) (length x.value) ≡ length x.value =
+        ap (λ (b : Bool). weight_if b (length x.value)) (eq-eqb x.partition x.partition refl) in
         omega (arith, most, both, one);
     bytes = of.0.bytes;
   },
   all-come s (ps ++ x ∷ []) xs of.1 two.1
-      (each-append (λ y. Each (Apart y) xs) ps (x ∷ []) (each-weaker (λ y. Each (Apart y) (x ∷ xs)) (λ y. Each (Apart y) xs) (λ y all. all.1) ps cross) (two.0, tt))
+      (each-append (λ y. Each (Apart y) xs) ps (x ∷ [])
+      (each-weaker (λ y. Each (Apart y) (x ∷ xs)) (λ y. Each (Apart y) xs) (λ y all. all.1) ps cross) (two.0, tt))
       (λ d low. subst (λ (ys : List Parcel). weight d ys ≤ space_of s) (sym (append_assoc ps (x ∷ []) xs)) (room d low)),
 )

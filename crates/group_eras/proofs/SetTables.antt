@@ -1,5 +1,6 @@
 -- The table that a log of sets leaves.
-use Rattle.std.proofs.Common.{ℕ, zero, suc, ◌≡◌, ◌≤◌, ◌+◌, Bool, true, false, List, [], ◌∷◌, Option, Some, None, is_some, if◌then◌else◌, refl, sym, ap, subst, ◌∙◌, arith}
+use Rattle.std.proofs.Common.{ℕ, zero, suc, ◌≡◌, ◌≤◌, ◌+◌, Bool, true, false, List, [], ◌∷◌, Option, Some, None}
+use Rattle.std.proofs.Common.{is_some, if◌then◌else◌, refl, sym, ap, subst, ◌∙◌, arith}
 use Rattle.std.specs.Prelude.{Contains, slice_get}
 use Rattle.group_types.specs.Dimensions.{Dimensions}
 use Rattle.group_types.specs.Each.{Each, EachTwo}
@@ -29,7 +30,8 @@ abbrev pub SetsOne : List Parcel → Asked → Type 0
 SetsOne all op = (x : Parcel) × Contains all x × (op ≡ op_of x)
 
 -- each entry of a run of sets is of one
-pub log-sets : (s : Dimensions) (all : List Parcel) (es : List Event) → IsRun s es → Each (IsPlain all) es → (entry : Entry) → Contains (after s es).log entry → SetsOne all entry.op
+pub log-sets : (s : Dimensions) (all : List Parcel) (es : List Event) → IsRun s es → Each (IsPlain all) es
+    → (entry : Entry) → Contains (after s es).log entry → SetsOne all entry.op
 log-sets s all es run plain entry there =
     let h = headline_always s es run in
     let found = logged-turn (turns_of s es) entry (subst (λ (log : List Entry). Contains log entry) h.one_log.kept there) in
@@ -57,39 +59,49 @@ left_by t x = record { item = record { flags = x.flags; cas = count_of t x.key +
 after-set : (t : Contents) (x : Parcel) (key : List ℕ) → (table_after t (op_of x)).items key ≡ (if same_key x.key key then Some (left_by t x) else t.items key)
 after-set t x key = refl
 
-item-after : (all : List Parcel) (t : Contents) (op : Asked) (key : List ℕ) → SetsOne all op → SetItem all key (t.items key) → SetItem all key ((table_after t op).items key)
+item-after : (all : List Parcel) (t : Contents) (op : Asked) (key : List ℕ) → SetsOne all op
+    → SetItem all key (t.items key) → SetItem all key ((table_after t op).items key)
 item-after all t op key sets was = subst (λ (o : Asked). SetItem all key ((table_after t o).items key)) (sym sets.2) (by (same_key sets.0.key key) refl) where
   x : Parcel
   x = sets.0
 
   by : (b : Bool) → same_key sets.0.key key ≡ b → SetItem all key (if same_key sets.0.key key then Some (left_by t sets.0) else t.items key)
-  by true same = OfSet sets.0 (left_by t sets.0) sets.1 (key-eq sets.0.key key same) (ap (λ (b : Bool). if b then Some (left_by t sets.0) else t.items key) same)
+  by true same = OfSet sets.0 (left_by t sets.0) sets.1 (key-eq sets.0.key key same)
+      (ap (λ (b : Bool). if b then Some (left_by t sets.0) else t.items key) same)
       (record { flags = refl; value = refl; until = refl; cas = omega arith })
   by false same = subst (λ (b : Bool). SetItem all key (if b then Some (left_by t sets.0) else t.items key)) (sym same) was
 
-pub sets-items : (all : List Parcel) (t : Contents) (log : List Entry) (key : List ℕ) → Each (λ e. SetsOne all e.op) log → SetItem all key (t.items key) → SetItem all key ((table_of t log).items key)
+pub sets-items : (all : List Parcel) (t : Contents) (log : List Entry) (key : List ℕ) → Each (λ e. SetsOne all e.op) log
+    → SetItem all key (t.items key) → SetItem all key ((table_of t log).items key)
 sets-items all t [] key sets was = was
 sets-items all t (e ∷ es) key sets was = sets-items all (table_after t e.op) es key sets.1 (item-after all t e.op key sets.0 was)
 
 -- an item stays, and each set leaves one
-some-after : (all : List Parcel) (t : Contents) (op : Asked) (key : List ℕ) → SetsOne all op → is_some (t.items key) ≡ true → is_some ((table_after t op).items key) ≡ true
+some-after : (all : List Parcel) (t : Contents) (op : Asked) (key : List ℕ) → SetsOne all op
+    → is_some (t.items key) ≡ true → is_some ((table_after t op).items key) ≡ true
 some-after all t op key sets was = subst (λ (o : Asked). is_some ((table_after t o).items key) ≡ true) (sym sets.2) (by (same_key sets.0.key key)) where
   by : (b : Bool) → is_some (if b then Some (left_by t sets.0) else t.items key) ≡ true
   by true = refl
   by false = was
 
-stays : (all : List Parcel) (t : Contents) (log : List Entry) (key : List ℕ) → Each (λ e. SetsOne all e.op) log → is_some (t.items key) ≡ true → is_some ((table_of t log).items key) ≡ true
+stays : (all : List Parcel) (t : Contents) (log : List Entry) (key : List ℕ) → Each (λ e. SetsOne all e.op) log
+    → is_some (t.items key) ≡ true → is_some ((table_of t log).items key) ≡ true
 stays all t [] key sets was = was
 stays all t (e ∷ es) key sets was = stays all (table_after t e.op) es key sets.1 (some-after all t e.op key sets.0 was)
 
-pub appears : (all : List Parcel) (t : Contents) (log : List Entry) (x : Parcel) → Each (λ e. SetsOne all e.op) log → HasSet log x → is_some ((table_of t log).items x.key) ≡ true
+pub appears : (all : List Parcel) (t : Contents) (log : List Entry) (x : Parcel) → Each (λ e. SetsOne all e.op) log
+    → HasSet log x → is_some ((table_of t log).items x.key) ≡ true
 appears all t [] x sets has = absurd (let low = has.there.1 in omega (arith, low))
-appears all t (e ∷ es) x sets has = by has.there (λ there. appears all (table_after t e.op) es x sets.1 (record { entry = has.entry; there = there; op = has.op })) where
-  by : Contains (e ∷ es) has.entry → (Contains es has.entry → is_some ((table_of (table_after t e.op) es).items x.key) ≡ true) → is_some ((table_of (table_after t e.op) es).items x.key) ≡ true
-  by (zero, low, is) later = stays all (table_after t e.op) es x.key sets.1
-      (subst (λ (o : Asked). is_some ((table_after t o).items x.key) ≡ true) (sym (ap (λ (y : Entry). y.op) is ∙ has.op))
-      (ap (λ (b : Bool). is_some (if b then Some (left_by t x) else t.items x.key)) (key-refl x.key)))
-  by (suc i, low, is) later = later (i, omega (arith, low), is)
+appears all t (e ∷ es) x sets has =
+    by has.there (λ there. appears all (table_after t e.op) es x sets.1
+    (record { entry = has.entry; there = there; op = has.op })) where
+      by : Contains (e ∷ es) has.entry
+          → (Contains es has.entry → is_some ((table_of (table_after t e.op) es).items x.key) ≡ true)
+          → is_some ((table_of (table_after t e.op) es).items x.key) ≡ true
+      by (zero, low, is) later = stays all (table_after t e.op) es x.key sets.1
+          (subst (λ (o : Asked). is_some ((table_after t o).items x.key) ≡ true) (sym (ap (λ (y : Entry). y.op) is ∙ has.op))
+          (ap (λ (b : Bool). is_some (if b then Some (left_by t x) else t.items x.key)) (key-refl x.key)))
+      by (suc i, low, is) later = later (i, omega (arith, low), is)
 
 -- parcels with one key are one
 pub one-parcel : (all : List Parcel) (x y : Parcel) → EachTwo Apart all → Contains all x → Contains all y → x.key ≡ y.key → x ≡ y

@@ -12,7 +12,9 @@ use Rattle.group_message.specs.declared.update.Body.TheVariants.{Put}
 use Rattle.group_message.specs.declared.update.Outcome.TheVariants as ends
 use Rattle.group_message.specs.declared.update.Update.{Update}
 use Rattle.group_calls.specs.declared.decision.Decision.TheVariants as decides
-use Rattle.group_run.specs.Deciding.{Bytes, Found, decide, decide_accepted, decide_blind, decide_left, decide_placed, decide_waiting, decide_written, blind_reply, length_of, ruling_with, unseen, waits_for, window}
+use Rattle.group_run.specs.Deciding.{Bytes, Found, decide, decide_accepted, decide_blind, decide_left, decide_placed}
+use Rattle.group_run.specs.Deciding.{decide_waiting, decide_written, blind_reply, length_of, ruling_with, unseen}
+use Rattle.group_run.specs.Deciding.{waits_for, window}
 use Rattle.group_run.specs.Free.{place_for}
 use Rattle.group_run.specs.Replica.{Replica, last_of, number_on, slot_in}
 

@@ -1,5 +1,6 @@
 -- A fresh group that is set up: the items of which it was asked lie one upon another, and all are settled.
-use Rattle.std.proofs.Common.{ℕ, ◌≡◌, ◌≢◌, ◌<◌, ◌≤◌, ◌+◌, ◌==◌, Bool, true, false, List, [], ◌∷◌, ◌++◌, length, if◌then◌else◌, ◌⊎◌, inl, inr, refl, sym, ap, subst, ◌∙◌, arith}
+use Rattle.std.proofs.Common.{ℕ, ◌≡◌, ◌≢◌, ◌<◌, ◌≤◌, ◌+◌, ◌==◌, Bool, true, false, List, [], ◌∷◌, ◌++◌, length}
+use Rattle.std.proofs.Common.{if◌then◌else◌, ◌⊎◌, inl, inr, refl, sym, ap, subst, ◌∙◌, arith}
 use Rattle.group_types.proofs.Eaches.{each-append, each-weaker}
 use Rattle.std.specs.Prelude.{All, Contains}
 use Rattle.std.proofs.lemmas.Bool.{cases_eq, cases_lt, eq-eqb, ne_eqb}
@@ -94,7 +95,10 @@ weaker-upto limit more s v fronts all = (
 )
 
 front-append : (us vs : List Update) → Prolongs us (us ++ vs)
-front-append us vs = record { reaches = (let long = length-append us vs in omega (arith, long)); front = take-append-le (length us) us vs (omega arith) ∙ take_all (length us) us (omega arith) }
+front-append us vs = record {
+  reaches = (let long = length-append us vs in omega (arith, long));
+  front = take-append-le (length us) us vs (omega arith) ∙ take_all (length us) us (omega arith);
+}
 
 -- between a list and one with one more there is none
 grow-one : (us vs : List Update) (u : Update) → Prolongs us vs → Prolongs vs (us ++ u ∷ []) → (vs ≡ us) ⊎ (vs ≡ us ++ u ∷ [])
@@ -111,7 +115,8 @@ old-calls : (s : Dimensions) (es : List Event) → IsRun s es → (d : ℕ) → 
 old-calls s es run d below =
     steps-each s (book_of s es).issued d (λ u. u.call < at 0 (after s es).asked u.caller)
     (λ n store u fits step.
-    let asked = each-contained (λ c. c.name.call < at 0 (book_of s es).history.world.asked c.name.caller) (book_of s es).issued step.call (asked_always s es run) step.asked in
+    let asked = each-contained (λ c. c.name.call < at 0 (book_of s es).history.world.asked c.name.caller)
+    (book_of s es).issued step.call (asked_always s es run) step.asked in
     subst (λ (name : CallName). name.call < at 0 (after s es).asked name.caller) (sym step.name)
     (subst (λ (w : World). step.call.name.call < at 0 w.asked step.call.name.caller) (book-world s es) asked))
     0 (no_store s) (settled_of s es d) (no_store-fits s) ((stands-always s (whole-always s) es run).settled d below).steps
@@ -142,7 +147,8 @@ module _ (s : Dimensions) (es : List Event) (ps : List Parcel) (up : SetUp s es 
   new = up.keys x.partition comes.below x.key comes.new
 
   ready : IsReadyAt (book_of s es).history.world x.partition (settled_of s es x.partition)
-  ready = subst (λ (v : World). IsReadyAt v x.partition (settled_of s es x.partition)) (sym world) (first-heads s es up.rests up.live x.partition comes.below).ready
+  ready = subst (λ (v : World). IsReadyAt v x.partition (settled_of s es x.partition)) (sym world)
+      (first-heads s es up.rests up.live x.partition comes.below).ready
 
   fits : weight x.partition ps + length x.value ≤ space_of (book_of s es).history.world.shape
   fits = subst (λ (t : Dimensions). weight x.partition ps + length x.value ≤ space_of t) (sym shape) comes.room
@@ -186,7 +192,8 @@ module _ (s : Dimensions) (es : List Event) (ps : List Parcel) (up : SetUp s es 
   may-set = served.may-put s es up.rests up.live d comes.below total piled x.key comes.home x.flags (expiry_of x.until) x.value comes.bytes comes.room
 
   pub deliveries : Each IsDelivery (draining (step (after s es) (set_of x)).world)
-  deliveries = (served.delivered-put s es up.rests up.live d comes.below total piled x.key comes.home x.flags (expiry_of x.until) x.value comes.bytes comes.room).deliveries
+  deliveries = (served.delivered-put s es up.rests up.live d comes.below total piled x.key comes.home x.flags
+      (expiry_of x.until) x.value comes.bytes comes.room).deliveries
 
   upto-start : AllUpto limit (book_of s es).history.world.shape (state_at s es)
   unfolding limit
@@ -201,16 +208,20 @@ module _ (s : Dimensions) (es : List Event) (ps : List Parcel) (up : SetUp s es 
       let keeps : IssuesIn (Upto limit) w.shape d us (process_of w (DataNode d)) (next_name w carrier) (op_of x)
       = issues.issues w d us ready total piled x.key x.flags (expiry_of x.until) x.value new fits limit limit-own in
       let next : AllUpto limit w.shape (state_of (prolonged h set))
-      = upto-ask limit h carrier (op_of x) (DataNode d) (book-framed s es up.rests.run) (subst IsShape (sym shape) up.rests.run.0) (subst (λ (v : World). MayCome v set) (sym world) may-set)
-      (subst (λ (e : ℕ). IssuesIn (Upto limit) w.shape e (at [] h.settled e) (process_of w (DataNode d)) (next_name w carrier) (op_of x)) (sym here) keeps) upto-start in
-      subst (λ (b : Book). AllUpto limit s (state_of b.history)) (sym (book-append (no_book s) es (set ∷ []))) (subst (λ (t : Dimensions). AllUpto limit t (state_of (prolonged h set))) shape next)
+      = upto-ask limit h carrier (op_of x) (DataNode d) (book-framed s es up.rests.run)
+      (subst IsShape (sym shape) up.rests.run.0) (subst (λ (v : World). MayCome v set) (sym world) may-set)
+      (subst (λ (e : ℕ). IssuesIn (Upto limit) w.shape e (at [] h.settled e) (process_of w (DataNode d))
+      (next_name w carrier) (op_of x)) (sym here) keeps) upto-start in
+      subst (λ (b : Book). AllUpto limit s (state_of b.history)) (sym (book-append (no_book s) es (set ∷ [])))
+      (subst (λ (t : Dimensions). AllUpto limit t (state_of (prolonged h set))) shape next)
 
   there : (es ++ set_of x ∷ []) ++ draining (step (after s es) (set_of x)).world ≡ done
   there = append_assoc es (set ∷ []) drain
 
   upto-done : AllUpto limit s (state_at s done)
   upto-done = subst (λ (xs : List Event). AllUpto limit s (state_at s xs)) there
-      (upto-still s limit (es ++ set ∷ []) drain (subst (IsRun s) (sym there) rests-done.run) (each-weaker IsDelivery IsStill delivery-still drain deliveries) upto-set)
+      (upto-still s limit (es ++ set ∷ []) drain (subst (IsRun s) (sym there) rests-done.run)
+      (each-weaker IsDelivery IsStill delivery-still drain deliveries) upto-set)
 
   -- only the parcel's partition has more settled
   settled-other : (e : ℕ) → e < s.k → e ≢ x.partition → settled_of s done e ≡ settled_of s es e
@@ -218,14 +229,17 @@ module _ (s : Dimensions) (es : List Event) (ps : List Parcel) (up : SetUp s es 
       (subst (Prolongs (settled_of s done e)) (limit-other e other) (upto-done.2 e low))
 
   settled-own : settled_of s done x.partition ≡ settled_of s es x.partition ++ put ∷ []
-  settled-own = by (grow-one us (settled_of s done d) put (settled-grows s es (set ∷ drain) d comes.below) (subst (Prolongs (settled_of s done d)) limit-own (upto-done.2 d comes.below))) where
-    by : (settled_of s done d ≡ us) ⊎ (settled_of s done d ≡ us ++ put ∷ []) → settled_of s done d ≡ us ++ put ∷ []
-    by (inr more) = more
-    by (inl same) =
-        let old = each-contained (λ u. u.call < at 0 (after s es).asked u.caller) us settled-done.update (old-calls s es up.rests.run d comes.below)
-        (subst (λ (vs : List Update). Contains vs settled-done.update) same settled-done.there) in
-        let low : at 0 (after s es).asked carrier < at 0 (after s es).asked carrier = subst (λ (name : CallName). name.call < at 0 (after s es).asked name.caller) settled-done.named old in
-        absurd (omega (arith, low))
+  settled-own =
+      by (grow-one us (settled_of s done d) put (settled-grows s es (set ∷ drain) d comes.below)
+      (subst (Prolongs (settled_of s done d)) limit-own (upto-done.2 d comes.below))) where
+        by : (settled_of s done d ≡ us) ⊎ (settled_of s done d ≡ us ++ put ∷ []) → settled_of s done d ≡ us ++ put ∷ []
+        by (inr more) = more
+        by (inl same) =
+            let old = each-contained (λ u. u.call < at 0 (after s es).asked u.caller) us settled-done.update (old-calls s es up.rests.run d comes.below)
+            (subst (λ (vs : List Update). Contains vs settled-done.update) same settled-done.there) in
+            let low : at 0 (after s es).asked carrier < at 0 (after s es).asked carrier =
+            subst (λ (name : CallName). name.call < at 0 (after s es).asked name.caller) settled-done.named old in
+            absurd (omega (arith, low))
 
   weight-own : weight x.partition (ps ++ x ∷ []) ≡ weight x.partition ps + length x.value
   weight-own =
@@ -236,7 +250,8 @@ module _ (s : Dimensions) (es : List Event) (ps : List Parcel) (up : SetUp s es 
   weight-other : (e : ℕ) → e ≢ x.partition → weight e (ps ++ x ∷ []) ≡ weight e ps
   weight-other e other =
       let both = weight-both e ps (x ∷ []) in
-      let none : weight_if (x.partition == e) (length x.value) ≡ 0 = ap (λ (b : Bool). weight_if b (length x.value)) (ne_eqb x.partition e (λ (same : x.partition ≡ e). other (sym same))) in
+      let none : weight_if (x.partition == e) (length x.value) ≡ 0 = ap (λ (b : Bool). weight_if b (length x.value))
+      (ne_eqb x.partition e (λ (same : x.partition ≡ e). other (sym same))) in
       omega (arith, both, none)
 
   piled-done : (e : ℕ) → e < s.k → (e ≡ x.partition) ⊎ (e ≢ x.partition) → Piled (weight e (ps ++ x ∷ [])) (items_after [] (settled_of s done e))
@@ -244,7 +259,8 @@ module _ (s : Dimensions) (es : List Event) (ps : List Parcel) (up : SetUp s es 
   piled-done e low (inl same) =
       subst (λ (f : ℕ). Piled (weight f (ps ++ x ∷ [])) (items_after [] (settled_of s done f))) (sym same)
       (subst (λ (n : ℕ). Piled n (items_after [] (settled_of s done d))) (sym weight-own)
-      (subst (λ (vs : List Update). Piled (total + length x.value) (items_after [] vs)) (sym settled-own) (issues.piled-next w d us ready total piled x.key x.flags (expiry_of x.until) x.value new fits)))
+      (subst (λ (vs : List Update). Piled (total + length x.value) (items_after [] vs)) (sym settled-own)
+      (issues.piled-next w d us ready total piled x.key x.flags (expiry_of x.until) x.value new fits)))
   piled-done e low (inr other) =
       subst (λ (n : ℕ). Piled n (items_after [] (settled_of s done e))) (sym (weight-other e other))
       (subst (λ (vs : List Update). Piled (weight e ps) (items_after [] vs)) (sym (settled-other e low other)) (up.piled e low))
@@ -253,19 +269,24 @@ module _ (s : Dimensions) (es : List Event) (ps : List Parcel) (up : SetUp s es 
   each-front P [] ys all = (tt, all)
   each-front P (z ∷ zs) ys all = let rest = each-front P zs ys all.1 in ((all.0, rest.0), rest.1)
 
-  keys-done : (e : ℕ) → e < s.k → (key : List ℕ) → Each (λ y. y.key ≢ key) (ps ++ x ∷ []) → (e ≡ x.partition) ⊎ (e ≢ x.partition) → Each (λ u. u.key ≢ key) (settled_of s done e)
+  keys-done : (e : ℕ) → e < s.k → (key : List ℕ) → Each (λ y. y.key ≢ key) (ps ++ x ∷ []) → (e ≡ x.partition)
+      ⊎ (e ≢ x.partition) → Each (λ u. u.key ≢ key) (settled_of s done e)
   unfolding put
   keys-done e low key others (inl same) =
       let parts = each-front (λ y. y.key ≢ key) ps (x ∷ []) others in
       let own : put.key ≡ x.key = issues.put-key w d us ready total piled x.key x.flags (expiry_of x.until) x.value new fits in
       subst (λ (f : ℕ). Each (λ u. u.key ≢ key) (settled_of s done f)) (sym same)
-      (subst (Each (λ u. u.key ≢ key)) (sym settled-own) (each-append (λ u. u.key ≢ key) us (put ∷ []) (up.keys d comes.below key parts.0) ((λ is. parts.1.0 (sym own ∙ is)), tt)))
-  keys-done e low key others (inr other) = subst (Each (λ u. u.key ≢ key)) (sym (settled-other e low other)) (up.keys e low key (each-front (λ y. y.key ≢ key) ps (x ∷ []) others).0)
+      (subst (Each (λ u. u.key ≢ key)) (sym settled-own)
+      (each-append (λ u. u.key ≢ key) us (put ∷ []) (up.keys d comes.below key parts.0)
+      ((λ is. parts.1.0 (sym own ∙ is)), tt)))
+  keys-done e low key others (inr other) = subst (Each (λ u. u.key ≢ key)) (sym (settled-other e low other))
+      (up.keys e low key (each-front (λ y. y.key ≢ key) ps (x ∷ []) others).0)
 
   has-set : HasSet (after s done).log x
   has-set =
       let named : HasNamed (settled_of s done d) (next_name (after s es) carrier) = settled-done in
-      let entered = each-contained (HasEntry (book_of s done).history.world.log) (settled_of s done d) named.update ((logs-of s done rests-done.run).stands.entered d) named.there in
+      let entered = each-contained (HasEntry (book_of s done).history.world.log) (settled_of s done d) named.update
+      ((logs-of s done rests-done.run).stands.entered d) named.there in
       let in-log : Contains (after s done).log entered.entry = subst (λ (v : World). Contains v.log entered.entry) (book-world s done) entered.there in
       record {
         entry = entered.entry;
@@ -287,5 +308,6 @@ module _ (s : Dimensions) (es : List Event) (ps : List Parcel) (up : SetUp s es 
     live = live-done;
     piled = λ e low. piled-done e low (cases_eq e d);
     keys = λ e low key others. keys-done e low key others (cases_eq e d);
-    logged = each-append (HasSet (after s done).log) ps (x ∷ []) (each-weaker (HasSet (after s es).log) (HasSet (after s done).log) still-logged ps up.logged) (has-set, tt);
+    logged = each-append (HasSet (after s done).log) ps (x ∷ [])
+        (each-weaker (HasSet (after s es).log) (HasSet (after s done).log) still-logged ps up.logged) (has-set, tt);
   }

@@ -1,5 +1,6 @@
 -- An op on an item whose cas number is told with a base comes to what it comes to in the era, told with the base.
-use Rattle.std.proofs.Common.{ℕ, ◌≡◌, ◌≢◌, ◌≤◌, ◌==◌, nat_le, nat_lt, Bool, true, false, List, ◌++◌, length, Option, Some, None, if◌then◌else◌, ◌⊎◌, inl, inr, refl, sym, ap, ◌∙◌, arith}
+use Rattle.std.proofs.Common.{ℕ, ◌≡◌, ◌≢◌, ◌≤◌, ◌==◌, nat_le, nat_lt, Bool, true, false, List, ◌++◌, length, Option}
+use Rattle.std.proofs.Common.{Some, None, if◌then◌else◌, ◌⊎◌, inl, inr, refl, sym, ap, ◌∙◌, arith}
 use Rattle.std.proofs.lemmas.Bool.{cases_eq, eq-eqb, ne_eqb}
 use Rattle.std.proofs.lemmas.Grind.{common_steps}
 use Rattle.memc_table.specs.Expiry.{is_live, live_at}
@@ -82,7 +83,8 @@ module _ (bases : Bases) (d : ℕ) where
     long : Holding
     long = record { item = record { flags = h.item.flags; cas = n; value = value }; until = h.until }
 
-    by : (b : Bool) → (if b then Accepted reply.Stored (Some (shifted long)) else Refused reply.TooLarge) ≡ shift_ruling (if b then Accepted reply.Stored (Some long) else Refused reply.TooLarge)
+    by : (b : Bool) → (if b then Accepted reply.Stored (Some (shifted long)) else Refused reply.TooLarge)
+        ≡ shift_ruling (if b then Accepted reply.Stored (Some long) else Refused reply.TooLarge)
     by true = refl
     by false = refl
 
@@ -128,7 +130,8 @@ module _ (bases : Bases) (d : ℕ) where
   ruling-shift t n (Decr key by) (Some h) has = lowered-shift n h by (number_of h.item.value)
 
   -- a set comes to the same on any item
-  pub set-shift : (t n : ℕ) (act : Act) (x y : Option Holding) → IsSet act → ruling_of t (with_base bases d n) act x ≡ shift_ruling (ruling_of t n (with_cas (without_base bases d) act) y)
+  pub set-shift : (t n : ℕ) (act : Act) (x y : Option Holding) → IsSet act → ruling_of t (with_base bases d n) act x
+      ≡ shift_ruling (ruling_of t n (with_cas (without_base bases d) act) y)
   set-shift t n (Set key flags expiry value) x y set = refl
   set-shift t n (Get key) x y set = absurd set
   set-shift t n (Add key flags expiry value) x y set = absurd set
@@ -144,7 +147,10 @@ module _ (bases : Bases) (d : ℕ) where
 -- what an accepted act leaves has a cas number
 joined-cas : (n : ℕ) (h : Holding) (value : List ℕ) → 1 ≤ n → LeavesCas (joined n h value)
 joined-cas n h value some = by (nat_le (length value) longest_value) where
-  by : (b : Bool) → LeavesCas (if b then Accepted reply.Stored (Some (record { item = record { flags = h.item.flags; cas = n; value = value }; until = h.until })) else Refused reply.TooLarge)
+  by : (b : Bool)
+      → LeavesCas (if b then Accepted reply.Stored
+      (Some (record { item = record { flags = h.item.flags; cas = n; value = value }; until = h.until })) else Refused
+      reply.TooLarge)
   by true = some
   by false = tt
 

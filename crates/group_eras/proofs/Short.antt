@@ -65,12 +65,17 @@ carries_are_short e s led successor can made = record { reads = reads-few; sets 
   loads-low : length (loads (after e.world.shape stands.era.events)) ≤ length stands.era.events
   loads-low = loads-few e.world.shape stands.era.events rests
 
-  waits : total e.world.shape (e.world.shape.k + e.world.shape.m) (turns_from (after e.world.shape stands.era.events) (reading (after e.world.shape stands.era.events)).events) ≤ 83886080
+  waits : total e.world.shape (e.world.shape.k + e.world.shape.m)
+      (turns_from (after e.world.shape stands.era.events) (reading (after e.world.shape stands.era.events)).events)
+      ≤ 83886080
   waits =
       let t : Dimensions = e.world.shape in
       let turns : List Turn = turns_from w (reading w).events in
-      let blocks : (after e.world.shape stands.era.events).shape.blocks ≡ e.world.shape.blocks = ap (λ (x : Dimensions). x.blocks) (shape-after (opening e.world.shape) stands.era.events) in
-      let all = total-most t (t.k + t.m) t.blocks turns (λ p. let few = few_waits_always t stands.era.events rests.run (reading w).events p (carrying.run-reading e stands can.rest) (carrying.well e stands can.rest).asked in omega (arith, few, blocks)) in
+      let blocks : (after e.world.shape stands.era.events).shape.blocks ≡ e.world.shape.blocks =
+      ap (λ (x : Dimensions). x.blocks) (shape-after (opening e.world.shape) stands.era.events) in
+      let all = total-most t (t.k + t.m) t.blocks turns (λ p. let few = few_waits_always t stands.era.events rests.run
+      (reading w).events p (carrying.run-reading e stands can.rest) (carrying.well e stands can.rest).asked in
+      omega (arith, few, blocks)) in
       let k = rests.run.0.k.1 in
       let m = rests.run.0.m in
       let rise = times-rise (t.k + t.m) 20 t.blocks (omega (arith, k, m)) in
@@ -91,7 +96,9 @@ carries_are_short e s led successor can made = record { reads = reads-few; sets 
   sets-few =
       let short = (carrying.all-set e stands can.rest s successor can).short in
       let long = length-map (loads w) (parcel_for e.world.shape stands.era.events rests) in
-      let same : length (setting (opening s) (reading e.world).parcels) ≡ length (setting (opening s) (carrying.parcels e stands can.rest)) = ap (λ (ps : List Parcel). length (setting (opening s) ps)) (carrying.parcels-are e stands can.rest) in
+      let same : length (setting (opening s) (reading e.world).parcels)
+      ≡ length (setting (opening s) (carrying.parcels e stands can.rest)) =
+      ap (λ (ps : List Parcel). length (setting (opening s) ps)) (carrying.parcels-are e stands can.rest) in
       let count = events in
       let low = loads-low in
       omega (arith, short, long, same, count, low, made)

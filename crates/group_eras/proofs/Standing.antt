@@ -51,7 +51,8 @@ module _ (Free : List ℕ → Type 0) (e : Eras) (standing : Standing Free e) (e
   abbrev told : List EraEntry
   told = (era_step e event).logged
 
-  both : (many : 1 ≤ e.world.shape.k) → IsLegalFrom (table_over e) (map (λ y. y.1) told) × Joined e.bases k many Free (table_of (table_over e) (map (λ y. y.1) told)) (table_of (own_table e) news)
+  both : (many : 1 ≤ e.world.shape.k) → IsLegalFrom (table_over e) (map (λ y. y.1) told)
+      × Joined e.bases k many Free (table_of (table_over e) (map (λ y. y.1) told)) (table_of (own_table e) news)
   both many = told-legal e.bases k many Free (making.asked e standing.era event may) e.era (table_over e) (own_table e) news told (standing.joined many)
       (legal-behind (empty_table k) e.world.log news (making.legal-after e standing.era event may)) (making.logged-told e standing.era event may) (sets many)
 

@@ -48,7 +48,8 @@ use Rattle.group_eras.proofs.Resting.{settled_of, ties-of}
 use Rattle.group_eras.proofs.Standing.{Stands, own_table}
 
 -- what is told as a reply was one, and what is told as a ticket
-told-replied : (bases : Bases) (d : ℕ) (a : Answer) (r : Reply) → told_answer bases d a ≡ says.Reply r → (x : Reply) × (a ≡ says.Reply x) × (told_reply bases d x ≡ r)
+told-replied : (bases : Bases) (d : ℕ) (a : Answer) (r : Reply) → told_answer bases d a ≡ says.Reply r → (x : Reply)
+    × (a ≡ says.Reply x) × (told_reply bases d x ≡ r)
 told-replied bases d (says.Reply x) r is = (x, refl, cc is)
 told-replied bases d (says.Ticket n) r is = absurd (cc is)
 told-replied bases d (says.Retry (cause.Pending e n)) r is = absurd (cc is)
@@ -104,22 +105,26 @@ module _ (e : Eras) (stands : Stands e) (caller : ℕ) (op : Asked) (p : Process
   abbrev turn : Turn
   turn = turn_in e (Ask caller op p)
 
-  asks : IsAsk (turns_of s (making.events e stands.era event may)) (length stands.era.events) (turn_in e (Ask caller op p)) (next_name e.world caller) (op_in e.bases e.world.shape.k op)
+  asks : IsAsk (turns_of s (making.events e stands.era event may)) (length stands.era.events)
+      (turn_in e (Ask caller op p)) (next_name e.world caller) (op_in e.bases e.world.shape.k op)
   asks = record {
     there = making.last-turn e stands.era event may;
     at = p;
     event = refl;
     place = turns-asks caller (length stands.era.events) (opening s) (making.events e stands.era event may)
-        ∙ ap (asks_among caller) (take-front stands.era.events (Ask caller came p ∷ []) (length stands.era.events) (omega arith) ∙ take-whole stands.era.events (length stands.era.events) (omega arith))
+        ∙ ap (asks_among caller) (take-front stands.era.events (Ask caller came p ∷ []) (length stands.era.events)
+        (omega arith) ∙ take-whole stands.era.events (length stands.era.events) (omega arith))
         ∙ sym (asked-among s stands.era.events stands.era.run caller) ∙ sym (ap (λ (w : World). at 0 w.asked caller) stands.era.stands);
   }
 
-  pub replied : (r : Reply) → (era_step e (Ask caller op p)).answer ≡ says.Reply r → Contains (era_step e (Ask caller op p)).logged (e.era, entry_of (next_name e.world caller) op r)
+  pub replied : (r : Reply) → (era_step e (Ask caller op p)).answer ≡ says.Reply r
+      → Contains (era_step e (Ask caller op p)).logged (e.era, entry_of (next_name e.world caller) op r)
   replied r is =
       let was = told-replied e.bases d turn.answer r is in
       let x : Reply = was.0 in
       let entry : Entry = entry_of name came x in
-      let logged : Contains turn.logged entry = (making.headline e stands.era event may).one_log.within.at_once (length stands.era.events) turn name came x asks was.1 in
+      let logged : Contains turn.logged entry = (making.headline e stands.era event may).one_log.within.at_once
+      (length stands.era.events) turn name came x asks was.1 in
       let c : Call = record { name = name; op = op } in
       let tell : Entry → EraEntry = λ y. (e.era, told_entry e.bases k (Some c) y) in
       let told : told_entry e.bases k (Some c) entry ≡ entry_of name op r
@@ -138,19 +143,28 @@ module _ (e : Eras) (stands : Stands e) (caller : ℕ) (op : Asked) (p : Process
     count : count_of (table_over e) (key_of op.act) ≡ with_base e.bases d (count_logged e.world d)
     count =
         let j = stands.joined stands.era.run.0.k.0 in
-        let over : count_of (table_over e) (key_of op.act) ≡ slice_index (table_over e).counts d = ap (λ (m : ℕ). slice_index (table_over e).counts (home_of (key_of op.act) m)) j.many_all in
+        let over : count_of (table_over e) (key_of op.act) ≡ slice_index (table_over e).counts d =
+        ap (λ (m : ℕ). slice_index (table_over e).counts (home_of (key_of op.act) m)) j.many_all in
         let both = j.counts d below in
-        let own : slice_index (own_table e).counts d ≡ slice_index (table_of (empty_table s.k) (after s stands.era.events).log).counts d = ap (λ (v : World). slice_index (table_of (empty_table s.k) v.log).counts d) stands.era.stands in
+        let own : slice_index (own_table e).counts d
+        ≡ slice_index (table_of (empty_table s.k) (after s stands.era.events).log).counts d =
+        ap (λ (v : World). slice_index (table_of (empty_table s.k) v.log).counts d) stands.era.stands in
         let ties = (ties-of s stands.era.events stands.era.run).counts d below in
-        let shown = shown-long s d (no_store s) (settled_of s stands.era.events d) (updates_of (after s stands.era.events) d) (log_shows_settled s (stands-always s (whole-always s)) stands.era.events stands.era.run d below).updates in
+        let shown = shown-long s d (no_store s) (settled_of s stands.era.events d)
+        (updates_of (after s stands.era.events) d)
+        (log_shows_settled s (stands-always s (whole-always s)) stands.era.events stands.era.run d below).updates in
         let logged : count_logged e.world d ≡ count_logged (after s stands.era.events) d = ap (λ (v : World). count_logged v d) stands.era.stands in
         omega (arith, over, both, own, ties, shown, logged)
 
-    undone : ¬ (IsDown e.world) → (r : ℕ) → IsProcess e.world.shape (of_rank d r) → is_dead e.world (of_rank d r) ≡ false → KeepsAll e.world d (replica_of (process_of e.world (of_rank d r)) d)
-    undone up r pin lives = subst (λ (v : World). ¬ (IsDown v) → (r : ℕ) → IsProcess v.shape (of_rank d r) → is_dead v (of_rank d r) ≡ false → d < v.shape.k → KeepsAll v d (replica_of (process_of v (of_rank d r)) d))
+    undone : ¬ (IsDown e.world) → (r : ℕ) → IsProcess e.world.shape (of_rank d r) → is_dead e.world (of_rank d r)
+        ≡ false → KeepsAll e.world d (replica_of (process_of e.world (of_rank d r)) d)
+    undone up r pin lives = subst (λ (v : World). ¬ (IsDown v) → (r : ℕ) → IsProcess v.shape (of_rank d r)
+        → is_dead v (of_rank d r) ≡ false → d < v.shape.k → KeepsAll v d (replica_of (process_of v (of_rank d r)) d))
         (sym stands.era.stands) at-run up r pin lives below
       where
-        at-run : ¬ (IsDown (after e.world.shape stands.era.events)) → (r : ℕ) → IsProcess (after e.world.shape stands.era.events).shape (of_rank d r) → is_dead (after e.world.shape stands.era.events) (of_rank d r) ≡ false
+        at-run : ¬ (IsDown (after e.world.shape stands.era.events)) → (r : ℕ)
+            → IsProcess (after e.world.shape stands.era.events).shape (of_rank d r)
+            → is_dead (after e.world.shape stands.era.events) (of_rank d r) ≡ false
             → d < (after e.world.shape stands.era.events).shape.k
             → KeepsAll (after e.world.shape stands.era.events) d (replica_of (process_of (after e.world.shape stands.era.events) (of_rank d r)) d)
         at-run up zero pin lives low = ((headline_always s stands.era.events stands.era.run).not_undone up).at_data d (pin, lives)
@@ -159,13 +173,16 @@ module _ (e : Eras) (stands : Stands e) (caller : ℕ) (op : Asked) (p : Process
     home-same : home_in e.world (op_in e.bases e.world.shape.k op) ≡ d
     home-same = ap (λ (key : List ℕ). home_of key k) (key-cas (without_base e.bases d) op.act)
 
-    causes : AskCause e.world (step e.world (Ask caller (op_in e.bases e.world.shape.k op) p)).world p (op_in e.bases e.world.shape.k op) (turn_in e (Ask caller op p)).answer
-    causes = subst (λ (v : World). MayCome v (Ask caller came p) → AskCause v (step v (Ask caller came p)).world p came (step v (Ask caller came p)).turn.answer) (sym stands.era.stands)
+    causes : AskCause e.world (step e.world (Ask caller (op_in e.bases e.world.shape.k op) p)).world p
+        (op_in e.bases e.world.shape.k op) (turn_in e (Ask caller op p)).answer
+    causes = subst (λ (v : World). MayCome v (Ask caller came p) → AskCause v (step v (Ask caller came p)).world p came
+        (step v (Ask caller came p)).turn.answer) (sym stands.era.stands)
         (asks_always s stands.era.events stands.era.run caller came p) (may-in e.bases k e.world event may)
 
     by : (x : ℕ) × (turn.answer ≡ says.Ticket x) × (with_base e.bases d x ≡ n) → count_of (table_over e) (key_of op.act) < n
     by was =
-        let cause-is : AskCause e.world (step e.world (Ask caller came p)).world p came (says.Ticket was.0) = subst (AskCause e.world (step e.world (Ask caller came p)).world p came) was.1 causes in
+        let cause-is : AskCause e.world (step e.world (Ask caller came p)).world p came (says.Ticket was.0) =
+        subst (AskCause e.world (step e.world (Ask caller came p)).world p came) was.1 causes in
         let ready = cause-is.1 in
         let next = cause-is.2.next in
         let name-is : p ≡ of_rank d ready.rank = ready.name ∙ ap (λ (y : ℕ). of_rank y ready.rank) home-same in
@@ -173,7 +190,8 @@ module _ (e : Eras) (stands : Stands e) (caller : ℕ) (op : Asked) (p : Process
         let keeps = undone cause-is.0.group ready.rank (subst (IsProcess e.world.shape) name-is may.1) lives in
         let reached = keeps.reached in
         let same : last_of (replica_of (process_of e.world p) (home_in e.world came)) ≡ last_of (replica_of (process_of e.world (of_rank d ready.rank)) d)
-        = ap (λ (y : ℕ). last_of (replica_of (process_of e.world p) y)) home-same ∙ ap (λ (q : ProcessId). last_of (replica_of (process_of e.world q) d)) name-is in
+        = ap (λ (y : ℕ). last_of (replica_of (process_of e.world p) y)) home-same
+        ∙ ap (λ (q : ProcessId). last_of (replica_of (process_of e.world q) d)) name-is in
         let told = was.2 in
         let over = count in
         omega (arith, next, reached, same, told, over)

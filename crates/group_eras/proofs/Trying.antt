@@ -1,5 +1,6 @@
 -- A get that is asked again after each wait is answered in the end: there are no more waits than blocks.
-use Rattle.std.proofs.Common.{ℕ, zero, suc, ◌≡◌, ◌<◌, ◌≤◌, ◌+◌, ◌*◌, Bool, true, List, [], ◌∷◌, ◌++◌, length, Some, if◌then◌else◌, refl, sym, ap, subst, ◌∙◌, arith}
+use Rattle.std.proofs.Common.{ℕ, zero, suc, ◌≡◌, ◌<◌, ◌≤◌, ◌+◌, ◌*◌, Bool, true, List, [], ◌∷◌, ◌++◌, length, Some}
+use Rattle.std.proofs.Common.{if◌then◌else◌, refl, sym, ap, subst, ◌∙◌, arith}
 use Rattle.group_types.proofs.Eaches.{each-append, each-weaker}
 use Rattle.std.proofs.lemmas.List.{append_assoc, append-nil, length-append}
 use Rattle.std.proofs.lemmas.List.Sums.{sum_by-cons}
@@ -35,7 +36,8 @@ use Rattle.group_eras.proofs.Resting.{IsStill, Rests, same-items, still-settled,
 use Rattle.group_eras.proofs.Asking.{run-behind}
 
 -- waits of more events
-pub waits-both : (p : ProcessId) (w : World) (es fs : List Event) → block_waits p (turns_from w (es ++ fs)) ≡ block_waits p (turns_from w es) + block_waits p (turns_from (world_after w es) fs)
+pub waits-both : (p : ProcessId) (w : World) (es fs : List Event) → block_waits p (turns_from w (es ++ fs))
+    ≡ block_waits p (turns_from w es) + block_waits p (turns_from (world_after w es) fs)
 waits-both p w [] fs = omega arith
 waits-both p w (e ∷ es) fs =
     let one = sum_by-cons (λ (turn : Turn). waits_here p turn.event turn.answer) (step w e).turn (turns_from (step w e).world (es ++ fs)) in
@@ -92,7 +94,8 @@ heads-still s es gs d r still heads = record {
   dead : (p : ProcessId) → is_dead (after s (es ++ gs)) p ≡ is_dead (after s es) p
   dead p = ap (λ (w : World). is_dead w p) (after-is s es gs) ∙ dead-after (after s es) gs (each-weaker IsStill NoFailure still-none gs still) p
 
-module _ (s : Dimensions) (es : List Event) (rests : Rests s es) (d : ℕ) (below : d < s.k) (r : ℕ) (heads : Heads (after s es) d r) (pin : IsProcess (after s es).shape (of_rank d r))
+module _ (s : Dimensions) (es : List Event) (rests : Rests s es) (d : ℕ) (below : d < s.k) (r : ℕ)
+    (heads : Heads (after s es) d r) (pin : IsProcess (after s es).shape (of_rank d r))
     (key : List ℕ) (home : home_of key s.k ≡ d) (h : Holding) (there : (table_after_run s es).items key ≡ Some h) (live : is_live 0 h.until ≡ true) where
   abbrev p : ProcessId
   p = of_rank d r
@@ -159,7 +162,9 @@ module _ (s : Dimensions) (es : List Event) (rests : Rests s es) (d : ℕ) (belo
     one-wait b is rest all =
         let both = waits-both p (after s es) gs (get ∷ rest) in
         let same : world_after (after s es) gs ≡ v = sym (after-is s es gs) in
-        let cons = sum_by-cons (λ (turn : Turn). waits_here p turn.event turn.answer) (step (world_after (after s es) gs) get).turn (turns_from (step (world_after (after s es) gs) get).world rest) in
+        let cons = sum_by-cons (λ (turn : Turn). waits_here p turn.event turn.answer)
+        (step (world_after (after s es) gs) get).turn
+        (turns_from (step (world_after (after s es) gs) get).world rest) in
         let one : waits_here p get (step (world_after (after s es) gs) get).turn.answer ≡ 1
         = ap (λ (w : World). waits_here p get (step w get).turn.answer) same ∙ ap (waits_here p get) is ∙ ap (λ (t : Bool). if t then 1 else 0) (same-refl p) in
         let none = deliveries-wait p (step (world_after (after s es) gs) get).world rest all in
@@ -173,9 +178,11 @@ module _ (s : Dimensions) (es : List Event) (rests : Rests s es) (d : ℕ) (belo
     run-now run = run-more (after s es) gs get run (subst (λ (w : World). MayCome w get) (after-is s es gs) may-now)
 
   pub came-with : (tries : ℕ) (gs : List Event) (still : Each IsStill gs) (now : Rests s (es ++ gs)) → AskedDrained (after s es) gs
-      → (after s es).shape.blocks ≤ block_waits (of_rank d r) (turns_from (after s es) gs) + tries → Came (es ++ gs) (get_with tries get (step (after s (es ++ gs)) get))
+      → (after s es).shape.blocks ≤ block_waits (of_rank d r) (turns_from (after s es) gs) + tries
+      → Came (es ++ gs) (get_with tries get (step (after s (es ++ gs)) get))
   came-with zero gs still now asked few = by (answer-now gs still now) where
-    by : getting.Got s (es ++ gs) now d below r (heads-now gs still now) (pin-now gs still now) key home h (there-now gs still now) live (step (after s (es ++ gs)) get).turn.answer
+    by : getting.Got s (es ++ gs) now d below r (heads-now gs still now) (pin-now gs still now) key home h
+        (there-now gs still now) live (step (after s (es ++ gs)) get).turn.answer
         → Came (es ++ gs) (only_got get (step (after s (es ++ gs)) get))
     by (getting.Item_comes is) = item-came gs still now is
     by (getting.Block_waits b is) =
@@ -184,17 +191,25 @@ module _ (s : Dimensions) (es : List Event) (rests : Rests s es) (d : ℕ) (belo
         let one = one-wait gs still now b is [] tt in
         absurd (omega (arith, most, one, few))
   came-with (suc tries) gs still now asked few = by (answer-now gs still now) (λ zs. came-with tries zs) where
-    by : getting.Got s (es ++ gs) now d below r (heads-now gs still now) (pin-now gs still now) key home h (there-now gs still now) live (step (after s (es ++ gs)) get).turn.answer
+    by : getting.Got s (es ++ gs) now d below r (heads-now gs still now) (pin-now gs still now) key home h
+        (there-now gs still now) live (step (after s (es ++ gs)) get).turn.answer
         → ((zs : List Event) (still : Each IsStill zs) (now : Rests s (es ++ zs)) → AskedDrained (after s es) zs
-        → (after s es).shape.blocks ≤ block_waits (of_rank d r) (turns_from (after s es) zs) + tries → Came (es ++ zs) (get_with tries get (step (after s (es ++ zs)) get)))
+        → (after s es).shape.blocks ≤ block_waits (of_rank d r) (turns_from (after s es) zs) + tries
+        → Came (es ++ zs) (get_with tries get (step (after s (es ++ zs)) get)))
         → Came (es ++ gs) (if is_retry (step (after s (es ++ gs)) get).turn.answer
         then got_behind (get ∷ draining (step (after s (es ++ gs)) get).world) (get_with tries get (step (drained (step (after s (es ++ gs)) get).world) get))
         else only_got get (step (after s (es ++ gs)) get))
     by (getting.Item_comes is) later =
-        subst (λ (b : Bool). Came (es ++ gs) (if b then got_behind (get ∷ draining (step (after s (es ++ gs)) get).world) (get_with tries get (step (drained (step (after s (es ++ gs)) get).world) get)) else only_got get (step (after s (es ++ gs)) get)))
+        subst (λ (b : Bool). Came (es ++ gs)
+        (if b then got_behind (get ∷ draining (step (after s (es ++ gs)) get).world)
+        (get_with tries get (step (drained (step (after s (es ++ gs)) get).world) get)) else only_got get
+        (step (after s (es ++ gs)) get)))
         (sym (ap is_retry is)) (item-came gs still now is)
     by (getting.Block_waits b is) later =
-        subst (λ (c : Bool). Came (es ++ gs) (if c then got_behind (get ∷ draining (step (after s (es ++ gs)) get).world) (get_with tries get (step (drained (step (after s (es ++ gs)) get).world) get)) else only_got get (step (after s (es ++ gs)) get)))
+        subst (λ (c : Bool). Came (es ++ gs)
+        (if c then got_behind (get ∷ draining (step (after s (es ++ gs)) get).world)
+        (get_with tries get (step (drained (step (after s (es ++ gs)) get).world) get)) else only_got get
+        (step (after s (es ++ gs)) get)))
         (sym (ap is_retry is)) all
       where
         next : after s ((es ++ gs) ++ get ∷ []) ≡ (step (after s (es ++ gs)) get).world
@@ -209,45 +224,84 @@ module _ (s : Dimensions) (es : List Event) (rests : Rests s es) (d : ℕ) (belo
         deliveries : Each IsDelivery (draining (step (after s (es ++ gs)) get).world)
         deliveries = subst (λ (w : World). Each IsDelivery (draining w)) next (delivers s ((es ++ gs) ++ get ∷ []) run up).deliveries
 
-        there-is : ((es ++ gs) ++ get ∷ []) ++ draining (step (after s (es ++ gs)) get).world ≡ es ++ (gs ++ get ∷ draining (step (after s (es ++ gs)) get).world)
-        there-is = append_assoc (es ++ gs) (get ∷ []) (draining (step (after s (es ++ gs)) get).world) ∙ append_assoc es gs (get ∷ draining (step (after s (es ++ gs)) get).world)
+        there-is : ((es ++ gs) ++ get ∷ []) ++ draining (step (after s (es ++ gs)) get).world ≡ es
+            ++ (gs ++ get ∷ draining (step (after s (es ++ gs)) get).world)
+        there-is = append_assoc (es ++ gs) (get ∷ []) (draining (step (after s (es ++ gs)) get).world)
+            ∙ append_assoc es gs (get ∷ draining (step (after s (es ++ gs)) get).world)
 
         rests-next : Rests s (es ++ (gs ++ get ∷ draining (step (after s (es ++ gs)) get).world))
-        rests-next = subst (Rests s) there-is (subst (λ (w : World). Rests s (((es ++ gs) ++ get ∷ []) ++ draining w)) next (drained-rests s ((es ++ gs) ++ get ∷ []) run up))
+        rests-next = subst (Rests s) there-is (subst (λ (w : World). Rests s (((es ++ gs) ++ get ∷ []) ++ draining w))
+            next (drained-rests s ((es ++ gs) ++ get ∷ []) run up))
 
         still-next : Each IsStill (gs ++ get ∷ draining (step (after s (es ++ gs)) get).world)
-        still-next = each-append IsStill gs (get ∷ draining (step (after s (es ++ gs)) get).world) still (tt, each-weaker IsDelivery IsStill delivery-still (draining (step (after s (es ++ gs)) get).world) deliveries)
+        still-next = each-append IsStill gs (get ∷ draining (step (after s (es ++ gs)) get).world) still (
+          tt,
+          each-weaker IsDelivery IsStill delivery-still (draining (step (after s (es ++ gs)) get).world)
+              deliveries,
+        )
 
         world-next : after s (es ++ (gs ++ get ∷ draining (step (after s (es ++ gs)) get).world)) ≡ drained (step (after s (es ++ gs)) get).world
-        world-next = ap (after s) (sym there-is) ∙ after-is s ((es ++ gs) ++ get ∷ []) (draining (step (after s (es ++ gs)) get).world) ∙ ap (λ (w : World). world_after w (draining (step (after s (es ++ gs)) get).world)) next
+        world-next = ap (after s) (sym there-is) ∙ after-is s ((es ++ gs) ++ get ∷ [])
+            (draining (step (after s (es ++ gs)) get).world)
+            ∙ ap (λ (w : World). world_after w (draining (step (after s (es ++ gs)) get).world)) next
 
-        waits : (after s es).shape.blocks ≤ block_waits (of_rank d r) (turns_from (after s es) (gs ++ get ∷ draining (step (after s (es ++ gs)) get).world)) + tries
+        waits : (after s es).shape.blocks ≤ block_waits (of_rank d r)
+            (turns_from (after s es) (gs ++ get ∷ draining (step (after s (es ++ gs)) get).world)) + tries
         waits = let one = one-wait gs still now b is (draining (step (after s (es ++ gs)) get).world) deliveries in omega (arith, one, few)
 
-        rest : Came (es ++ (gs ++ get ∷ draining (step (after s (es ++ gs)) get).world)) (get_with tries get (step (drained (step (after s (es ++ gs)) get).world) get))
-        rest = subst (λ (w : World). Came (es ++ (gs ++ get ∷ draining (step (after s (es ++ gs)) get).world)) (get_with tries get (step w get))) world-next (later (gs ++ get ∷ draining (step (after s (es ++ gs)) get).world) still-next rests-next (asked-now gs still now asked (draining (step (after s (es ++ gs)) get).world) deliveries) waits)
+        rest : Came (es ++ (gs ++ get ∷ draining (step (after s (es ++ gs)) get).world))
+            (get_with tries get (step (drained (step (after s (es ++ gs)) get).world) get))
+        rest = subst (λ (w : World). Came (es ++ (gs ++ get ∷ draining (step (after s (es ++ gs)) get).world))
+            (get_with tries get (step w get))) world-next
+            (later (gs ++ get ∷ draining (step (after s (es ++ gs)) get).world) still-next rests-next
+            (asked-now gs still now asked (draining (step (after s (es ++ gs)) get).world) deliveries) waits)
 
-        events : (es ++ (gs ++ get ∷ draining (step (after s (es ++ gs)) get).world)) ++ (get_with tries get (step (drained (step (after s (es ++ gs)) get).world) get)).events ≡ (es ++ gs) ++ ((get ∷ draining (step (after s (es ++ gs)) get).world) ++ (get_with tries get (step (drained (step (after s (es ++ gs)) get).world) get)).events)
-        events = ap (λ (ys : List Event). ys ++ (get_with tries get (step (drained (step (after s (es ++ gs)) get).world) get)).events) (sym (append_assoc es gs (get ∷ draining (step (after s (es ++ gs)) get).world))) ∙ append_assoc (es ++ gs) (get ∷ draining (step (after s (es ++ gs)) get).world) (get_with tries get (step (drained (step (after s (es ++ gs)) get).world) get)).events
+        events : (es ++ (gs ++ get ∷ draining (step (after s (es ++ gs)) get).world))
+            ++ (get_with tries get (step (drained (step (after s (es ++ gs)) get).world) get)).events ≡ (es ++ gs)
+            ++ ((get ∷ draining (step (after s (es ++ gs)) get).world)
+            ++ (get_with tries get (step (drained (step (after s (es ++ gs)) get).world) get)).events)
+        events = ap (λ (ys : List Event). ys
+            ++ (get_with tries get (step (drained (step (after s (es ++ gs)) get).world) get)).events)
+            (sym (append_assoc es gs (get ∷ draining (step (after s (es ++ gs)) get).world)))
+            ∙ append_assoc (es ++ gs) (get ∷ draining (step (after s (es ++ gs)) get).world)
+            (get_with tries get (step (drained (step (after s (es ++ gs)) get).world) get)).events
 
-        all : Came (es ++ gs) (got_behind (get ∷ draining (step (after s (es ++ gs)) get).world) (get_with tries get (step (drained (step (after s (es ++ gs)) get).world) get)))
+        all : Came (es ++ gs) (got_behind (get ∷ draining (step (after s (es ++ gs)) get).world)
+            (get_with tries get (step (drained (step (after s (es ++ gs)) get).world) get)))
         all = record {
           rests_then = subst (Rests s) events rest.rests_then;
-          still = each-append IsStill (get ∷ draining (step (after s (es ++ gs)) get).world) (get_with tries get (step (drained (step (after s (es ++ gs)) get).world) get)).events (tt, each-weaker IsDelivery IsStill delivery-still (draining (step (after s (es ++ gs)) get).world) deliveries) rest.still;
+          still = each-append IsStill (get ∷ draining (step (after s (es ++ gs)) get).world)
+              (get_with tries get (step (drained (step (after s (es ++ gs)) get).world) get)).events (
+                tt,
+                each-weaker IsDelivery IsStill delivery-still (draining (step (after s (es ++ gs)) get).world)
+                    deliveries,
+              ) rest.still;
           world = rest.world ∙ ap (after s) events;
           answer = rest.answer;
-          asked = asked-both (after s (es ++ gs)) (get ∷ draining (step (after s (es ++ gs)) get).world) (get_with tries get (step (drained (step (after s (es ++ gs)) get).world) get)).events
+          asked = asked-both (after s (es ++ gs)) (get ∷ draining (step (after s (es ++ gs)) get).world)
+              (get_with tries get (step (drained (step (after s (es ++ gs)) get).world) get)).events
               (tt, now.drained, asked-deliveries (step (after s (es ++ gs)) get).world (draining (step (after s (es ++ gs)) get).world) deliveries)
-              (subst (λ (w : World). AskedDrained w (get_with tries get (step (drained (step (after s (es ++ gs)) get).world) get)).events) world-next rest.asked);
+              (subst (λ (w : World). AskedDrained w
+              (get_with tries get (step (drained (step (after s (es ++ gs)) get).world) get)).events) world-next
+              rest.asked);
           few =
-              let long = length-append (get ∷ draining (step (after s (es ++ gs)) get).world) (get_with tries get (step (drained (step (after s (es ++ gs)) get).world) get)).events in
-              let both = waits-both (of_rank d r) (after s (es ++ gs)) (get ∷ draining (step (after s (es ++ gs)) get).world) (get_with tries get (step (drained (step (after s (es ++ gs)) get).world) get)).events in
+              let long = length-append (get ∷ draining (step (after s (es ++ gs)) get).world)
+              (get_with tries get (step (drained (step (after s (es ++ gs)) get).world) get)).events in
+              let both = waits-both (of_rank d r) (after s (es ++ gs))
+              (get ∷ draining (step (after s (es ++ gs)) get).world)
+              (get_with tries get (step (drained (step (after s (es ++ gs)) get).world) get)).events in
               let one = own-wait gs still now b is (draining (step (after s (es ++ gs)) get).world) deliveries in
               let short = own-drain gs still now in
               let few-rest = rest.few in
-              let same : block_waits (of_rank d r) (turns_from (after s (es ++ (gs ++ get ∷ draining (step (after s (es ++ gs)) get).world))) (get_with tries get (step (drained (step (after s (es ++ gs)) get).world) get)).events)
-              ≡ block_waits (of_rank d r) (turns_from (drained (step (after s (es ++ gs)) get).world) (get_with tries get (step (drained (step (after s (es ++ gs)) get).world) get)).events)
-              = ap (λ (w : World). block_waits (of_rank d r) (turns_from w (get_with tries get (step (drained (step (after s (es ++ gs)) get).world) get)).events)) world-next in
+              let same : block_waits (of_rank d r)
+              (turns_from (after s (es ++ (gs ++ get ∷ draining (step (after s (es ++ gs)) get).world)))
+              (get_with tries get (step (drained (step (after s (es ++ gs)) get).world) get)).events)
+              ≡ block_waits (of_rank d r)
+              (turns_from (drained (step (after s (es ++ gs)) get).world)
+              (get_with tries get (step (drained (step (after s (es ++ gs)) get).world) get)).events)
+              = ap (λ (w : World). block_waits (of_rank d r)
+              (turns_from w (get_with tries get (step (drained (step (after s (es ++ gs)) get).world) get)).events))
+              world-next in
               omega (arith, long, both, one, short, few-rest, same);
         }
 

@@ -1,5 +1,7 @@
 -- How many deliveries a drain has: no more than the weight of what is on its way.
-use Rattle.std.proofs.Common.{ℕ, zero, suc, ◌≡◌, ◌≢◌, ◌<◌, ◌≤◌, ◌+◌, ◌*◌, nat_le, Bool, true, false, cond, not, ◌&&◌, List, [], ◌∷◌, length, Option, Some, None, if◌then◌else◌, ◌⊎◌, inl, inr, refl, sym, ap, subst, ◌∙◌, arith}
+use Rattle.std.proofs.Common.{ℕ, zero, suc, ◌≡◌, ◌≢◌, ◌<◌, ◌≤◌, ◌+◌, ◌*◌, nat_le, Bool, true, false, cond, not, ◌&&◌}
+use Rattle.std.proofs.Common.{List, [], ◌∷◌, length, Option, Some, None, if◌then◌else◌, ◌⊎◌, inl, inr, refl, sym, ap}
+use Rattle.std.proofs.Common.{subst, ◌∙◌, arith}
 use Rattle.std.specs.Prelude.{filter}
 use Rattle.std.specs.List.{range_with_len}
 use Rattle.group_types.specs.Dimensions.{Dimensions, space_of}
@@ -46,7 +48,8 @@ use Rattle.group_eras.specs.Carry.{Parcel, expiry_of, set_of}
 drain-by : (n : ℕ) (w : World) → length (drain_events n w) ≤ n
 drain-by zero w = omega arith
 drain-by (suc n) w = by (next_delivery w) (λ v. drain-by n v) where
-  by : (o : Option Event) → ((v : World) → length (drain_events n v) ≤ n) → length (elim o as (λ _. List Event) [ None ↦ [] | Some e ↦ e ∷ drain_events n (step w e).world ]) ≤ suc n
+  by : (o : Option Event) → ((v : World) → length (drain_events n v) ≤ n)
+      → length (elim o as (λ _. List Event) [ None ↦ [] | Some e ↦ e ∷ drain_events n (step w e).world ]) ≤ suc n
   by None later = omega arith
   by (Some e) later = let rest = later (step w e).world in omega (arith, rest)
 
@@ -55,19 +58,22 @@ drain-short w = drain-by (load_of w) w
 
 -- nothing is on its way in a group at rest
 pub rest-load : (s : Dimensions) (es : List Event) → Rests s es → load_of (after s es) ≡ 0
-rest-load s es rests = load-is w ∙ sum-zero (everyone w.shape) (way_from w.shape v) (λ p there. sum-zero (everyone w.shape) (on_way v p) (λ q here. quiet p q (everyone-inside w.shape p there) (everyone-inside w.shape q here) (is_dead w q) refl)) where
-  w : World
-  w = after s es
+rest-load s es rests = load-is w ∙ sum-zero (everyone w.shape) (way_from w.shape v)
+    (λ p there. sum-zero (everyone w.shape) (on_way v p)
+    (λ q here. quiet p q (everyone-inside w.shape p there) (everyone-inside w.shape q here) (is_dead w q) refl)) where
+      w : World
+      w = after s es
 
-  v : State
-  v = state_from (after s es).shape (after s es).nodes []
+      v : State
+      v = state_from (after s es).shape (after s es).nodes []
 
-  quiet : (p q : ProcessId) → IsProcess (after s es).shape p → IsProcess (after s es).shape q → (b : Bool) → is_dead (after s es) q ≡ b → (if b then 0 else weights (link (after s es) p q)) ≡ 0
-  quiet p q pin qin true dead = refl
-  quiet p q pin qin false lives = ap weights (by (same-cases p q)) where
-    by : (p ≡ q) ⊎ (p ≢ q) → link (after s es) p q ≡ []
-    by (inl same) = ap (λ (x : ProcessId). link (after s es) x q) same ∙ alone-after s es rests.run q (qin, lives)
-    by (inr apart) = rests.drained p q pin (qin, lives) apart
+      quiet : (p q : ProcessId) → IsProcess (after s es).shape p → IsProcess (after s es).shape q → (b : Bool)
+          → is_dead (after s es) q ≡ b → (if b then 0 else weights (link (after s es) p q)) ≡ 0
+      quiet p q pin qin true dead = refl
+      quiet p q pin qin false lives = ap weights (by (same-cases p q)) where
+        by : (p ≡ q) ⊎ (p ≢ q) → link (after s es) p q ≡ []
+        by (inl same) = ap (λ (x : ProcessId). link (after s es) x q) same ∙ alone-after s es rests.run q (qin, lives)
+        by (inr apart) = rests.drained p q pin (qin, lives) apart
 
 -- an event after which a drain is short
 pub event-drain : (s : Dimensions) (es : List Event) (e : Event) → Rests s es → MayCome (after s es) e → length (draining (step (after s es) e).world) ≤ 131072
@@ -132,13 +138,16 @@ module _ (s : Dimensions) (nodes : List Node) (size : length nodes ≡ s.k + s.m
       omega (arith, more, all)
 
 -- the drain of a set
-pub set-drain : (s : Dimensions) (es : List Event) (ps : List Parcel) (up : SetUp s es ps) (x : Parcel) → ComesNext s ps x → length (draining (step (after s es) (set_of x)).world) ≤ s.m * 2
+pub set-drain : (s : Dimensions) (es : List Event) (ps : List Parcel) (up : SetUp s es ps) (x : Parcel)
+    → ComesNext s ps x → length (draining (step (after s es) (set_of x)).world) ≤ s.m * 2
 set-drain s es ps up x comes =
     let short = drain-short (step w (set_of x)).world in
     let none = rest-load s es up.rests in
     let before = load-is w in
     let after-is = load-is (step w (set_of x)).world in
-    let adds = treated-adds w.shape w.nodes (ready-after s es up.rests.run).many (DataNode x.partition) (ask_process w.shape (next_name w carrier) (op_of x) (node_of w (DataNode x.partition)).process) pin (node_of w (DataNode x.partition)).down (node_of w (DataNode x.partition)).dead in
+    let adds = treated-adds w.shape w.nodes (ready-after s es up.rests.run).many (DataNode x.partition)
+    (ask_process w.shape (next_name w carrier) (op_of x) (node_of w (DataNode x.partition)).process) pin
+    (node_of w (DataNode x.partition)).down (node_of w (DataNode x.partition)).dead in
     let sends = asked in
     let many : w.shape.m ≡ s.m = ap (λ (t : Dimensions). t.m) shape in
     omega (arith, short, none, before, after-is, adds, sends, many)
@@ -162,14 +171,21 @@ set-drain s es ps up x comes =
     fits = subst (λ (t : Dimensions). weight x.partition ps + length x.value ≤ space_of t) (sym shape) comes.room
 
     decided : (o : Option Head) → head_at (process_of (after s es) (DataNode x.partition)) x.partition ≡ o
-        → sent_weight (ask_head (after s es).shape (next_name (after s es) carrier) (op_of x) x.partition (process_of (after s es) (DataNode x.partition)) o).step.sent ≤ (after s es).shape.m * 2
+        → sent_weight (ask_head (after s es).shape (next_name (after s es) carrier) (op_of x) x.partition
+        (process_of (after s es) (DataNode x.partition)) o).step.sent ≤ (after s es).shape.m * 2
     decided None is = omega arith
     decided (Some h) is =
-        let one = issues.decided (after s es) x.partition (settled_of s es x.partition) first.ready (weight x.partition ps) (up.piled x.partition comes.below) x.key x.flags (expiry_of x.until) x.value
+        let one = issues.decided (after s es) x.partition (settled_of s es x.partition) first.ready
+        (weight x.partition ps) (up.piled x.partition comes.below) x.key x.flags (expiry_of x.until) x.value
         (up.keys x.partition comes.below x.key comes.new) fits h.inherited in
-        subst (λ (y : Decision). sent_weight (act_on (after s es).shape (next_name (after s es) carrier) (op_of x) x.partition h (process_of (after s es) (DataNode x.partition)) y).step.sent ≤ (after s es).shape.m * 2)
+        subst (λ (y : Decision). sent_weight (act_on (after s es).shape (next_name (after s es) carrier) (op_of x)
+        x.partition h (process_of (after s es) (DataNode x.partition)) y).step.sent ≤ (after s es).shape.m * 2)
         (sym one) (issue-weighs (after s es).shape x.partition h _ (process_of (after s es) (DataNode x.partition)))
 
-    asked : sent_weight (ask_process (after s es).shape (next_name (after s es) carrier) (op_of x) (node_of (after s es) (DataNode x.partition)).process).step.sent ≤ (after s es).shape.m * 2
-    asked = subst (λ (e : ℕ). sent_weight (ask_head (after s es).shape (next_name (after s es) carrier) (op_of x) e (process_of (after s es) (DataNode x.partition)) (head_at (process_of (after s es) (DataNode x.partition)) e)).step.sent
+    asked : sent_weight (ask_process (after s es).shape (next_name (after s es) carrier) (op_of x)
+        (node_of (after s es) (DataNode x.partition)).process).step.sent ≤ (after s es).shape.m * 2
+    asked = subst
+        (λ (e : ℕ). sent_weight (ask_head (after s es).shape (next_name (after s es) carrier) (op_of x) e
+        (process_of (after s es) (DataNode x.partition))
+        (head_at (process_of (after s es) (DataNode x.partition)) e)).step.sent
         ≤ (after s es).shape.m * 2) (sym here) (decided (head_at (process_of (after s es) (DataNode x.partition)) x.partition) refl)

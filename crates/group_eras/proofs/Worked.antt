@@ -17,7 +17,8 @@ pub log_is_as_worked : LogIsAsWorked
 log_is_as_worked = refl
 
 events : List Event
-events = Ask 0 small_set (DataNode 0) ∷ Deliver (DataNode 0) (ParityNode 0) ∷ Deliver (ParityNode 0) (DataNode 0) ∷ Fail (DataNode 0) 0 ∷ Deliver (DataNode 0) (ParityNode 0) ∷ []
+events = Ask 0 small_set (DataNode 0) ∷ Deliver (DataNode 0) (ParityNode 0) ∷ Deliver (ParityNode 0) (DataNode 0)
+    ∷ Fail (DataNode 0) 0 ∷ Deliver (DataNode 0) (ParityNode 0) ∷ []
 
 shaped : IsShape small_shape
 unfolding lib.Count.ones
@@ -30,12 +31,37 @@ shaped = record {
 
 runs : IsRun small_shape events
 unfolding events
-runs = (shaped, ((omega arith, omega arith, λ i b low. absurd (omega (arith, low))), ((omega arith, omega arith, λ same. cc same), ((omega arith, omega arith, λ same. cc same), (omega arith, ((omega arith, omega arith, λ same. cc same), tt))))))
+runs = (
+  shaped,
+  (
+    (omega arith, omega arith, λ i b low. absurd (omega (arith, low))),
+    (
+      (omega arith, omega arith, λ same. cc same),
+      ((omega arith, omega arith, λ same. cc same), (omega arith, ((omega arith, omega arith, λ same. cc same), tt))),
+    ),
+  ),
+)
 
 pub may_be_worked : MayBeWorked
 unfolding events
 may_be_worked = (
-  (record { may = (omega arith, omega arith, λ i b low. absurd (omega (arith, low))); others = omega arith; range = record { moment = omega arith; expiry = omega arith } }, (record { may = (omega arith, omega arith, λ same. cc same); others = tt; range = tt }, (record { may = (omega arith, omega arith, λ same. cc same); others = tt; range = tt }, (record { may = omega arith; others = tt; range = tt }, (record { may = (omega arith, omega arith, λ same. cc same); others = tt; range = tt }, tt))))),
+  (
+    record {
+      may = (omega arith, omega arith, λ i b low. absurd (omega (arith, low)));
+      others = omega arith;
+      range = record { moment = omega arith; expiry = omega arith };
+    },
+    (
+      record { may = (omega arith, omega arith, λ same. cc same); others = tt; range = tt },
+      (
+        record { may = (omega arith, omega arith, λ same. cc same); others = tt; range = tt },
+        (
+          record { may = omega arith; others = tt; range = tt },
+          (record { may = (omega arith, omega arith, λ same. cc same); others = tt; range = tt }, tt),
+        ),
+      ),
+    ),
+  ),
   record {
     rest = record { up = λ down. omega (arith, down); drained = (next_always small_shape events runs).0 refl };
     space = no-bytes;

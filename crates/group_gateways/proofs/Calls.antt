@@ -14,16 +14,20 @@ use Rattle.group_gateways.proofs.Changed.{HasChanged, both-at, both-moved, is-la
 
 -- calls of one group are those of its gateway
 same-call : {K : Type 0} (one other : GroupCall K) → one.group ≡ other.group → one.inner ≡ other.inner → one ≡ other
-same-call {K} one other group inner = ap (λ (g : ℕ). record { group = g; inner = one.inner }) group ∙ ap (λ (i : K). record { group = other.group; inner = i }) inner
+same-call {K} one other group inner = ap (λ (g : ℕ). record { group = g; inner = one.inner }) group
+    ∙ ap (λ (i : K). record { group = other.group; inner = i }) inner
 
-module _ {G K : Type 0} (inner : Rules G K) (order : IsOrder inner.later) (before after : GroupGateways G) (group : ℕ) (one two : G) (changed : HasChanged before after group one two) where
+module _ {G K : Type 0} (inner : Rules G K) (order : IsOrder inner.later) (before after : GroupGateways G) (group : ℕ)
+    (one two : G) (changed : HasChanged before after group one two) where
   -- a call is open that began in the group of its key
-  pub has-begun : inner.later one two → (op : Asked) (call : K) → group ≡ group_for before op → group < length before.gateways.items → inner.opened two call op one
+  pub has-begun : inner.later one two → (op : Asked) (call : K) → group ≡ group_for before op
+      → group < length before.gateways.items → inner.opened two call op one
       → IsOpenThere inner after (record { group = group; inner = call }) op before
   has-begun leads op call is within opened = record {
     group = is;
     there = within;
-    opened = both-at (λ (first last : G). inner.opened last call op first) (gateway_in before group) (gateway_in after group) one two changed.was changed.is opened;
+    opened = both-at (λ (first last : G). inner.opened last call op first) (gateway_in before group)
+        (gateway_in after group) one two changed.was changed.is opened;
     later = is-later inner order before after group one two changed leads;
   }
 
@@ -62,7 +66,9 @@ lends-only {G} {K} inner was now group one two first last others begun lends cal
   in_group : call.group ≡ group → inner.lent one call.inner ⊎ (Some begun ≡ Some call.inner)
       → HoldsOf (λ (g : G). inner.lent g call.inner) (was call.group) ⊎ (Some (record { group = group; inner = begun }) ≡ Some call)
   in_group is (inl had) = inl (subst (HoldsOf (λ (g : G). inner.lent g call.inner)) (sym (ap was is ∙ first)) had)
-  in_group is (inr own) = inr (ap (λ (c : GroupCall K). Some c) (same-call (record { group = group; inner = begun }) call (sym is) (same_Some begun call.inner own)))
+  in_group is (inr own) =
+      inr (ap (λ (c : GroupCall K). Some c) (same-call (record { group = group; inner = begun }) call (sym is)
+      (same_Some begun call.inner own)))
 
   by : (call.group ≡ group) ⊎ (call.group ≢ group)
       → HoldsOf (λ (g : G). inner.lent g call.inner) (was call.group) ⊎ (Some (record { group = group; inner = begun }) ≡ Some call)

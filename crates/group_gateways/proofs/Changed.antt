@@ -1,5 +1,6 @@
 -- The gateway of one group changes, and all others stay.
-use Rattle.std.proofs.Common.{ℕ, zero, suc, ◌≡◌, ◌≢◌, ◌<◌, ◌⊎◌, inl, inr, List, [], ◌∷◌, length, Option, Some, None, set, get_or, refl, sym, ap, subst, ◌∙◌, arith}
+use Rattle.std.proofs.Common.{ℕ, zero, suc, ◌≡◌, ◌≢◌, ◌<◌, ◌⊎◌, inl, inr, List, [], ◌∷◌, length, Option, Some, None}
+use Rattle.std.proofs.Common.{set, get_or, refl, sym, ap, subst, ◌∙◌, arith}
 use Rattle.std.specs.List.{slice_get}
 use Rattle.std.proofs.lemmas.Bool.{cases_eq}
 use Rattle.std.proofs.lemmas.List.{length-set}
@@ -59,10 +60,12 @@ both-moved {G} R S o b a one two was is moves held = subst (Both S o) (sym is) (
 
 module _ {G K : Type 0} (inner : Rules G K) (order : IsOrder inner.later) where
   -- one group's came behind, and so all
-  pub is-later : (before after : GroupGateways G) (group : ℕ) (one two : G) → HasChanged before after group one two → inner.later one two → AllAreLater inner before after
+  pub is-later : (before after : GroupGateways G) (group : ℕ) (one two : G) → HasChanged before after group one two
+      → inner.later one two → AllAreLater inner before after
   is-later before after group one two changed leads = record { k = changed.k; count = changed.count; each = λ j. by j (cases_eq j group) } where
     by : (j : ℕ) → (j ≡ group) ⊎ (j ≢ group) → Both inner.later (gateway_in before j) (gateway_in after j)
-    by j (inl is) = both-at inner.later (gateway_in before j) (gateway_in after j) one two (ap (gateway_in before) is ∙ changed.was) (ap (gateway_in after) is ∙ changed.is) leads
+    by j (inl is) = both-at inner.later (gateway_in before j) (gateway_in after j) one two (ap (gateway_in before) is
+        ∙ changed.was) (ap (gateway_in after) is ∙ changed.is) leads
     by j (inr other) = subst (Both inner.later (gateway_in before j)) (sym (changed.others j other)) (both_same inner.later order (gateway_in before j))
 
   -- a call stays open that stays so in its group
@@ -76,11 +79,14 @@ module _ {G K : Type 0} (inner : Rules G K) (order : IsOrder inner.later) where
     opened = by (cases_eq call.group group);
     later = (group_order inner order).on began before after was_open.later (is-later before after group one two changed leads);
   } where
-    by : (call.group ≡ group) ⊎ (call.group ≢ group) → Both (λ (first last : G). inner.opened last call.inner op first) (gateway_in began call.group) (gateway_in after call.group)
+    by : (call.group ≡ group) ⊎ (call.group ≢ group) → Both (λ (first last : G). inner.opened last call.inner op first)
+        (gateway_in began call.group) (gateway_in after call.group)
     by (inl is) = both-moved (λ (first last : G). inner.opened last call.inner op first) (λ (first last : G). inner.opened last call.inner op first)
         (gateway_in began call.group) (gateway_in before call.group) (gateway_in after call.group) one two
         (ap (gateway_in before) is ∙ changed.was) (ap (gateway_in after) is ∙ changed.is) (moves is) was_open.opened
-    by (inr other) = subst (Both (λ (first last : G). inner.opened last call.inner op first) (gateway_in began call.group)) (sym (changed.others call.group other)) was_open.opened
+    by (inr other) =
+        subst (Both (λ (first last : G). inner.opened last call.inner op first) (gateway_in began call.group))
+        (sym (changed.others call.group other)) was_open.opened
 
   pub keeps-open : (before after : GroupGateways G) (group : ℕ) (one two : G) → HasChanged before after group one two → inner.later one two
       → KeepsOpen inner one two → KeepsOpen (group_rules inner) before after
@@ -89,7 +95,8 @@ module _ {G K : Type 0} (inner : Rules G K) (order : IsOrder inner.later) where
 
   -- none gets a caller that gets none in its group
   pub lends-between : (was now : ℕ → Option G) (group : ℕ) (one two : G) → was group ≡ Some one → now group ≡ Some two → ((j : ℕ) → j ≢ group → now j ≡ was j)
-      → LendsNone inner one two → (call : GroupCall K) → HoldsOf (λ (g : G). inner.lent g call.inner) (now call.group) → HoldsOf (λ (g : G). inner.lent g call.inner) (was call.group)
+      → LendsNone inner one two → (call : GroupCall K) → HoldsOf (λ (g : G). inner.lent g call.inner) (now call.group)
+      → HoldsOf (λ (g : G). inner.lent g call.inner) (was call.group)
   lends-between was now group one two first last others lends call lent = by (cases_eq call.group group) where
     by : (call.group ≡ group) ⊎ (call.group ≢ group) → HoldsOf (λ (g : G). inner.lent g call.inner) (was call.group)
     by (inl is) = subst (HoldsOf (λ (g : G). inner.lent g call.inner)) (sym (ap was is ∙ first))
@@ -106,7 +113,8 @@ module _ {G K : Type 0} (inner : Rules G K) (order : IsOrder inner.later) where
   }
 
 -- one goes on quietly behind another
-pub quiet-on : {G K : Type 0} (rules : Rules G K) → IsOrder rules.later → (first then last : G) → GoesOnQuietly rules first then → GoesOnQuietly rules then last → GoesOnQuietly rules first last
+pub quiet-on : {G K : Type 0} (rules : Rules G K) → IsOrder rules.later → (first then last : G)
+    → GoesOnQuietly rules first then → GoesOnQuietly rules then last → GoesOnQuietly rules first last
 quiet-on rules order first then last before after = record {
   calls = λ call op began was_open. after.calls call op began (before.calls call op began was_open);
   lends = λ call lent. before.lends call (after.lends call lent);

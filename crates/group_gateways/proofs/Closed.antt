@@ -3,7 +3,8 @@ use Rattle.std.proofs.Common.{ℕ, zero, suc, ◌≡◌, ◌<◌, ◌≤◌, Boo
 use Rattle.std.specs.Prelude.{IfSome}
 use Rattle.std.specs.List.{list_all, slice_get}
 
-all-true : {G : Type 0} (closed : G → Bool) (xs : List G) → ((j : ℕ) → j < length xs → IfSome (slice_get xs j) (λ (x : G). closed x ≡ true)) → list_all closed xs ≡ true
+all-true : {G : Type 0} (closed : G → Bool) (xs : List G)
+    → ((j : ℕ) → j < length xs → IfSome (slice_get xs j) (λ (x : G). closed x ≡ true)) → list_all closed xs ≡ true
 all-true closed [] each = refl
 all-true closed (x ∷ xs) each = ap (λ (b : Bool). b && list_all closed xs) (each 0 (omega arith)) ∙ all-true closed xs (λ j within. each (suc j) (omega arith))
 

@@ -1,5 +1,6 @@
 -- Answers of a cluster, from those of its groups.
-use Rattle.std.proofs.Common.{ℕ, zero, suc, ◌≡◌, ◌≢◌, ◌<◌, ◌≤◌, ◌+◌, List, [], ◌∷◌, ◌++◌, length, take, drop, Some, ◌⊎◌, inl, inr, refl, sym, ap, subst, ◌∙◌, arith}
+use Rattle.std.proofs.Common.{ℕ, zero, suc, ◌≡◌, ◌≢◌, ◌<◌, ◌≤◌, ◌+◌, List, [], ◌∷◌, ◌++◌, length, take, drop, Some, ◌⊎◌}
+use Rattle.std.proofs.Common.{inl, inr, refl, sym, ap, subst, ◌∙◌, arith}
 use Rattle.std.specs.Prelude.{Contains, slice_get}
 use Rattle.std.proofs.Math.Seq.{take-append_seam}
 use Rattle.std.proofs.lemmas.Bool.{cases_lt}
@@ -48,7 +49,8 @@ module _ (k : ℕ) (turns : List GroupTurn) (each : (j : ℕ) → AnswersWithin 
   turn-place j i = pick.place group-of turn-of j turns i
 
   -- an ask in its group
-  ask-down : (i : ℕ) (t : GroupTurn) (name : CallName) (op : Asked) → IsAskIn turns i t name op → IsAsk (turns_in t.group turns) (turn-place t.group i) t.turn name op
+  ask-down : (i : ℕ) (t : GroupTurn) (name : CallName) (op : Asked) → IsAskIn turns i t name op
+      → IsAsk (turns_in t.group turns) (turn-place t.group i) t.turn name op
   ask-down i t name op ask = record {
     there = pick.get-picked group-of turn-of t.group turns i t ask.there refl;
     at = ask.at;
@@ -91,7 +93,8 @@ module _ (k : ℕ) (turns : List GroupTurn) (each : (j : ℕ) → AnswersWithin 
   first-log j n = entries-logged j (take n turns) ∙ ap log_of (sym (pick.take-picked group-of turn-of j turns n))
 
   -- an entry of the cluster's log in that of its group
-  entry-down : (j i : ℕ) (entry : Entry) → slice_get (logged_in turns) i ≡ Some (j, entry) → slice_get (log_of (turns_in j turns)) (pick.place at-group entry-at j (logged_in turns) i) ≡ Some entry
+  entry-down : (j i : ℕ) (entry : Entry) → slice_get (logged_in turns) i ≡ Some (j, entry)
+      → slice_get (log_of (turns_in j turns)) (pick.place at-group entry-at j (logged_in turns) i) ≡ Some entry
   entry-down j i entry is =
       ap (λ (log : List Entry). slice_get log (pick.place at-group entry-at j (logged_in turns) i)) (sym (group-log j))
       ∙ pick.get-picked at-group entry-at j (logged_in turns) i (j, entry) is refl
@@ -101,7 +104,8 @@ module _ (k : ℕ) (turns : List GroupTurn) (each : (j : ℕ) → AnswersWithin 
       let got = contains-get (logged_in turns) (j, entry) there in
       get-contains (log_of (turns_in j turns)) entry (pick.place at-group entry-at j (logged_in turns) got.0) (entry-down j got.0 entry got.1)
 
-  once-in : (i n : ℕ) (a b : ClusterEntry) → i < n → slice_get (logged_in turns) i ≡ Some a → slice_get (logged_in turns) n ≡ Some b → a.0 ≡ b.0 → name_of a.1 ≢ name_of b.1
+  once-in : (i n : ℕ) (a b : ClusterEntry) → i < n → slice_get (logged_in turns) i ≡ Some a
+      → slice_get (logged_in turns) n ≡ Some b → a.0 ≡ b.0 → name_of a.1 ≢ name_of b.1
   once-in i n a b before first second same =
       let w : List ClusterEntry = logged_in turns in
       let there : slice_get w n ≡ Some (a.0, b.1) = second ∙ ap (λ (g : ℕ). Some (g, b.1)) (sym same) in
@@ -114,22 +118,32 @@ module _ (k : ℕ) (turns : List GroupTurn) (each : (j : ℕ) → AnswersWithin 
       → (n : ℕ) × (ask : GroupTurn) × (n ≤ i) × (ask.group ≡ t.group) × IsAskIn turns n ask (name_of entry) entry.op
   asked-in i t entry there logged =
       let down = (each t.group).asked (turn-place t.group i) t.turn entry (pick.get-picked group-of turn-of t.group turns i t there refl) logged in
-      let up : Asked-in t.group down.0 (name_of entry) entry.op = ask-up t.group down.0 down.1 (name_of entry) entry.op down.3 in
-      (up.at, up.ask, pick.in-order group-of turn-of t.group turns up.at i t there refl (subst (λ (n : ℕ). n ≤ turn-place t.group i) (sym up.here) down.2), up.own, up.asked)
+      let up : Asked-in t.group down.0 (name_of entry) entry.op = ask-up t.group down.0 down.1 (name_of entry) entry.op down.3 in (
+        up.at,
+        up.ask,
+        pick.in-order group-of turn-of t.group turns up.at i t there refl
+            (subst (λ (n : ℕ). n ≤ turn-place t.group i) (sym up.here) down.2),
+        up.own,
+        up.asked,
+      )
 
-  later-in : (i : ℕ) (t : GroupTurn) (name : CallName) (reply : Reply) → slice_get turns i ≡ Some t → Fetches t.turn.event name → t.turn.answer ≡ answered.Reply reply → IsLoggedSinceIn turns i t.group name reply
+  later-in : (i : ℕ) (t : GroupTurn) (name : CallName) (reply : Reply) → slice_get turns i ≡ Some t
+      → Fetches t.turn.event name → t.turn.answer ≡ answered.Reply reply → IsLoggedSinceIn turns i t.group name reply
   later-in i t name reply there fetches is =
       let j : ℕ = t.group in
       let n : ℕ = turn-place j i in
-      let down : IsLoggedSince (turns_in j turns) n name reply = (each j).later n t.turn name reply (pick.get-picked group-of turn-of j turns i t there refl) fetches is in
+      let down : IsLoggedSince (turns_in j turns) n name reply =
+      (each j).later n t.turn name reply (pick.get-picked group-of turn-of j turns i t there refl) fetches is in
       let up : Asked-in j down.j name down.op = ask-up j down.j down.ask name down.op down.asked in
       let first : List ClusterEntry = logged_in (take (i + 1) turns) in
       let step : i + 1 ≡ suc i = omega arith in
       let one : turn-place j (suc i) ≡ suc n = pick.place-next group-of turn-of j turns i t there refl in
       let next : turn-place j (i + 1) ≡ n + 1 = ap (turn-place j) step ∙ one ∙ omega arith in
-      let log-is : entries_in j first ≡ log_of (take (n + 1) (turns_in j turns)) = first-log j (i + 1) ∙ ap (λ (x : ℕ). log_of (take x (turns_in j turns))) next in
+      let log-is : entries_in j first ≡ log_of (take (n + 1) (turns_in j turns)) = first-log j (i + 1)
+      ∙ ap (λ (x : ℕ). log_of (take x (turns_in j turns))) next in
       let was : pick.Stood at-group entry-at j first down.place (entry_of name down.op reply)
-      = pick.stood at-group entry-at j first down.place (entry_of name down.op reply) (ap (λ (log : List Entry). slice_get log down.place) log-is ∙ down.entry) in
+      = pick.stood at-group entry-at j first down.place (entry_of name down.op reply)
+      (ap (λ (log : List Entry). slice_get log down.place) log-is ∙ down.entry) in
       let before : List ClusterEntry = logged_in (take up.at turns) in
       let short : length (entries_in j before) ≤ down.place
       = subst (λ (x : ℕ). x ≤ down.place) (sym (ap length (first-log j up.at ∙ ap (λ (x : ℕ). log_of (take x (turns_in j turns))) up.here))) down.since in
@@ -141,12 +155,14 @@ module _ (k : ℕ) (turns : List GroupTurn) (each : (j : ℕ) → AnswersWithin 
         own = up.own;
         place = was.at;
         entry = was.there ∙ (λ x. Some (was.own x, was.is x));
-        since = behind j before first (logged_in (drop up.at turns)) (logged_in (drop (i + 1) turns)) was.at was.thing down.place (sym (logged-split up.at turns) ∙ logged-split (i + 1) turns)
+        since = behind j before first (logged_in (drop up.at turns)) (logged_in (drop (i + 1) turns)) was.at was.thing
+            down.place (sym (logged-split up.at turns) ∙ logged-split (i + 1) turns)
             was.there was.own was.here short;
       }
     where
       -- of two beginnings of one log, the entry that is picked later stands behind
-      behind : (j : ℕ) (before first more rest : List ClusterEntry) (p : ℕ) (x : ClusterEntry) (q : ℕ) → before ++ more ≡ first ++ rest → slice_get first p ≡ Some x → at-group x ≡ j
+      behind : (j : ℕ) (before first more rest : List ClusterEntry) (p : ℕ) (x : ClusterEntry) (q : ℕ)
+          → before ++ more ≡ first ++ rest → slice_get first p ≡ Some x → at-group x ≡ j
           → pick.place at-group entry-at j first p ≡ q → length (entries_in j before) ≤ q → length before ≤ p
       behind j before first more rest p x q whole got own here short = by (cases_lt p (length before)) where
         low : p < length first
@@ -157,9 +173,12 @@ module _ (k : ℕ) (turns : List GroupTurn) (each : (j : ℕ) → AnswersWithin 
         by (inl early) =
             let w : List ClusterEntry = before ++ more in
             let in-w : slice_get w p ≡ Some x = ap (λ (l : List ClusterEntry). slice_get l p) whole ∙ pick.get-append first rest p x got in
-            let next : pick.place at-group entry-at j w (suc p) ≡ suc (pick.place at-group entry-at j w p) = pick.place-next at-group entry-at j w p x in-w own in
-            let rises : pick.place at-group entry-at j w (suc p) ≤ pick.place at-group entry-at j w (length before) = pick.place-rises at-group entry-at j w (suc p) (length before) (omega (arith, early)) in
-            let front : pick.place at-group entry-at j w (length before) ≡ length (entries_in j before) = ap (λ (l : List ClusterEntry). length (entries_in j l)) (take-append_seam before more) in
+            let next : pick.place at-group entry-at j w (suc p) ≡ suc (pick.place at-group entry-at j w p) =
+            pick.place-next at-group entry-at j w p x in-w own in
+            let rises : pick.place at-group entry-at j w (suc p) ≤ pick.place at-group entry-at j w (length before) =
+            pick.place-rises at-group entry-at j w (suc p) (length before) (omega (arith, early)) in
+            let front : pick.place at-group entry-at j w (length before) ≡ length (entries_in j before) =
+            ap (λ (l : List ClusterEntry). length (entries_in j l)) (take-append_seam before more) in
             let same : pick.place at-group entry-at j w p ≡ pick.place at-group entry-at j first p
             = ap (λ (l : List ClusterEntry). length (entries_in j l)) (ap (take p) whole ∙ take-append-le p first rest (omega (arith, low))) in
             absurd (omega (arith, next, rises, front, same, here, short))
@@ -170,7 +189,8 @@ module _ (k : ℕ) (turns : List GroupTurn) (each : (j : ℕ) → AnswersWithin 
     asked = asked-in;
     at_once = λ i t name op reply ask is. (each t.group).at_once (turn-place t.group i) t.turn name op reply (ask-down i t name op ask) is;
     later = later-in;
-    refused = λ i t name op entry ask none there. (each t.group).refused (turn-place t.group i) t.turn name op entry (ask-down i t name op ask) none (contains-down t.group entry there);
+    refused = λ i t name op entry ask none there. (each t.group).refused (turn-place t.group i) t.turn name op entry
+        (ask-down i t name op ask) none (contains-down t.group entry there);
     gone = λ i t name d entry there traces is logged accepted home. (each t.group).gone (turn-place t.group i) t.turn name d entry
         (pick.get-picked group-of turn-of t.group turns i t there refl) traces is (contains-down t.group entry logged) accepted home;
   }

@@ -14,6 +14,7 @@ answers_are_within s n count es limits layout may =
     let c : Cluster = opening_cluster s n count in
     let moves : List Move = all_moves c es in
     within-in s.k (cluster_turns c es) (λ j.
-    let run : MakesARun s (all_moved c.groups moves) (turns_made c.groups moves) j = makes-a-run s count moves limits (all-may s count c es (even-start s count) may) j in
+    let run : MakesARun s (all_moved c.groups moves) (turns_made c.groups moves) j =
+    makes-a-run s count moves limits (all-may s count c es (even-start s count) may) j in
     let same : turns_in j (cluster_turns c es) ≡ turns_of s run.events = ap (turns_in j) (turns-after c es) ∙ run.turns in
     subst (AnswersWithin s.k) (sym same) run.headline.one_log.within)

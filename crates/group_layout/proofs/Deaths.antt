@@ -13,7 +13,9 @@ use Rattle.group_run.specs.Applying.{head_at}
 use Rattle.group_run.specs.Asking.{CallStep, ask_process, collect_from, fate_of}
 use Rattle.group_run.specs.Process.{Node}
 use Rattle.group_run.specs.Receiving.{receive}
-use Rattle.group_run.specs.World.{DeliveryStep, World, all_change, dead_nodes, deliver_nodes, delivered, flush_process, if_up, next_name, node_after, node_failed, node_of, nodes_told, opening, opening_node, step, treated, unchanged, with_down, with_node}
+use Rattle.group_run.specs.World.{DeliveryStep, World, all_change, dead_nodes, deliver_nodes, delivered, flush_process}
+use Rattle.group_run.specs.World.{if_up, next_name, node_after, node_failed, node_of, nodes_told, opening, opening_node}
+use Rattle.group_run.specs.World.{step, treated, unchanged, with_down, with_node}
 use Rattle.law_moves.proofs.Events.{emptied-dead}
 use Rattle.group_layout.specs.Cluster.{IsFailure}
 
@@ -25,7 +27,8 @@ none-if : (b : Bool) → b ≡ false → one-if b ≡ 0
 none-if b is = ap one-if is
 
 -- a node that is put where one as dead stood
-pub dead-put : (d : Node) → d.dead ≡ false → (nodes : List Node) (i : ℕ) (node : Node) → node.dead ≡ (at d nodes i).dead → dead_nodes (put d nodes i node) ≡ dead_nodes nodes
+pub dead-put : (d : Node) → d.dead ≡ false → (nodes : List Node) (i : ℕ) (node : Node) → node.dead ≡ (at d nodes i).dead
+    → dead_nodes (put d nodes i node) ≡ dead_nodes nodes
 dead-put d lives [] zero node same = let none : one-if node.dead ≡ 0 = none-if node.dead (same ∙ lives) in omega (arith, none)
 dead-put d lives [] (suc i) node same =
     let none : one-if d.dead ≡ 0 = none-if d.dead lives in
@@ -49,7 +52,8 @@ dead-put-any d lives (x ∷ xs) zero node = let one = at-most-one node.dead in o
 dead-put-any d lives (x ∷ xs) (suc i) node = let rest = dead-put-any d lives xs i node in omega (arith, rest)
 
 -- another node is as dead as before
-dead-at : (d e : Node) → d.dead ≡ false → e.dead ≡ false → (nodes : List Node) (i k : ℕ) (x : Node) → x.dead ≡ (at d nodes i).dead → (at e (put d nodes i x) k).dead ≡ (at e nodes k).dead
+dead-at : (d e : Node) → d.dead ≡ false → e.dead ≡ false → (nodes : List Node) (i k : ℕ) (x : Node)
+    → x.dead ≡ (at d nodes i).dead → (at e (put d nodes i x) k).dead ≡ (at e nodes k).dead
 dead-at d e dl el [] zero zero x same = same ∙ dl ∙ sym el
 dead-at d e dl el [] zero (suc k) x same = refl
 dead-at d e dl el [] (suc i) zero x same = dl ∙ sym el
@@ -81,13 +85,15 @@ unchanged-dead true dead node answer = refl
 unchanged-dead false true node answer = refl
 unchanged-dead false false node answer = refl
 
-sender-dead : (s : Dimensions) (down dead : Bool) (from to : ProcessId) (a b : Node) (link : List Message) → (delivered down dead s from to a b link).sender.dead ≡ a.dead
+sender-dead : (s : Dimensions) (down dead : Bool) (from to : ProcessId) (a b : Node) (link : List Message)
+    → (delivered down dead s from to a b link).sender.dead ≡ a.dead
 sender-dead s true dead from to a b link = refl
 sender-dead s false true from to a b link = refl
 sender-dead s false false from to a b [] = refl
 sender-dead s false false from to a b (m ∷ rest) = refl
 
-receiver-dead : (s : Dimensions) (down dead : Bool) (from to : ProcessId) (a b : Node) (link : List Message) → (delivered down dead s from to a b link).receiver.node.dead ≡ b.dead
+receiver-dead : (s : Dimensions) (down dead : Bool) (from to : ProcessId) (a b : Node) (link : List Message)
+    → (delivered down dead s from to a b link).receiver.node.dead ≡ b.dead
 receiver-dead s true dead from to a b link = refl
 receiver-dead s false true from to a b link = refl
 receiver-dead s false false from to a b [] = refl
@@ -103,7 +109,8 @@ dead-step w (Collect caller call p) other = dead-put (opening_node w.shape p) re
 dead-step w (Flush p) other = dead-put (opening_node w.shape p) refl w.nodes (index_of w.shape p) _
     (treated-dead w.shape (node_of w p).down (node_of w p).dead (node_of w p) (flush_process w.shape (node_of w p).process))
 dead-step w (Trace caller call d p) other = dead-put (opening_node w.shape p) refl w.nodes (index_of w.shape p) _
-    (unchanged-dead (node_of w p).down (node_of w p).dead (node_of w p) (fate_of w.shape caller call d.0 (node_of w p).process (head_at (node_of w p).process d.0)))
+    (unchanged-dead (node_of w p).down (node_of w p).dead (node_of w p)
+    (fate_of w.shape caller call d.0 (node_of w p).process (head_at (node_of w p).process d.0)))
 dead-step w (Deliver from to) other =
     let a : Node = node_of w from in
     let b : Node = node_of w to in
@@ -113,7 +120,8 @@ dead-step w (Deliver from to) other =
     let takes : both.receiver.node.dead ≡ b.dead = receiver-dead w.shape b.down b.dead from to a b link in
     let nodes : List Node = with_node w.shape from both.sender w.nodes in
     dead-put (opening_node w.shape to) refl nodes (index_of w.shape to) both.receiver.node
-    (takes ∙ sym (dead-at (opening_node w.shape from) (opening_node w.shape to) refl refl w.nodes (index_of w.shape from) (index_of w.shape to) both.sender sends))
+    (takes ∙ sym (dead-at (opening_node w.shape from) (opening_node w.shape to) refl refl w.nodes
+    (index_of w.shape from) (index_of w.shape to) both.sender sends))
     ∙ dead-put (opening_node w.shape from) refl w.nodes (index_of w.shape from) both.sender sends
 
 -- a failure
@@ -125,7 +133,8 @@ dead-fail w p keep = by (node_of w p).dead where
   by : (dead : Bool) → dead_nodes (all_change dead w.shape w.nodes p keep).nodes ≤ suc (dead_nodes w.nodes)
   by true = omega arith
   by false =
-      let few : dead_nodes cut ≤ suc (dead_nodes w.nodes) = dead-put-any (opening_node w.shape p) refl w.nodes (index_of w.shape p) (node_failed w.shape p keep (node_of w p)) in
+      let few : dead_nodes cut ≤ suc (dead_nodes w.nodes) = dead-put-any (opening_node w.shape p) refl w.nodes
+      (index_of w.shape p) (node_failed w.shape p keep (node_of w p)) in
       let told : dead_nodes (nodes_told w.shape.m cut) ≡ dead_nodes cut = dead-told _ cut in
       omega (arith, few, told)
 
@@ -139,7 +148,8 @@ same-dead w (Collect caller call p) other d lives k = dead-at (opening_node w.sh
 same-dead w (Flush p) other d lives k = dead-at (opening_node w.shape p) d refl lives w.nodes (index_of w.shape p) k _
     (treated-dead w.shape (node_of w p).down (node_of w p).dead (node_of w p) (flush_process w.shape (node_of w p).process))
 same-dead w (Trace caller call x p) other d lives k = dead-at (opening_node w.shape p) d refl lives w.nodes (index_of w.shape p) k _
-    (unchanged-dead (node_of w p).down (node_of w p).dead (node_of w p) (fate_of w.shape caller call x.0 (node_of w p).process (head_at (node_of w p).process x.0)))
+    (unchanged-dead (node_of w p).down (node_of w p).dead (node_of w p)
+    (fate_of w.shape caller call x.0 (node_of w p).process (head_at (node_of w p).process x.0)))
 same-dead w (Deliver from to) other d lives k =
     let a : Node = node_of w from in
     let b : Node = node_of w to in
@@ -149,7 +159,8 @@ same-dead w (Deliver from to) other d lives k =
     let takes : both.receiver.node.dead ≡ b.dead = receiver-dead w.shape b.down b.dead from to a b link in
     let nodes : List Node = with_node w.shape from both.sender w.nodes in
     dead-at (opening_node w.shape to) d refl lives nodes (index_of w.shape to) k both.receiver.node
-    (takes ∙ sym (dead-at (opening_node w.shape from) (opening_node w.shape to) refl refl w.nodes (index_of w.shape from) (index_of w.shape to) both.sender sends))
+    (takes ∙ sym (dead-at (opening_node w.shape from) (opening_node w.shape to) refl refl w.nodes
+    (index_of w.shape from) (index_of w.shape to) both.sender sends))
     ∙ dead-at (opening_node w.shape from) d refl lives w.nodes (index_of w.shape from) k both.sender sends
 
 -- a failure leaves the others so
@@ -158,7 +169,8 @@ told-at down d [] k = refl
 told-at down d (x ∷ xs) zero = refl
 told-at down d (x ∷ xs) (suc k) = told-at down d xs k
 
-other-at : (d e : Node) → d.dead ≡ false → e.dead ≡ false → (nodes : List Node) (i k : ℕ) (x : Node) → k ≢ i → (at e (put d nodes i x) k).dead ≡ (at e nodes k).dead
+other-at : (d e : Node) → d.dead ≡ false → e.dead ≡ false → (nodes : List Node) (i k : ℕ) (x : Node) → k ≢ i
+    → (at e (put d nodes i x) k).dead ≡ (at e nodes k).dead
 other-at d e dl el [] zero zero x apart = absurd (apart refl)
 other-at d e dl el [] zero (suc k) x apart = refl
 other-at d e dl el [] (suc i) zero x apart = dl ∙ sym el
@@ -168,7 +180,8 @@ other-at d e dl el (y ∷ ys) zero (suc k) x apart = refl
 other-at d e dl el (y ∷ ys) (suc i) zero x apart = refl
 other-at d e dl el (y ∷ ys) (suc i) (suc k) x apart = other-at d e dl el ys i k x (λ same. apart (ap suc same))
 
-pub fail-dead : (w : World) (p : ProcessId) (keep : ℕ) (d : Node) → d.dead ≡ false → (k : ℕ) → k ≢ index_of w.shape p → (at d (step w (Fail p keep)).world.nodes k).dead ≡ (at d w.nodes k).dead
+pub fail-dead : (w : World) (p : ProcessId) (keep : ℕ) (d : Node) → d.dead ≡ false → (k : ℕ) → k ≢ index_of w.shape p
+    → (at d (step w (Fail p keep)).world.nodes k).dead ≡ (at d w.nodes k).dead
 fail-dead w p keep d lives k apart = by (node_of w p).dead where
   cut : List Node
   cut = with_node w.shape p (node_failed w.shape p keep (node_of w p)) w.nodes

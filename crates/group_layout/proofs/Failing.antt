@@ -1,5 +1,6 @@
 -- A group has no more dead processes than nodes have failed.
-use Rattle.std.proofs.Common.{ℕ, zero, suc, ◌≡◌, ◌≢◌, ◌<◌, ◌≤◌, ◌+◌, Bool, true, false, List, [], ◌∷◌, ◌++◌, length, replicate, Option, Some, None, inl, inr, if◌then◌else◌, refl, ap, subst, ◌∙◌, arith}
+use Rattle.std.proofs.Common.{ℕ, zero, suc, ◌≡◌, ◌≢◌, ◌<◌, ◌≤◌, ◌+◌, Bool, true, false, List, [], ◌∷◌, ◌++◌, length}
+use Rattle.std.proofs.Common.{replicate, Option, Some, None, inl, inr, if◌then◌else◌, refl, ap, subst, ◌∙◌, arith}
 use Rattle.std.specs.List.{range_with_len}
 use Rattle.group_types.specs.Dimensions.{Dimensions}
 use Rattle.group_types.specs.Lists.{at, put}
@@ -8,7 +9,9 @@ use Rattle.group_types.proofs.Lists.{at-replicate}
 use Rattle.membership.specs.Members.{count_dead}
 use Rattle.group_calls.specs.declared.event.Event.TheVariants.{Fail}
 use Rattle.group_run.specs.World.{World, dead_nodes, opening, step}
-use Rattle.group_layout.specs.Cluster.{Cluster, Groups, IsFailure, MayAllHappen, MayHappen, Move, all_moved, cluster_after, cluster_step, failure_of, failures, move_unless, moved, moves_of, node_failure, opening_cluster, other_group, world_in}
+use Rattle.group_layout.specs.Cluster.{Cluster, Groups, IsFailure, MayAllHappen, MayHappen, Move, all_moved}
+use Rattle.group_layout.specs.Cluster.{cluster_after, cluster_step, failure_of, failures, move_unless, moved, moves_of}
+use Rattle.group_layout.specs.Cluster.{node_failure, opening_cluster, other_group, world_in}
 use Rattle.group_layout.specs.Layout.{process_on}
 use Rattle.group_layout.specs.Promise.{FewFailuresAreBorne}
 use Rattle.group_layout.specs.declared.event.ClusterEvent.{ClusterEvent}
@@ -61,7 +64,8 @@ one-each s n node keep a (suc m) j g = by (one-each s n node keep (a + 1) m j (a
   parts : dead_in (all_moved g (here ++ rest)) j ≡ dead_in (all_moved (all_moved g here) rest) j
   parts = ap (λ (v : Groups). dead_in v j) (moved-append g here rest)
 
-  by : dead_in (all_moved (all_moved g here) rest) j ≤ suc (dead_in (all_moved g here) j) → IsOrNot a j → dead_in (all_moved g (here ++ rest)) j ≤ suc (dead_in g j)
+  by : dead_in (all_moved (all_moved g here) rest) j ≤ suc (dead_in (all_moved g here) j) → IsOrNot a j
+      → dead_in (all_moved g (here ++ rest)) j ≤ suc (dead_in g j)
   by few (inl (word, is)) =
       let stays : dead_in (all_moved (all_moved g here) rest) j ≡ dead_in (all_moved g here) j
       = ap (λ (w : World). dead_nodes w.nodes) (later s n node keep (a + 1) m j (all_moved g here) (omega (arith, is))) in
@@ -69,7 +73,8 @@ one-each s n node keep a (suc m) j g = by (one-each s n node keep (a + 1) m j (a
       = subst (λ (i : ℕ). dead_in (all_moved g here) i ≤ suc (dead_in g i)) is (here-one s g keep a (process_on n (s.k + s.m) node a)) in
       omega (arith, parts, stays, one)
   by few (inr (word, apart)) =
-      let same : dead_in (all_moved g here) j ≡ dead_in g j = ap (λ (w : World). dead_nodes w.nodes) (elsewhere s g keep a j (process_on n (s.k + s.m) node a) apart) in
+      let same : dead_in (all_moved g here) j ≡ dead_in g j =
+      ap (λ (w : World). dead_nodes w.nodes) (elsewhere s g keep a j (process_on n (s.k + s.m) node a) apart) in
       omega (arith, parts, few, same)
 
 -- how many nodes have failed
@@ -94,7 +99,8 @@ unless-none : (g : Groups) (m : Move) (o : Option ℕ) (j : ℕ) → ¬ (IsFailu
 unless-none g m (Some own) j other = refl
 unless-none g m None j other = no-failure g m j other
 
-borne : (c : Cluster) (e : ClusterEvent) (j : ℕ) → MayHappen c e → dead_in c.groups j ≤ count_dead c.failed → dead_in (cluster_step c e).cluster.groups j ≤ count_dead (cluster_step c e).cluster.failed
+borne : (c : Cluster) (e : ClusterEvent) (j : ℕ) → MayHappen c e → dead_in c.groups j ≤ count_dead c.failed
+    → dead_in (cluster_step c e).cluster.groups j ≤ count_dead (cluster_step c e).cluster.failed
 borne c (InGroup i event) j may few =
     let same = unless-none c.groups (record { group = i; event = event }) (other_group c.groups i event) j may.1 in
     omega (arith, same, few)
@@ -105,16 +111,21 @@ borne c (FailNode node keep) j may few = by (at false c.failed node) refl where
   one : dead_in (all_moved c.groups (node_failure c node keep)) j ≤ suc (dead_in c.groups j)
   one = one-each c.groups.shape (length c.failed) node keep 0 (length c.groups.worlds) j c.groups
 
-  by : (b : Bool) → at false c.failed node ≡ b → dead_in (all_moved c.groups (if b then [] else node_failure c node keep)) j ≤ count_dead (put false c.failed node true)
+  by : (b : Bool) → at false c.failed node ≡ b
+      → dead_in (all_moved c.groups (if b then [] else node_failure c node keep)) j
+      ≤ count_dead (put false c.failed node true)
   by true word = let more = no-fewer c.failed node in omega (arith, more, few)
   by false word = let more = more-failed c.failed node word in omega (arith, more, few, one)
 
-all-borne : (c : Cluster) (es : List ClusterEvent) (j : ℕ) → MayAllHappen c es → dead_in c.groups j ≤ count_dead c.failed → dead_in (cluster_after c es).groups j ≤ count_dead (cluster_after c es).failed
+all-borne : (c : Cluster) (es : List ClusterEvent) (j : ℕ) → MayAllHappen c es
+    → dead_in c.groups j ≤ count_dead c.failed → dead_in (cluster_after c es).groups j
+    ≤ count_dead (cluster_after c es).failed
 all-borne c [] j may few = few
 all-borne c (e ∷ es) j may few = all-borne (cluster_step c e).cluster es j may.1 (borne c e j may.0 few)
 
 -- the groups keep their shape
-even-all : (s : Dimensions) (count : ℕ) (c : Cluster) (es : List ClusterEvent) → Even s count c.groups → MayAllHappen c es → Even s count (cluster_after c es).groups
+even-all : (s : Dimensions) (count : ℕ) (c : Cluster) (es : List ClusterEvent) → Even s count c.groups
+    → MayAllHappen c es → Even s count (cluster_after c es).groups
 even-all s count c [] even may = even
 even-all s count c (e ∷ es) even may =
     even-all s count (cluster_step c e).cluster es (even-after s count c.groups (moves_of c e) even (moves-may s count c e even may.0)) may.1

@@ -1,5 +1,6 @@
 -- Events of a cluster, as moves of its groups.
-use Rattle.std.proofs.Common.{ℕ, zero, suc, ◌≡◌, ◌<◌, ◌≤◌, ◌+◌, ◌==◌, Bool, true, false, List, [], ◌∷◌, ◌++◌, length, replicate, Option, Some, None, inl, inr, if◌then◌else◌, refl, sym, ap, subst, ◌∙◌, arith}
+use Rattle.std.proofs.Common.{ℕ, zero, suc, ◌≡◌, ◌<◌, ◌≤◌, ◌+◌, ◌==◌, Bool, true, false, List, [], ◌∷◌, ◌++◌, length}
+use Rattle.std.proofs.Common.{replicate, Option, Some, None, inl, inr, if◌then◌else◌, refl, sym, ap, subst, ◌∙◌, arith}
 use Rattle.std.specs.List.{range_with_len}
 use Rattle.group_types.specs.Dimensions.{Dimensions}
 use Rattle.group_types.specs.Lists.{at}
@@ -7,7 +8,10 @@ use Rattle.group_types.specs.Names.{IsProcess, process_at}
 use Rattle.group_types.proofs.Lists.{at-put, at-put-other, at-replicate, length-put}
 use Rattle.group_types.proofs.Names.{process_at-in}
 use Rattle.group_run.specs.World.{World, opening, step}
-use Rattle.group_layout.specs.Cluster.{Cluster, GroupTurn, Groups, MayAllHappen, MayAllMove, MayHappen, MayMove, Move, all_moved, cluster_after, cluster_step, cluster_turns, failure_of, failures, move_unless, moved, moves_of, node_failure, opening_cluster, opening_groups, other_group, turn_of, turns_made, world_in}
+use Rattle.group_layout.specs.Cluster.{Cluster, GroupTurn, Groups, MayAllHappen, MayAllMove, MayHappen, MayMove, Move}
+use Rattle.group_layout.specs.Cluster.{all_moved, cluster_after, cluster_step, cluster_turns, failure_of, failures}
+use Rattle.group_layout.specs.Cluster.{move_unless, moved, moves_of, node_failure, opening_cluster, opening_groups}
+use Rattle.group_layout.specs.Cluster.{other_group, turn_of, turns_made, world_in}
 use Rattle.group_layout.specs.Layout.{first_on, node_of, process_on}
 use Rattle.group_layout.specs.Promise.{AreRuns, ClustersAreRuns}
 use Rattle.group_layout.specs.declared.event.ClusterEvent.{ClusterEvent}
@@ -71,7 +75,10 @@ even-moved s count g m even low = record {
         ap (λ (i : ℕ). (world_in (moved g m) i).shape) is
         ∙ ap (λ (w : World). w.shape) (at-put (opening g.shape) (opening g.shape) g.worlds m.group (step (world_in g m.group) m.event).world)
         ∙ even.worlds m.group
-    by j (inr (word, other)) = ap (λ (w : World). w.shape) (at-put-other (opening g.shape) g.worlds m.group j (step (world_in g m.group) m.event).world other) ∙ even.worlds j
+    by j (inr (word, other)) =
+        ap (λ (w : World). w.shape)
+        (at-put-other (opening g.shape) g.worlds m.group j (step (world_in g m.group) m.event).world other)
+        ∙ even.worlds j
 
 pub even-after : (s : Dimensions) (count : ℕ) (g : Groups) (ms : List Move) → Even s count g → MayAllMove g ms → Even s count (all_moved g ms)
 even-after s count g [] even may = even
@@ -93,16 +100,25 @@ first-low n node j a (suc m) q is = by (first-low n node j (a + 1) m q) (node_of
       omega (arith, low)
 
 -- failures of processes may come
-failure-may : (s : Dimensions) (count : ℕ) (g : Groups) (keep j : ℕ) (q : Option ℕ) → Even s count g → j < count → ((x : ℕ) → q ≡ Some x → x < s.k + s.m) → MayAllMove g (failure_of s keep j q)
+failure-may : (s : Dimensions) (count : ℕ) (g : Groups) (keep j : ℕ) (q : Option ℕ) → Even s count g → j < count
+    → ((x : ℕ) → q ≡ Some x → x < s.k + s.m) → MayAllMove g (failure_of s keep j q)
 failure-may s count g keep j None even low within = tt
-failure-may s count g keep j (Some x) even low within =
-    ((subst (λ (n : ℕ). j < n) (sym even.many) low, subst (λ (t : Dimensions). IsProcess t (process_at s x)) (sym (even.worlds j)) (process_at-in s x (within x refl))), tt)
+failure-may s count g keep j (Some x) even low within = (
+  (
+    subst (λ (n : ℕ). j < n) (sym even.many) low,
+    subst (λ (t : Dimensions). IsProcess t (process_at s x))
+        (sym (even.worlds j)) (process_at-in s x (within x refl)),
+  ),
+  tt,
+)
 
-failures-may : (s : Dimensions) (count n node keep a m : ℕ) (g : Groups) → Even s count g → a + m ≤ count → MayAllMove g (failures s n node keep (range_with_len a m))
+failures-may : (s : Dimensions) (count n node keep a m : ℕ) (g : Groups) → Even s count g → a + m ≤ count
+    → MayAllMove g (failures s n node keep (range_with_len a m))
 failures-may s count n node keep a zero g even low = tt
 failures-may s count n node keep a (suc m) g even low =
     let here : List Move = failure_of s keep a (process_on n (s.k + s.m) node a) in
-    let first : MayAllMove g here = failure-may s count g keep a (process_on n (s.k + s.m) node a) even (omega (arith, low)) (λ x is. let low = first-low n node a 0 (s.k + s.m) x is in omega (arith, low)) in
+    let first : MayAllMove g here = failure-may s count g keep a (process_on n (s.k + s.m) node a) even
+    (omega (arith, low)) (λ x is. let low = first-low n node a 0 (s.k + s.m) x is in omega (arith, low)) in
     may-append g here (failures s n node keep (range_with_len (a + 1) m)) first
     (failures-may s count n node keep (a + 1) m (all_moved g here) (even-after s count g here even first) (omega (arith, low)))
 
@@ -122,7 +138,8 @@ moves-may s count c (FailNode node keep) even may = by (at false c.failed node) 
   by true = tt
   by false = all
 
-pub all-may : (s : Dimensions) (count : ℕ) (c : Cluster) (es : List ClusterEvent) → Even s count c.groups → MayAllHappen c es → MayAllMove c.groups (all_moves c es)
+pub all-may : (s : Dimensions) (count : ℕ) (c : Cluster) (es : List ClusterEvent) → Even s count c.groups
+    → MayAllHappen c es → MayAllMove c.groups (all_moves c es)
 all-may s count c [] even may = tt
 all-may s count c (e ∷ es) even may =
     let first : MayAllMove c.groups (moves_of c e) = moves-may s count c e even may.0 in
@@ -133,6 +150,7 @@ pub clusters_are_runs : ClustersAreRuns
 clusters_are_runs s n count es limits layout may =
     let c : Cluster = opening_cluster s n count in
     let moves : List Move = all_moves c es in
-    let runs : AreRuns s count (all_moved c.groups moves) (turns_made c.groups moves) = moves_are_runs s count moves limits (all-may s count c es (even-start s count) may) in
+    let runs : AreRuns s count (all_moved c.groups moves) (turns_made c.groups moves) =
+    moves_are_runs s count moves limits (all-may s count c es (even-start s count) may) in
     subst (λ (g : Groups). AreRuns s count g (cluster_turns c es)) (sym (groups-after c es))
     (subst (λ (ts : List GroupTurn). AreRuns s count (all_moved c.groups moves) ts) (sym (turns-after c es)) runs)

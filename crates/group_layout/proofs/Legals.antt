@@ -24,11 +24,15 @@ ruling-same u v op counts item =
 
 counts-same : (u v : Contents) (key : List ℕ) (r : Ruling) → u.counts ≡ v.counts → (after_ruling u key r).counts ≡ (after_ruling v key r).counts
 counts-same u v key (Refused reply) same = same
-counts-same u v key (Accepted reply leaves) same = ap (λ (c : List ℕ). (after_ruling (record { items = u.items; counts = c }) key (Accepted reply leaves)).counts) same
+counts-same u v key (Accepted reply leaves) same =
+    ap (λ (c : List ℕ). (after_ruling (record { items = u.items; counts = c }) key (Accepted reply leaves)).counts) same
 
-item-same : (u v : Contents) (key other : List ℕ) (r : Ruling) → u.items other ≡ v.items other → (after_ruling u key r).items other ≡ (after_ruling v key r).items other
+item-same : (u v : Contents) (key other : List ℕ) (r : Ruling) → u.items other ≡ v.items other
+    → (after_ruling u key r).items other ≡ (after_ruling v key r).items other
 item-same u v key other (Refused reply) same = same
-item-same u v key other (Accepted reply leaves) same = ap (λ (h : Option Holding). (after_ruling (record { items = λ _. h; counts = u.counts }) key (Accepted reply leaves)).items other) same
+item-same u v key other (Accepted reply leaves) same =
+    ap (λ (h : Option Holding).
+    (after_ruling (record { items = λ _. h; counts = u.counts }) key (Accepted reply leaves)).items other) same
 
 item-apart : (u : Contents) (key other : List ℕ) (r : Ruling) → key ≢ other → (after_ruling u key r).items other ≡ u.items other
 item-apart u key other (Refused reply) apart = refl
@@ -62,7 +66,8 @@ module _ (k count : ℕ) where
 
     counts-next : (i : ℕ) → (after_entry t e).counts i ≡ (next tables e i).counts
     counts-next i = by (is-or-not i e.0) where
-      by : IsOrNot i e.0 → (if i == e.0 then (table_after (seen_by t e.0) op).counts else t.counts i) ≡ (if i == e.0 then table_after (tables i) op else tables i).counts
+      by : IsOrNot i e.0 → (if i == e.0 then (table_after (seen_by t e.0) op).counts else t.counts i)
+          ≡ (if i == e.0 then table_after (tables i) op else tables i).counts
       by (inl (word, is)) =
           ap (λ (b : Bool). if b then (table_after (seen_by t e.0) op).counts else t.counts i) word
           ∙ ap (λ (r : Ruling). (after_ruling (seen_by t e.0) key r).counts) same-ruling
@@ -77,7 +82,9 @@ module _ (k count : ℕ) where
     items-next : (q : List ℕ) → (after_entry t e).items q ≡ (next tables e (group_of q k count)).items q
     items-next q = by (group_of q k count) (joins.items q) (λ same. same ∙ sym own) (is-or-not (group_of q k count) e.0) where
       by : (g : ℕ) → t.items q ≡ (tables g).items q → (group_of q k count ≡ e.0 → group_of q k count ≡ group_of key k count) → IsOrNot (group_of q k count) e.0
-          → (after_entry t e).items q ≡ (if group_of q k count == e.0 then table_after (tables (group_of q k count)) op else tables (group_of q k count)).items q
+          → (after_entry t e).items q
+          ≡ (if group_of q k count == e.0 then table_after (tables (group_of q k count)) op else tables
+          (group_of q k count)).items q
       by g held one (inl (word, is)) =
           ap (λ (r : Ruling). (after_ruling (seen_by t e.0) key r).items q) same-ruling
           ∙ item-same (seen_by t e.0) (tables e.0) key q (ruling_on (tables e.0) op) (joins.items q ∙ ap (λ (j : ℕ). (tables j).items q) is)
@@ -94,8 +101,11 @@ module _ (k count : ℕ) where
   pub legal-from : (t : ClusterTable) (tables : ℕ → Contents) (log : List ClusterEntry) → Joins t tables → Each (IsOwn k count) log
       → ((j : ℕ) → IsLegalFrom (tables j) (entries_in j log)) → IsClusterLegalFrom t log
   legal-from t tables [] joins own legal = tt
-  legal-from t tables (e ∷ es) joins own legal =
-      (here.0 ∙ sym (same-reply t tables e joins own.0), legal-from (after_entry t e) (next tables e) es (joins-next t tables e joins own.0) own.1 (λ j. on j (is-or-not e.0 j) (legal j)))
+  legal-from t tables (e ∷ es) joins own legal = (
+    here.0 ∙ sym (same-reply t tables e joins own.0),
+    legal-from (after_entry t e) (next tables e) es
+        (joins-next t tables e joins own.0) own.1 (λ j. on j (is-or-not e.0 j) (legal j)),
+  )
     where
       here : IsLegalFrom (tables e.0) (e.1 ∷ entries_in e.0 es)
       here = by (is-or-not e.0 e.0) (legal e.0) where
@@ -105,10 +115,16 @@ module _ (k count : ℕ) where
 
       on : (j : ℕ) → IsOrNot e.0 j → IsLegalFrom (tables j) (front_if (e.0 == j) e.1 (entries_in j es)) → IsLegalFrom (next tables e j) (entries_in j es)
       on j (inl (word, is)) ok = by (is-or-not j e.0) (subst (λ (b : Bool). IsLegalFrom (tables j) (front_if b e.1 (entries_in j es))) word ok) where
-        by : IsOrNot j e.0 → IsLegalFrom (tables j) (e.1 ∷ entries_in j es) → IsLegalFrom (if j == e.0 then table_after (tables j) e.1.op else tables j) (entries_in j es)
-        by (inl (same, back)) rest = subst (λ (b : Bool). IsLegalFrom (if b then table_after (tables j) e.1.op else tables j) (entries_in j es)) (sym same) rest.1
+        by : IsOrNot j e.0 → IsLegalFrom (tables j) (e.1 ∷ entries_in j es)
+            → IsLegalFrom (if j == e.0 then table_after (tables j) e.1.op else tables j) (entries_in j es)
+        by (inl (same, back)) rest =
+            subst (λ (b : Bool). IsLegalFrom (if b then table_after (tables j) e.1.op else tables j) (entries_in j es))
+            (sym same) rest.1
         by (inr (same, apart)) rest = absurd (apart (sym is))
       on j (inr (word, other)) ok = by (is-or-not j e.0) (subst (λ (b : Bool). IsLegalFrom (tables j) (front_if b e.1 (entries_in j es))) word ok) where
-        by : IsOrNot j e.0 → IsLegalFrom (tables j) (entries_in j es) → IsLegalFrom (if j == e.0 then table_after (tables j) e.1.op else tables j) (entries_in j es)
+        by : IsOrNot j e.0 → IsLegalFrom (tables j) (entries_in j es)
+            → IsLegalFrom (if j == e.0 then table_after (tables j) e.1.op else tables j) (entries_in j es)
         by (inl (same, back)) rest = absurd (other (sym back))
-        by (inr (same, apart)) rest = subst (λ (b : Bool). IsLegalFrom (if b then table_after (tables j) e.1.op else tables j) (entries_in j es)) (sym same) rest
+        by (inr (same, apart)) rest =
+            subst (λ (b : Bool). IsLegalFrom (if b then table_after (tables j) e.1.op else tables j) (entries_in j es))
+            (sym same) rest

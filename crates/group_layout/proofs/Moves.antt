@@ -57,7 +57,8 @@ run-moved g (m ∷ ms) j may = by (run-moved (moved g m) ms j may.1) (is-or-not 
 pub turns-moved : (g : Groups) (ms : List Move) (j : ℕ) → turns_in j (turns_made g ms) ≡ turns_from (world_in g j) (events_in j ms)
 turns-moved g [] j = refl
 turns-moved g (m ∷ ms) j = ap (front_if (m.group == j) (turn_of g m)) (turns-moved (moved g m) ms j) ∙ by (is-or-not m.group j) where
-  by : IsOrNot m.group j → front_if (m.group == j) (turn_of g m) (turns_from (world_in (moved g m) j) (events_in j ms)) ≡ turns_from (world_in g j) (front_if (m.group == j) m.event (events_in j ms))
+  by : IsOrNot m.group j → front_if (m.group == j) (turn_of g m) (turns_from (world_in (moved g m) j) (events_in j ms))
+      ≡ turns_from (world_in g j) (front_if (m.group == j) m.event (events_in j ms))
   by (inl (word, is)) =
       ap (λ (b : Bool). front_if b (turn_of g m) (turns_from (world_in (moved g m) j) (events_in j ms))) word
       ∙ ap (λ (w : World). turn_of g m ∷ turns_from w (events_in j ms)) (own-world g m j is)
@@ -89,7 +90,9 @@ other-entries i j (e ∷ es) rest word =
 pub entries-logged : (j : ℕ) (ts : List GroupTurn) → entries_in j (logged_in ts) ≡ log_of (turns_in j ts)
 entries-logged j [] = refl
 entries-logged j (t ∷ ts) = by (entries-logged j ts) (is-or-not t.group j) where
-  by : entries_in j (logged_in ts) ≡ log_of (turns_in j ts) → IsOrNot t.group j → entries_in j (tagged t.group t.turn.logged ++ logged_in ts) ≡ log_of (front_if (t.group == j) t.turn (turns_in j ts))
+  by : entries_in j (logged_in ts) ≡ log_of (turns_in j ts) → IsOrNot t.group j
+      → entries_in j (tagged t.group t.turn.logged ++ logged_in ts)
+      ≡ log_of (front_if (t.group == j) t.turn (turns_in j ts))
   by rest (inl (word, is)) =
       own-entries t.group j t.turn.logged (logged_in ts) word
       ∙ ap (λ (more : List Entry). t.turn.logged ++ more) rest

@@ -1,5 +1,6 @@
 -- Calls that are asked are of their keys' group, and so are the entries of the log.
-use Rattle.std.proofs.Common.{ℕ, zero, suc, ◌≡◌, ◌+◌, ◌==◌, Bool, true, false, List, [], ◌∷◌, ◌++◌, length, Option, Some, None, ◌⊎◌, inl, inr, if◌then◌else◌, refl, sym, ap, subst, ◌∙◌, arith}
+use Rattle.std.proofs.Common.{ℕ, zero, suc, ◌≡◌, ◌+◌, ◌==◌, Bool, true, false, List, [], ◌∷◌, ◌++◌, length, Option}
+use Rattle.std.proofs.Common.{Some, None, ◌⊎◌, inl, inr, if◌then◌else◌, refl, sym, ap, subst, ◌∙◌, arith}
 use Rattle.std.specs.Prelude.{Contains, slice_get, slice_index_or}
 use Rattle.std.specs.List.{range_with_len}
 use Rattle.std.proofs.lemmas.Bool.{eqb-true}
@@ -12,7 +13,9 @@ use Rattle.memc_table.specs.Asked.{Asked}
 use Rattle.group_calls.specs.declared.entry.Entry.{Entry}
 use Rattle.group_calls.specs.declared.event.Event.{Event}
 use Rattle.group_calls.specs.declared.event.Event.TheVariants.{Ask, Collect, Deliver, Fail, Flush, Trace}
-use Rattle.group_layout.specs.Cluster.{Cluster, ClusterEntry, GroupTurn, Groups, MayAllHappen, Move, cluster_after, cluster_step, cluster_turns, failure_of, failures, logged_in, move_unless, moved, moves_of, node_failure, opening_cluster, tagged, turns_made, unless_own}
+use Rattle.group_layout.specs.Cluster.{Cluster, ClusterEntry, GroupTurn, Groups, MayAllHappen, Move, cluster_after}
+use Rattle.group_layout.specs.Cluster.{cluster_step, cluster_turns, failure_of, failures, logged_in, move_unless, moved}
+use Rattle.group_layout.specs.Cluster.{moves_of, node_failure, opening_cluster, tagged, turns_made, unless_own}
 use Rattle.group_layout.specs.Layout.{group_of, process_on}
 use Rattle.group_layout.specs.Promise.{AreRuns, EntriesAreOwn, IsOwn}
 use Rattle.group_layout.specs.Within.{ClusterAnswersWithin}
@@ -63,7 +66,8 @@ failures-own k count s n node keep (j ∷ js) =
     (failure-own k count s keep j (process_on n (s.k + s.m) node j)) (failures-own k count s n node keep js)
 
 -- an ask that isn't another group's
-ask-own : (k count j own caller : ℕ) (op : Asked) (p : _) → own ≡ group_of (key_of op.act) k count → AreOwn k count (move_unless (unless_own j own) (record { group = j; event = Ask caller op p }))
+ask-own : (k count j own caller : ℕ) (op : Asked) (p : _) → own ≡ group_of (key_of op.act) k count
+    → AreOwn k count (move_unless (unless_own j own) (record { group = j; event = Ask caller op p }))
 ask-own k count j own caller op p is = by (own == j) refl where
   by : (b : Bool) → (own == j) ≡ b → AreOwn k count (move_unless (if b then None else Some own) (record { group = j; event = Ask caller op p }))
   by true word = (sym is ∙ eqb-true own j word, tt)
@@ -83,7 +87,8 @@ moves-own s count c (FailNode node keep) even = by (at false c.failed node) wher
   by true = tt
   by false = failures-own s.k count c.groups.shape (length c.failed) node keep (range_with_len 0 (length c.groups.worlds))
 
-all-own : (s : Dimensions) (count : ℕ) (c : Cluster) (es : List ClusterEvent) → Even s count c.groups → MayAllHappen c es → TurnsOwn s.k count (cluster_turns c es)
+all-own : (s : Dimensions) (count : ℕ) (c : Cluster) (es : List ClusterEvent) → Even s count c.groups
+    → MayAllHappen c es → TurnsOwn s.k count (cluster_turns c es)
 all-own s count c [] even may = tt
 all-own s count c (e ∷ es) even may =
     each-append (λ t. AsksOwn s.k count t.group t.turn.event) (cluster_step c e).turns (cluster_turns (cluster_step c e).cluster es)
@@ -112,14 +117,16 @@ in-tagged j (e ∷ es) rest (suc i) x is = by (in-tagged j es rest i x is) where
 turned : (turns : List GroupTurn) (i : ℕ) (x : ClusterEntry) → slice_get (logged_in turns) i ≡ Some x → Turned turns x
 turned [] i x is = absurd (no-get i x is)
 turned (t ∷ ts) i x is = by (in-tagged t.group t.turn.logged (logged_in ts) i x is) (λ n there. turned ts n x there) where
-  by : ((t.group ≡ x.0) × Contains t.turn.logged x.1) ⊎ ((n : ℕ) × (slice_get (logged_in ts) n ≡ Some x)) → ((n : ℕ) → slice_get (logged_in ts) n ≡ Some x → Turned ts x) → Turned (t ∷ ts) x
+  by : ((t.group ≡ x.0) × Contains t.turn.logged x.1) ⊎ ((n : ℕ) × (slice_get (logged_in ts) n ≡ Some x))
+      → ((n : ℕ) → slice_get (logged_in ts) n ≡ Some x → Turned ts x) → Turned (t ∷ ts) x
   by (inl (own, there)) rest = record { at = 0; turn = t; there = refl; own = own; logged = there }
   by (inr (n, there)) rest =
       let was : Turned ts x = rest n there in
       record { at = suc was.at; turn = was.turn; there = was.there; own = was.own; logged = was.logged }
 
 -- an entry is of its key's group where the calls are
-pub own-entry : (k count : ℕ) (turns : List GroupTurn) (i : ℕ) (x : ClusterEntry) → TurnsOwn k count turns → ClusterAnswersWithin k turns → slice_get (logged_in turns) i ≡ Some x → IsOwn k count x
+pub own-entry : (k count : ℕ) (turns : List GroupTurn) (i : ℕ) (x : ClusterEntry) → TurnsOwn k count turns
+    → ClusterAnswersWithin k turns → slice_get (logged_in turns) i ≡ Some x → IsOwn k count x
 own-entry k count turns i x all within there =
     let was : Turned turns x = turned turns i x there in
     let ask = within.asked was.at was.turn x.1 was.there was.logged in

@@ -1,5 +1,6 @@
 -- What is one group's among things that each are of a group, place by place.
-use Rattle.std.proofs.Common.{ℕ, zero, suc, ◌≡◌, ◌<◌, ◌≤◌, ◌+◌, ◌==◌, Bool, true, false, List, [], ◌∷◌, ◌++◌, length, take, Some, ◌⊎◌, inl, inr, refl, sym, ap, ◌∙◌, arith}
+use Rattle.std.proofs.Common.{ℕ, zero, suc, ◌≡◌, ◌<◌, ◌≤◌, ◌+◌, ◌==◌, Bool, true, false, List, [], ◌∷◌, ◌++◌, length}
+use Rattle.std.proofs.Common.{take, Some, ◌⊎◌, inl, inr, refl, sym, ap, ◌∙◌, arith}
 use Rattle.std.specs.Prelude.{slice_get}
 use Rattle.std.proofs.lemmas.Bool.{cases_lt, eq-eqb}
 use Rattle.std.proofs.lemmas.Option.{slice_get_within}
@@ -97,13 +98,15 @@ module _ {X Y : Type 0} (group : X → ℕ) (part : X → Y) (j : ℕ) where
       there = before.there;
       own = before.own;
       is = before.is;
-      here = front-long (group z == j) (part z) (picked (take before.at zs)) ∙ ap (λ (l : ℕ). length (front_if (group z == j) (part z) []) + l) before.here ∙ sum;
+      here = front-long (group z == j) (part z) (picked (take before.at zs))
+          ∙ ap (λ (l : ℕ). length (front_if (group z == j) (part z) []) + l) before.here ∙ sum;
     } where
       front-long : (b : Bool) (v : Y) (vs : List Y) → length (front_if b v vs) ≡ length (front_if b v []) + length vs
       front-long true v vs = omega arith
       front-long false v vs = omega arith
 
-    by : (i : ℕ) → slice_get (picked (z ∷ zs)) i ≡ Some y → ((n : ℕ) → slice_get (picked zs) n ≡ Some y → Stood zs n y) → IsOrNot (group z) j → Stood (z ∷ zs) i y
+    by : (i : ℕ) → slice_get (picked (z ∷ zs)) i ≡ Some y → ((n : ℕ) → slice_get (picked zs) n ≡ Some y → Stood zs n y)
+        → IsOrNot (group z) j → Stood (z ∷ zs) i y
     by zero is rest (inl (word, same)) =
         record {
           at = 0;

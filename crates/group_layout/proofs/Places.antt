@@ -35,7 +35,8 @@ one_a_node n count j q r wide ql rl same = by (cases_lt q r) where
       omega (arith, none, high)
 
 -- where the first of some processes isn't there, the next are looked through
-pub first-next : (n node j q m : ℕ) → (node_of n j q == node) ≡ false → first_on n node j (range_with_len q (suc m)) ≡ first_on n node j (range_with_len (q + 1) m)
+pub first-next : (n node j q m : ℕ) → (node_of n j q == node) ≡ false → first_on n node j (range_with_len q (suc m))
+    ≡ first_on n node j (range_with_len (q + 1) m)
 first-next n node j q m word = ap (λ (b : Bool). if b then Some q else first_on n node j (range_with_len (q + 1) m)) word
 
 pub first-here : (n node j q m : ℕ) → (node_of n j q == node) ≡ true → first_on n node j (range_with_len q (suc m)) ≡ Some q

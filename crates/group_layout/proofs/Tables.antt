@@ -22,5 +22,6 @@ logs_are_legal s n count es limits layout may =
     let log : List ClusterEntry = (cluster_after c es).groups.log in
     legal-from s.k count (no_items s.k) (λ j. empty_table s.k) log (record { counts = λ j. refl; items = λ key. refl })
     (each-of (IsOwn s.k count) log (entries_are_own s n count es limits layout may)) (λ j.
-    let run : MakesARun s (all_moved c.groups moves) (turns_made c.groups moves) j = makes-a-run s count moves limits (all-may s count c es (even-start s count) may) j in
+    let run : MakesARun s (all_moved c.groups moves) (turns_made c.groups moves) j =
+    makes-a-run s count moves limits (all-may s count c es (even-start s count) may) j in
     subst (λ (g : Groups). IsLegal s.k (entries_in j g.log)) (sym (groups-after c es)) run.legal)

@@ -19,7 +19,8 @@ counts-low None asked events all few = tt
 counts-low (Some c) asked events all few = let low = count-low asked events c.caller all in omega (arith, low, few)
 
 -- the counts once a call is counted
-pub counts-after : (o : Option NewCall) (events : ℕ) (asked : List ℕ) → IfSome o (λ c. c.caller < callers) → length asked ≡ callers → All (λ n. n ≤ events) asked
+pub counts-after : (o : Option NewCall) (events : ℕ) (asked : List ℕ) → IfSome o (λ c. c.caller < callers)
+    → length asked ≡ callers → All (λ n. n ≤ events) asked
     → (length (asked_after asked (call_in asked o)) ≡ callers) × All (λ n. n ≤ events + 1) (asked_after asked (call_in asked o))
 counts-after None events asked within long low = (long, All-weaker (λ n. n ≤ events) (λ n. n ≤ events + 1) (λ n low. omega (arith, low)) asked low)
 counts-after (Some c) events asked within long low =

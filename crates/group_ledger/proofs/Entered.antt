@@ -1,5 +1,6 @@
 -- What a call makes of the counts, the log and the tickets.
-use Rattle.std.proofs.Common.{ℕ, suc, ◌≡◌, ◌<◌, ◌+◌, Bool, true, false, List, [], ◌∷◌, ◌++◌, Some, length, get_or, set, refl, sym, ap, ◌∙◌, arith, if◌then◌else◌}
+use Rattle.std.proofs.Common.{ℕ, suc, ◌≡◌, ◌<◌, ◌+◌, Bool, true, false, List, [], ◌∷◌, ◌++◌, Some, length, get_or, set}
+use Rattle.std.proofs.Common.{refl, sym, ap, ◌∙◌, arith, if◌then◌else◌}
 use Rattle.std.proofs.lemmas.List.{append-nil}
 use Rattle.group_types.specs.Lists.{at, put}
 use Rattle.group_types.proofs.Lists.{at_index, set_put}
@@ -13,7 +14,8 @@ use Rattle.group_ledger.specs.Books.{refusal_if, refusal_in}
 pub count-here : (asked : List ℕ) (caller : ℕ) → caller < length asked → get_or asked caller 0 ≡ at 0 asked caller
 count-here asked caller within = sym (at_index 0 0 asked caller within)
 
-pub counted : (asked : List ℕ) (caller : ℕ) → caller < length asked → set asked caller (get_or asked caller 0 + 1) ≡ put 0 asked caller (suc (at 0 asked caller))
+pub counted : (asked : List ℕ) (caller : ℕ) → caller < length asked → set asked caller (get_or asked caller 0 + 1)
+    ≡ put 0 asked caller (suc (at 0 asked caller))
 counted asked caller within =
     let here = count-here asked caller within in
     let more : get_or asked caller 0 + 1 ≡ suc (at 0 asked caller) = omega (arith, here) in

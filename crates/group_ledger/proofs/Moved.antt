@@ -1,5 +1,6 @@
 -- Ops that move out of their tickets one after another are those that the machine moves at once.
-use Rattle.std.proofs.Common.{ℕ, suc, ◌≡◌, ◌≢◌, ◌||◌, Bool, true, false, List, [], ◌∷◌, ◌++◌, Option, Some, None, length, map, get_or, refl, sym, ap, subst, ◌∙◌, arith, if◌then◌else◌}
+use Rattle.std.proofs.Common.{ℕ, suc, ◌≡◌, ◌≢◌, ◌||◌, Bool, true, false, List, [], ◌∷◌, ◌++◌, Option, Some, None}
+use Rattle.std.proofs.Common.{length, map, get_or, refl, sym, ap, subst, ◌∙◌, arith, if◌then◌else◌}
 use Rattle.std.proofs.lemmas.List.{append-nil, append_assoc, get_or_append_left, length-append}
 use Rattle.std.proofs.lemmas.List.Folds.{list_any-append}
 use Rattle.std.specs.List.{list_any}
@@ -92,7 +93,8 @@ op-kept name es fresh (t ∷ ts) = op-first name es t ts ∙ by (same_call t.nam
       (ap (λ (n : CallName). is_among n es) (same-is t.name name own) ∙ fresh)
       ∙ ap (λ (o : Option Asked). if same_call t.name name then t.op else o) rest
   by false other rest =
-      ap (λ (v : Bool). if v then (op_moved es t).op else op_in name (moved es ts)) other ∙ rest ∙ sym (ap (λ (v : Bool). if v then t.op else op_in name ts) other)
+      ap (λ (v : Bool). if v then (op_moved es t).op else op_in name (moved es ts)) other ∙ rest
+      ∙ sym (ap (λ (v : Bool). if v then t.op else op_in name ts) other)
 
 -- a call without an op has none later
 still-none : (es : List Entry) (t : Ticket) → t.op ≡ None → (op_moved es t).op ≡ None
@@ -228,4 +230,6 @@ module _ (ts : List Ticket) (differ : Differ ts) where
       let next : Ledger = ledger_with ts d us l in
       let more = ledger-more settled ds next in
       let once2 : Once next.logged = once-front next.logged more.0 (subst Once more.1 once) in
-      ap (accounts_after settled ds) (settles-one d before l us (subst Once (grown-is l.logged (entries_for ts us)) once2)) ∙ settles settled before ds next once
+      ap (accounts_after settled ds)
+      (settles-one d before l us (subst Once (grown-is l.logged (entries_for ts us)) once2))
+      ∙ settles settled before ds next once

@@ -1,5 +1,7 @@
 -- What is settled, partition by partition.
-use Rattle.std.proofs.Common.{ℕ, suc, ◌≡◌, ◌<◌, ◌≤◌, ◌+◌, ◌-◌, ◌==◌, nat_le, Bool, true, false, List, [], ◌∷◌, ◌++◌, Option, length, map, drop, get_or, set, Vec, Global, ◌⊎◌, inl, inr, refl, sym, ap, subst, ◌∙◌, arith, if◌then◌else◌}
+use Rattle.std.proofs.Common.{ℕ, suc, ◌≡◌, ◌<◌, ◌≤◌, ◌+◌, ◌-◌, ◌==◌, nat_le, Bool, true, false, List, [], ◌∷◌, ◌++◌}
+use Rattle.std.proofs.Common.{Option, length, map, drop, get_or, set, Vec, Global, ◌⊎◌, inl, inr, refl, sym, ap, subst}
+use Rattle.std.proofs.Common.{◌∙◌, arith, if◌then◌else◌}
 use Rattle.std.proofs.lemmas.Grind.{common_steps, get_or-set_at}
 use Rattle.std.proofs.lemmas.Bool.{cases_lt}
 use Rattle.std.proofs.lemmas.List.{drop-drop, drop-set-lt, get_or-drop, get_or-set_other, length-map, map-set}
@@ -19,7 +21,8 @@ abbrev pub still : ℕ → List Settlement → ℕ
 still d [] = 0
 still d (x ∷ xs) = if nat_le d x.partition then suc (still d xs) else still d xs
 
-still-at : (d : ℕ) (x : Settlement) (xs : List Settlement) (b : Bool) → nat_le d x.partition ≡ b → still d (x ∷ xs) ≡ (if b then suc (still d xs) else still d xs)
+still-at : (d : ℕ) (x : Settlement) (xs : List Settlement) (b : Bool) → nat_le d x.partition ≡ b
+    → still d (x ∷ xs) ≡ (if b then suc (still d xs) else still d xs)
 still-at d x xs b e = ap (λ (b : Bool). if b then suc (still d xs) else still d xs) e
 
 settled-at : (d : ℕ) (x : Settlement) (xs : List Settlement) (b : Bool) → (x.partition == d) ≡ b
@@ -70,7 +73,8 @@ set-placed places d p within =
 
 pub place-at : (places : Places) (d : ℕ) (p : Vec (Option Run) Global) → d < length places → (get_or places d p).items ≡ at [] (items_of places) d
 place-at places d p within =
-    ap (λ (q : Vec (Option Run) Global). q.items) (sym (at_index p p places d within)) ∙ sym (at-map p [] (λ (p : Vec (Option Run) Global). p.items) places d within)
+    ap (λ (q : Vec (Option Run) Global). q.items) (sym (at_index p p places d within))
+    ∙ sym (at-map p [] (λ (p : Vec (Option Run) Global). p.items) places d within)
 
 -- a partition is settled, and the others are left
 pub left-partition : (settled : List Settlement) (d k count : ℕ) (places : Places) (log log2 : List Entry) (tickets tickets2 : List Ticket)
@@ -99,7 +103,8 @@ left-partition settled d k count places log log2 tickets tickets2 p q below with
 pub alike-at : {X : Type 0} (xs ys : List X) (d : ℕ) (p : X) → drop d xs ≡ drop d ys → get_or xs d p ≡ get_or ys d p
 alike-at xs ys d p same =
     let here : d + 0 ≡ d = omega arith in
-    sym (get_or-drop d xs 0 p ∙ ap (λ (n : ℕ). get_or xs n p) here) ∙ ap (λ (zs : List _). get_or zs 0 p) same ∙ get_or-drop d ys 0 p ∙ ap (λ (n : ℕ). get_or ys n p) here
+    sym (get_or-drop d xs 0 p ∙ ap (λ (n : ℕ). get_or xs n p) here) ∙ ap (λ (zs : List _). get_or zs 0 p) same
+    ∙ get_or-drop d ys 0 p ∙ ap (λ (n : ℕ). get_or ys n p) here
 
 pub alike-behind : {X : Type 0} (xs ys : List X) (d : ℕ) (p : X) → drop d xs ≡ drop d ys → drop (d + 1) (set xs d p) ≡ drop (d + 1) ys
 alike-behind xs ys d p same =
@@ -111,7 +116,8 @@ pub items-kept : (places : Places) (d : ℕ) (p q : Vec (Option Run) Global) →
     → items_of (set places d q) ≡ items_of places
 items-kept places d p q within same =
     let long = length-map places (λ (p : Vec (Option Run) Global). p.items) in
-    set-placed places d q within ∙ ap (put [] (items_of places) d) (same ∙ place-at places d p within) ∙ put-at [] [] (items_of places) d (omega (arith, long, within))
+    set-placed places d q within ∙ ap (put [] (items_of places) d) (same ∙ place-at places d p within)
+    ∙ put-at [] [] (items_of places) d (omega (arith, long, within))
 
 -- what holds of the entries below a place, and of the one that is set there
 pub below-set : {X : Type 0} (P : X → Type 0) (xs : List X) (d : ℕ) (q : X) → d < length xs → ((k : ℕ) (p : X) → k < d → P (get_or xs k p)) → P q

@@ -1,5 +1,6 @@
 -- What is recorded of an event is the machine's.
-use Rattle.std.proofs.Common.{ℕ, suc, ◌≡◌, ◌≢◌, ◌<◌, ◌≤◌, ◌⊎◌, inl, inr, Bool, true, false, List, [], ◌∷◌, ◌++◌, Option, Some, None, All, length, refl, sym, ap, subst, ◌∙◌, arith, if◌then◌else◌, ◌||◌}
+use Rattle.std.proofs.Common.{ℕ, suc, ◌≡◌, ◌≢◌, ◌<◌, ◌≤◌, ◌⊎◌, inl, inr, Bool, true, false, List, [], ◌∷◌, ◌++◌, Option}
+use Rattle.std.proofs.Common.{Some, None, All, length, refl, sym, ap, subst, ◌∙◌, arith, if◌then◌else◌, ◌||◌}
 use Rattle.std.proofs.lemmas.Bool.{cases_eq}
 use Rattle.std.proofs.lemmas.List.Elements.{All-map, All-push, All-weaker}
 use Rattle.std.proofs.lemmas.List.Quantifiers.{all_pairs_push}
@@ -13,7 +14,8 @@ use Rattle.group_calls.specs.declared.entry.Entry.{Entry}
 use Rattle.group_calls.specs.declared.event.Answer.{Answer}
 use Rattle.group_calls.specs.declared.event.Answer.TheVariants as says
 use Rattle.group_run.specs.Applying.{Settlement}
-use Rattle.group_run.specs.World.{Call, Ledger, Ticket, asked_after, grown, is_issued, logged_at_once, op_moved, refusal_logged, same_call, ticket_if, tickets_after}
+use Rattle.group_run.specs.World.{Call, Ledger, Ticket, asked_after, grown, is_issued, logged_at_once, op_moved}
+use Rattle.group_run.specs.World.{refusal_logged, same_call, ticket_if, tickets_after}
 use Rattle.group_ledger.specs.Accounts.{Accounts, accounts_after, accounts_of}
 use Rattle.group_ledger.specs.Books.{Books, Once, Stand, call_in, recorded, settled_by}
 use Rattle.group_ledger.specs.Taking.{Differ}
@@ -82,7 +84,8 @@ accounts_in b = accounts_of b.log b.places b.tickets
 
 pub accounts-are : (b : Books) (o : Option Call) (answer : Answer) (settled : List Settlement) → Fresh o b.tickets → Differ b.tickets
     → Once (settled_by o answer settled b).logged
-    → accounts_after settled (range_with_len 0 b.shape.k) (accounts_of (b.log ++ logged_at_once o answer) b.places (tickets_after (length b.log) o answer b.tickets))
+    → accounts_after settled (range_with_len 0 b.shape.k)
+    (accounts_of (b.log ++ logged_at_once o answer) b.places (tickets_after (length b.log) o answer b.tickets))
     ≡ accounts_in (recorded o answer settled b)
 accounts-are b o answer settled fresh differs once =
     let ts : List Ticket = tickets_after (length b.log) o answer b.tickets in
@@ -139,7 +142,8 @@ module _ (b : Books) (c : Option NewCall) (answer : Answer) (settled : List Sett
         asked_is = counted ∙ ap (λ (x : Option Call). asked_after asked x) same ∙ ap (λ (xs : List ℕ). asked_after xs o) is.asked_is;
         accounts_are = a-is ∙ ap (λ (n : ℕ). accounts_after settled (ds n) (accounts_of log2 places tickets2)) wide
             ∙ ap (λ (es : List Entry). accounts_after settled (ds b.shape.k) (accounts_of es places tickets2)) log-now
-            ∙ ap (λ (rs : List (List (Option Run))). accounts_after settled (ds b.shape.k) (accounts_of (b.log ++ logged_at_once o answer) rs tickets2)) is.places_are
+            ∙ ap (λ (rs : List (List (Option Run))). accounts_after settled (ds b.shape.k)
+            (accounts_of (b.log ++ logged_at_once o answer) rs tickets2)) is.places_are
             ∙ ap (λ (ts : List Ticket). accounts_after settled (ds b.shape.k) (accounts_of (b.log ++ logged_at_once o answer) b.places ts))
             (tickets-then tickets2 tickets-are)
             ∙ accounts-are b o answer settled fresh stand.differ once;

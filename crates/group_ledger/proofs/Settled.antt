@@ -1,5 +1,7 @@
 -- What is settled of a partition, one update after the other.
-use Rattle.std.proofs.Common.{ℕ, suc, ◌≡◌, ◌<◌, ◌≤◌, ◌+◌, ◌==◌, ◌&&◌, nat_lt, Bool, true, false, List, [], ◌∷◌, ◌++◌, Option, Some, None, length, map, drop, get_or, refl, sym, ap, subst, ◌∙◌, arith, if◌then◌else◌}
+use Rattle.std.proofs.Common.{ℕ, suc, ◌≡◌, ◌<◌, ◌≤◌, ◌+◌, ◌==◌, ◌&&◌, nat_lt, Bool, true, false, List, [], ◌∷◌, ◌++◌}
+use Rattle.std.proofs.Common.{Option, Some, None, length, map, drop, get_or, refl, sym, ap, subst, ◌∙◌, arith}
+use Rattle.std.proofs.Common.{if◌then◌else◌}
 use Rattle.std.proofs.lemmas.List.{append_assoc, get_or-map, length-append, length-map}
 use Rattle.std.proofs.Math.Seq.{drop-cons}
 use Rattle.group_types.specs.declared.run.Run.{Run}
@@ -30,9 +32,11 @@ new-in count u us true high = ap (λ (b : Bool). if b then u ∷ new_ones count 
 new-in count u us false low = ap (λ (b : Bool). if b then u ∷ new_ones count us else new_ones count us) low
 
 -- an update of the partition counts among those that are settled
-pub new-counts : (d count : ℕ) (x : Settlement) (rest : List Settlement) → is_new d count x ≡ true → length (settled_in d (x ∷ rest)) ≡ suc (length (settled_in d rest))
+pub new-counts : (d count : ℕ) (x : Settlement) (rest : List Settlement) → is_new d count x ≡ true
+    → length (settled_in d (x ∷ rest)) ≡ suc (length (settled_in d rest))
 new-counts d count x rest new = by (x.partition == d) refl new where
-  by : (here : Bool) → (x.partition == d) ≡ here → (here && nat_lt count x.update.number) ≡ true → length (settled_in d (x ∷ rest)) ≡ suc (length (settled_in d rest))
+  by : (here : Bool) → (x.partition == d) ≡ here → (here && nat_lt count x.update.number) ≡ true
+      → length (settled_in d (x ∷ rest)) ≡ suc (length (settled_in d rest))
   by true here new = ap (λ (b : Bool). length (front_if b x.update (settled_in d rest))) here
   by false here new = absurd (cc new)
 
@@ -71,7 +75,8 @@ entry-behind u None log entries = append_assoc log [] entries
 entry-behind u (Some op) log entries = append_assoc log _ entries
 
 -- one more is settled
-pub left-settled : (d count : ℕ) (from rest : List Settlement) (x : Settlement) (log log2 log_then : List Entry) (places places2 places_then : List (Option Run))
+pub left-settled : (d count : ℕ) (from rest : List Settlement) (x : Settlement) (log log2 log_then : List Entry)
+    (places places2 places_then : List (Option Run))
     (tickets tickets2 tickets_then : List Ticket) → from ≡ x ∷ rest → is_new d count x ≡ true
     → log2 ≡ log ++ entry_then x.update (op_in (update_name x.update) tickets) [] → places2 ≡ places ++ run_of x.update.body ∷ []
     → tickets2 ≡ map (op_taken (update_name x.update)) tickets

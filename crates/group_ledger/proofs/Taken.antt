@@ -1,5 +1,6 @@
 -- The op of a call, among tickets of different calls.
-use Rattle.std.proofs.Common.{ℕ, zero, suc, ◌≡◌, ◌<◌, ◌≤◌, Bool, true, false, List, [], ◌∷◌, None, length, map, get_or, set, refl, sym, ap, ◌∙◌, arith, if◌then◌else◌}
+use Rattle.std.proofs.Common.{ℕ, zero, suc, ◌≡◌, ◌<◌, ◌≤◌, Bool, true, false, List, [], ◌∷◌, None, length, map, get_or}
+use Rattle.std.proofs.Common.{set, refl, sym, ap, ◌∙◌, arith, if◌then◌else◌}
 use Rattle.std.proofs.lemmas.List.{get_or_default}
 use Rattle.group_calls.specs.Turns.{CallName}
 use Rattle.group_run.specs.World.{Ticket, op_in, same_call}

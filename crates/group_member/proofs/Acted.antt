@@ -15,7 +15,8 @@ use Rattle.group_wire.specs.Sets.{entry_at, without}
 use Rattle.group_wire.specs.State.{Request, AskFor, TraceOf, Told, Unasked, Unknown, OpenCall, Group}
 use Rattle.group_wire.specs.Stepping.{group_after}
 use Rattle.group_member.specs.Acting.{Acts, ActsHanding, answer_handed, request_handed}
-use Rattle.group_member.specs.Callers.{CanBeAsked, CanBeTraced, IsItsCaller, OwnCaller, ask_for, ask_of, asked_of, caller_of, is_unasked, is_unknown, trace_of, with_caller}
+use Rattle.group_member.specs.Callers.{CanBeAsked, CanBeTraced, IsItsCaller, OwnCaller, ask_for, ask_of, asked_of}
+use Rattle.group_member.specs.Callers.{caller_of, is_unasked, is_unknown, trace_of, with_caller}
 use Rattle.group_member.specs.Requests.{HasGateway}
 use Rattle.group_member.specs.Standing.{HandedFrames, Member, MemberStands}
 use Rattle.group_member.specs.Telling.{callers_heard, handed_of}
@@ -38,11 +39,13 @@ without-behind [] x = refl
 without-behind (y ∷ xs) x = ap (λ (l : List _). y ∷ l) (without-behind xs x)
 
 -- a member reads its own wires
-reads-own : (g : Group) (out : HandedFrames) (v : Member) (asked : List Request) (told : List Told) → AreWords v.words → StandsWith g out v asked told → MayAct g (Learn v.words.name v.words.name)
+reads-own : (g : Group) (out : HandedFrames) (v : Member) (asked : List Request) (told : List Told) → AreWords v.words
+    → StandsWith g out v asked told → MayAct g (Learn v.words.name v.words.name)
 reads-own g out v asked told words st = reads-from g out v asked told st v.words.name words.member words.lives
 
 -- a call is asked of another, or traced there
-pub ask-acts : (v : Member) (caller : ℕ) (x : ProcessId) (o : OpenCall) → IsItsCaller v.callers caller → (caller_of v.callers caller).call ≡ Some o → o.stage ≡ Unasked
+pub ask-acts : (v : Member) (caller : ℕ) (x : ProcessId) (o : OpenCall) → IsItsCaller v.callers caller
+    → (caller_of v.callers caller).call ≡ Some o → o.stage ≡ Unasked
     → CanReadFrom v.words x → ActsHanding (Send caller x ∷ []) (request_handed x (AskFor caller (caller_of v.callers caller).next o.op)) v
     (record v { callers = with_caller v.callers caller (state_asked v caller x) })
 ask-acts v caller x o its opened unasked can g out st = record {
@@ -50,7 +53,8 @@ ask-acts v caller x o its opened unasked can g out st = record {
   stands = with-stands (ask-to g out v (stands-with st) caller its o opened x can unasked);
 }
 
-pub trace-acts : (v : Member) (caller : ℕ) (x : ProcessId) (o : OpenCall) → IsItsCaller v.callers caller → (caller_of v.callers caller).call ≡ Some o → o.stage ≡ Unknown
+pub trace-acts : (v : Member) (caller : ℕ) (x : ProcessId) (o : OpenCall) → IsItsCaller v.callers caller
+    → (caller_of v.callers caller).call ≡ Some o → o.stage ≡ Unknown
     → CanReadFrom v.words x
     → ActsHanding (Send caller x ∷ []) (request_handed x (TraceOf caller o.position (home_of (key_of o.op.act) v.words.shape.k))) v
     (record v { callers = with_caller v.callers caller (state_traced v caller x) })
@@ -93,7 +97,8 @@ collect-acts v caller call node t words can step tells its g out st =
     }
 
 -- what a member sends itself it reads, treats and learns
-module _ (v : Member) (caller : ℕ) (o : OpenCall) (its : IsItsCaller v.callers caller) (opened : (caller_of v.callers caller).call ≡ Some o) (words : AreWords v.words) where
+module _ (v : Member) (caller : ℕ) (o : OpenCall) (its : IsItsCaller v.callers caller)
+    (opened : (caller_of v.callers caller).call ≡ Some o) (words : AreWords v.words) where
   here-acts : (state : OwnCaller) (r : Request) (node : Node) (t : Option Told)
       → ((g : Group) (out : HandedFrames) → MemberStands g out v
       → StandsWith (group_after g (Send caller v.words.name)) out (record v { callers = with_caller v.callers caller state }) (r ∷ []) [])
@@ -111,7 +116,8 @@ module _ (v : Member) (caller : ℕ) (o : OpenCall) (its : IsItsCaller v.callers
       let g3 = group_after g2 (Treat p n) in
       let one = sent g out st in
       let two = read-own g1 out asked r one in
-      let three = treated-at g2 out read two words.lives (treating v.words.shape r v.node.process) node (record { process = step.process; sends = step.sends }) t n r
+      let three = treated-at g2 out read two words.lives (treating v.words.shape r v.node.process) node
+      (record { process = step.process; sends = step.sends }) t n r
       (entry-behind v.parked r) refl tells in
       let treated : Member = record read { parked = without read.parked n; node = node } in
       let there = subst (λ (h : Option Told). StandsWith g3 (answer_handed v.words.shape h out) treated [] (own_of v.words t)) nothing three in
@@ -128,7 +134,8 @@ module _ (v : Member) (caller : ℕ) (o : OpenCall) (its : IsItsCaller v.callers
 
   pub ask-here-acts : o.stage ≡ Unasked → (node : Node) (t : Option Told)
       → HasStep v (treating v.words.shape (AskFor caller (caller_of v.callers caller).next o.op) v.node.process) node
-      → told_of (AskFor caller (caller_of v.callers caller).next o.op) (treating v.words.shape (AskFor caller (caller_of v.callers caller).next o.op) v.node.process).answer ≡ listed t
+      → told_of (AskFor caller (caller_of v.callers caller).next o.op)
+      (treating v.words.shape (AskFor caller (caller_of v.callers caller).next o.op) v.node.process).answer ≡ listed t
       → handed_of v.words t ≡ None → IsOwns (record v { callers = with_caller v.callers caller (state_asked v caller v.words.name) }) t
       → Acts (sent_here v caller) v
       (record v { callers = callers_heard v.words v.signs.pinged t (with_caller v.callers caller (state_asked v caller v.words.name)); node = node })
@@ -154,7 +161,8 @@ asks v caller x can reads r is =
     let one = open-at is_unasked (caller_of v.callers caller).call can.unasked in
     let n = (caller_of v.callers caller).next in
     let same : r ≡ AskFor caller n one.opened.op = cc (is, ap (ask_for caller n) one.is) in
-    subst (λ (q : Request). ActsHanding (Send caller x ∷ []) (request_handed x q) v (record v { callers = with_caller v.callers caller (asked_of x (caller_of v.callers caller)) })) (sym same)
+    subst (λ (q : Request). ActsHanding (Send caller x ∷ []) (request_handed x q) v
+    (record v { callers = with_caller v.callers caller (asked_of x (caller_of v.callers caller)) })) (sym same)
     (ask-acts v caller x one.opened can.its one.is (unasked-is one.opened.stage one.stage) reads)
 
 pub traces : (v : Member) (caller : ℕ) (x : ProcessId) → CanBeTraced v.callers caller → CanReadFrom v.words x → (r : Request)
@@ -164,5 +172,6 @@ traces v caller x can reads r is =
     let one = open-at is_unknown (caller_of v.callers caller).call can.unknown in
     let o = one.opened in
     let same : r ≡ TraceOf caller o.position (home_of (key_of o.op.act) v.words.shape.k) = cc (is, ap (trace_of v.words.shape.k caller) one.is) in
-    subst (λ (q : Request). ActsHanding (Send caller x ∷ []) (request_handed x q) v (record v { callers = with_caller v.callers caller (state_traced v caller x) })) (sym same)
+    subst (λ (q : Request). ActsHanding (Send caller x ∷ []) (request_handed x q) v
+    (record v { callers = with_caller v.callers caller (state_traced v caller x) })) (sym same)
     (trace-acts v caller x o can.its one.is (unknown-is o.stage one.stage) reads)

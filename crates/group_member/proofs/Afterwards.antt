@@ -11,7 +11,8 @@ use Rattle.group_wire.specs.Serving.{handed_to}
 use Rattle.group_wire.specs.Sets.{entry_at, without}
 use Rattle.group_wire.specs.State.{Request, AskFor, TraceOf, Told}
 use Rattle.group_member.specs.Acting.{Acts, ActsHanding, answer_handed}
-use Rattle.group_member.specs.Callers.{AreCallersOf, CanBeAsked, CanBeTraced, IsItsCaller, OwnCaller, OwnCallers, ask_for, ask_of, caller_of, is_unasked, is_unknown, trace_of, with_caller}
+use Rattle.group_member.specs.Callers.{AreCallersOf, CanBeAsked, CanBeTraced, IsItsCaller, OwnCaller, OwnCallers}
+use Rattle.group_member.specs.Callers.{ask_for, ask_of, caller_of, is_unasked, is_unknown, trace_of, with_caller}
 use Rattle.group_member.specs.Requests.{HasGateway, IsTreatable}
 use Rattle.group_member.specs.Standing.{Member}
 use Rattle.group_member.specs.Telling.{callers_heard, handed_of, told_for, told_to}
@@ -25,7 +26,8 @@ use Rattle.group_member.proofs.Told.{listed}
 use Rattle.group_member.proofs.Here.{asks-here, collected-of, collects, heard-own, made-of, step-whole, traces-here, treats}
 
 -- a request that was treated, or a call that was collected
-module _ (v : Member) (s : Dimensions) (whole : IsWhole s v.words v.signs v.callers v.parked v.node) (t : NodeStep) (told handed : Option Told) (pinged : ℕ) (callers : OwnCallers)
+module _ (v : Member) (s : Dimensions) (whole : IsWhole s v.words v.signs v.callers v.parked v.node) (t : NodeStep)
+    (told handed : Option Told) (pinged : ℕ) (callers : OwnCallers)
     (number : pinged ≡ v.signs.pinged) (heard : callers ≡ callers_heard v.words pinged told v.callers) (on : handed ≡ handed_of v.words told) where
   heard-is : callers_heard v.words v.signs.pinged told v.callers ≡ callers
   heard-is = ap (λ (n : ℕ). callers_heard v.words n told v.callers) (sym number) ∙ sym heard
@@ -37,13 +39,16 @@ module _ (v : Member) (s : Dimensions) (whole : IsWhole s v.words v.signs v.call
   treats-as place r there step is parked out =
       subst (λ (h : Option Told). ActsHanding (Treat v.words.name place ∷ Learn v.words.name v.words.name ∷ []) (answer_handed v.words.shape h) v
       (record v { callers = callers; parked = parked; node = t.node })) (sym on)
-      (subst (λ (rs : List Request). ActsHanding (Treat v.words.name place ∷ Learn v.words.name v.words.name ∷ []) (answer_handed v.words.shape (handed_of v.words told)) v
+      (subst (λ (rs : List Request). ActsHanding (Treat v.words.name place ∷ Learn v.words.name v.words.name ∷ [])
+      (answer_handed v.words.shape (handed_of v.words told)) v
       (record v { callers = callers; parked = rs; node = t.node })) (sym (out ∙ remove-is v.parked place))
-      (subst (λ (c : OwnCallers). ActsHanding (Treat v.words.name place ∷ Learn v.words.name v.words.name ∷ []) (answer_handed v.words.shape (handed_of v.words told)) v
+      (subst (λ (c : OwnCallers). ActsHanding (Treat v.words.name place ∷ Learn v.words.name v.words.name ∷ [])
+      (answer_handed v.words.shape (handed_of v.words told)) v
       (record v { callers = c; parked = without v.parked place; node = t.node })) heard-is
       (treats v s whole place r there t step told is)))
 
-  pub treats-whole : (new : Dimensions) → new ≡ s → (place : ℕ) (r : Request) → treat_node s r v.node ≡ t → (parked : List Request) → parked ≡ remove v.parked place
+  pub treats-whole : (new : Dimensions) → new ≡ s → (place : ℕ) (r : Request) → treat_node s r v.node ≡ t
+      → (parked : List Request) → parked ≡ remove v.parked place
       → IsWhole new v.words v.signs callers parked t.node
   treats-whole new same place r step parked out = record {
     member = step-whole v s whole new same t (made-of v s whole r t step).whole;
@@ -57,10 +62,12 @@ module _ (v : Member) (s : Dimensions) (whole : IsWhole s v.words v.signs v.call
   collects-as caller call can step is =
       subst (λ (h : Option Told). ActsHanding (Collect caller call v.words.name ∷ Learn v.words.name v.words.name ∷ []) (answer_handed v.words.shape h) v
       (record v { callers = callers; node = t.node })) (sym on)
-      (subst (λ (c : OwnCallers). ActsHanding (Collect caller call v.words.name ∷ Learn v.words.name v.words.name ∷ []) (answer_handed v.words.shape (handed_of v.words told)) v
+      (subst (λ (c : OwnCallers). ActsHanding (Collect caller call v.words.name ∷ Learn v.words.name v.words.name ∷ [])
+      (answer_handed v.words.shape (handed_of v.words told)) v
       (record v { callers = c; node = t.node })) heard-is (collects v s whole caller call can t step told is))
 
-  pub collects-whole : (new : Dimensions) → new ≡ s → (caller call : ℕ) → collect_node s caller call v.node ≡ t → IsWhole new v.words v.signs callers v.parked t.node
+  pub collects-whole : (new : Dimensions) → new ≡ s → (caller call : ℕ) → collect_node s caller call v.node ≡ t
+      → IsWhole new v.words v.signs callers v.parked t.node
   collects-whole new same caller call step = record {
     member = step-whole v s whole new same t (collected-of v s whole caller call t step).whole;
     own = subst (AreCallersOf v.words.shape v.words.name) heard-is (heard-own v whole.own whole.member.words.member v.signs.pinged told);
@@ -68,10 +75,12 @@ module _ (v : Member) (s : Dimensions) (whole : IsWhole s v.words v.signs v.call
   }
 
 -- and of a call of its own
-module _ (v : Member) (s : Dimensions) (whole : IsWhole s v.words v.signs v.callers v.parked v.node) (caller : ℕ) (t : NodeStep) (told : Option Told) (pinged : ℕ)
+module _ (v : Member) (s : Dimensions) (whole : IsWhole s v.words v.signs v.callers v.parked v.node) (caller : ℕ)
+    (t : NodeStep) (told : Option Told) (pinged : ℕ)
     (before after : OwnCallers) (number : pinged ≡ v.signs.pinged) (heard : after ≡ callers_heard v.words pinged told before) where
   after-is : (between : OwnCallers) → before ≡ between → callers_heard v.words v.signs.pinged told between ≡ after
-  after-is between is = ap (λ (c : OwnCallers). callers_heard v.words v.signs.pinged told c) (sym is) ∙ ap (λ (n : ℕ). callers_heard v.words n told before) (sym number) ∙ sym heard
+  after-is between is = ap (λ (c : OwnCallers). callers_heard v.words v.signs.pinged told c) (sym is)
+      ∙ ap (λ (n : ℕ). callers_heard v.words n told before) (sym number) ∙ sym heard
 
   pub asks-as : CanBeAsked v.callers caller → before ≡ with_caller v.callers caller (state_asked v caller v.words.name)
       → ((r : Request) → ask_of v.callers caller ≡ Some r → treat_node s r v.node ≡ t) → told ≡ told_for caller (caller_of v.callers caller).next false t.answer
@@ -90,7 +99,8 @@ module _ (v : Member) (s : Dimensions) (whole : IsWhole s v.words v.signs v.call
   traces-as can is call d place step tells =
       let one = open-at is_unknown (caller_of v.callers caller).call can.unknown in
       let o = one.opened in
-      let r : TraceOf caller call d ≡ TraceOf caller o.position (home_of (key_of o.op.act) v.words.shape.k) = cc (place, ap (trace_of v.words.shape.k caller) one.is) in
+      let r : TraceOf caller call d ≡ TraceOf caller o.position (home_of (key_of o.op.act) v.words.shape.k) =
+      cc (place, ap (trace_of v.words.shape.k caller) one.is) in
       let same : call ≡ o.position = cc r in
       subst (λ (c : OwnCallers). Acts (sent_here v caller) v (record v { callers = c; node = t.node }))
       (after-is (with_caller v.callers caller (state_traced v caller v.words.name)) is)
@@ -105,7 +115,8 @@ module _ (v : Member) (s : Dimensions) (whole : IsWhole s v.words v.signs v.call
       record {
         member = step-whole v s whole new same t (made-of v s whole r t step).whole;
         own = subst (AreCallersOf v.words.shape v.words.name) (after-is between is)
-            (heard-own (record v { callers = between }) (still-own v.callers caller its state v.words.shape v.words.name whole.own) whole.member.words.member v.signs.pinged told);
+            (heard-own (record v { callers = between }) (still-own v.callers caller its state v.words.shape v.words.name
+            whole.own) whole.member.words.member v.signs.pinged told);
         fit = whole.fit;
       }
 

@@ -58,7 +58,8 @@ module _ (v : OwnCallers) (caller : ℕ) (its : IsItsCaller v caller) (state : O
     next = λ other is. nexts other (still-its other is);
   }
 
-  pub next-changed : (g : Gateways) → HasCallers g v → (other : ℕ) → IsItsCaller v other → changed_at g.next caller state.next other ≡ (caller_of now other).next
+  pub next-changed : (g : Gateways) → HasCallers g v → (other : ℕ) → IsItsCaller v other
+      → changed_at g.next caller state.next other ≡ (caller_of now other).next
   next-changed g has other is = elim (cases_eq other caller) [
     | inl same ↦ at-here g.next caller other state.next same ∙ sym (ap (λ (c : OwnCaller). c.next) (here other same))
     | inr apart ↦ at-other g.next caller other state.next apart ∙ has.next other is ∙ sym (ap (λ (c : OwnCaller). c.next) (elsewhere other is apart))

@@ -46,7 +46,8 @@ module _ {g : Group} {out : HandedFrames} {v : Member} where
   }
 
 -- requests and answers stay where other frames are handed out
-pub requests-stay : {g : Gateways} {out : HandedFrames} {name : ProcessId} {read : List Request} (now : HandedFrames) → now.requests ≡ out.requests → now.answers ≡ out.answers
+pub requests-stay : {g : Gateways} {out : HandedFrames} {name : ProcessId} {read : List Request} (now : HandedFrames)
+    → now.requests ≡ out.requests → now.answers ≡ out.answers
     → HasRequests g out name read [] [] → HasRequests g now name read [] []
 requests-stay now requests answers has = record {
   requests = λ q other. has.requests q other ∙ ap (λ (f : ProcessId → List Request). f q) (sym requests);

@@ -62,7 +62,9 @@ module _ (w : OwnWords) (v : OwnSigns) (ping : ℕ) where
   pub one_known : (x : ℕ) → known_below (x + 1) ≡ known_below x + counts (counts_for w v ping (process_at w.shape x))
   one_known x =
       let none : 0 + x ≡ x = omega arith in
-      let same : counts (counts_for w v ping (process_at w.shape (0 + x))) ≡ counts (counts_for w v ping (process_at w.shape x)) = ap (λ (b : ℕ). counts (counts_for w v ping (process_at w.shape b))) none in
+      let same : counts (counts_for w v ping (process_at w.shape (0 + x)))
+      ≡ counts (counts_for w v ping (process_at w.shape x)) =
+      ap (λ (b : ℕ). counts (counts_for w v ping (process_at w.shape b))) none in
       let more = at-end (λ y. counts_for w v ping (process_at w.shape y)) 0 x in
       omega (arith, more, same)
 
@@ -76,6 +78,7 @@ module _ (w : OwnWords) (v : OwnSigns) (ping : ℕ) where
   pub all_known : AreWords w → known_below (w.shape.k + w.shape.m) ≡ size_of w.shape (own_answerers w v ping) + lost_of w.taken
   all_known words =
       let parts : known_below (w.shape.k + w.shape.m) ≡ size_of w.shape (own_answerers w v ping) + size_of w.shape (knows_dead w.taken) =
-      apart (λ y. knows_dead w.taken (process_at w.shape y)) (λ y. nat_lt ping (at 0 v.answered (index_of w.shape (process_at w.shape y)))) (w.shape.k + w.shape.m) 0 in
+      apart (λ y. knows_dead w.taken (process_at w.shape y))
+      (λ y. nat_lt ping (at 0 v.answered (index_of w.shape (process_at w.shape y)))) (w.shape.k + w.shape.m) 0 in
       let taken = sizes_are_counts w.shape w.taken (λ x is. words.named x (words.permitted x (words.taken x is))) in
       omega (arith, parts, taken)

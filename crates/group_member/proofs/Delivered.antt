@@ -81,7 +81,8 @@ module _ (s : Dimensions) (from : ProcessId) (m : Message) (node : Node) where
       ∙ link-grows s step node q member unknown
 
 -- one that isn't cut isn't known dead
-pub unknown-uncut : (w : OwnWords) (known : Membership) → AreWords w → AreAmong known w.taken → (q : ProcessId) → knows_dead w.cut q ≡ false → knows_dead known q ≡ false
+pub unknown-uncut : (w : OwnWords) (known : Membership) → AreWords w → AreAmong known w.taken → (q : ProcessId)
+    → knows_dead w.cut q ≡ false → knows_dead known q ≡ false
 unknown-uncut w known whole among q uncut =
     unknown-among known w.cut q (λ is. whole.permitted q (whole.taken q (among q is))) uncut
 
@@ -109,7 +110,8 @@ receive-whole v from m plain whole =
       counts = whole.counts;
     }
 
-pub receive-acts : (v : Member) (from : ProcessId) (m : Message) → CanReadFrom v.words from → is_notice m ≡ false → AreWords v.words → IsWholeMember v.words.shape v.words v.signs v.node
+pub receive-acts : (v : Member) (from : ProcessId) (m : Message) → CanReadFrom v.words from → is_notice m ≡ false
+    → AreWords v.words → IsWholeMember v.words.shape v.words v.signs v.node
     → ActsWhere (MessageComes from v.words.name m) (Receive from v.words.name ∷ []) (λ out. out) v
     (record v { node = (receive_node v.words.shape from m v.node).node })
 receive-acts v from m can plain words whole g out st comes =
@@ -188,11 +190,13 @@ take-whole-too v x words whole =
       shape_is = refl;
       lives = heard-lives s x (tells.Notice x) v.node ∙ whole.lives;
       up = heard-up s x (tells.Notice x) v.node ∙ whole.up;
-      known = subst (λ (known : Membership). AreAmong known (with_dead v.words.taken x)) (sym (heard-known s x (tells.Notice x) v.node)) (taken-among v x whole.known);
+      known = subst (λ (known : Membership). AreAmong known (with_dead v.words.taken x))
+          (sym (heard-known s x (tells.Notice x) v.node)) (taken-among v x whole.known);
       counts = whole.counts;
     }
 
-pub take-acts : (v : Member) (x : ProcessId) → CanTakeDeath v.words x → AreWords v.words → AreWords (with_taken v x).words → IsWholeMember v.words.shape v.words v.signs v.node
+pub take-acts : (v : Member) (x : ProcessId) → CanTakeDeath v.words x → AreWords v.words
+    → AreWords (with_taken v x).words → IsWholeMember v.words.shape v.words v.signs v.node
     → Acts (Take x v.words.name ∷ []) v (with_taken v x)
 take-acts v x can words after-words whole g out st =
     let w = v.words in
@@ -209,7 +213,13 @@ take-acts v x can words after-words whole g out st =
     (λ same. cc (uncut, cut, ap (knows_dead w.cut) (one-dead x q same))) in
     record {
       may = (
-        (st.here, subst (λ (d : Dimensions). IsProcess d x) (sym st.shape) (words.named x cut), st.words.permitted x ∙ can.permitted, st.words.taken x ∙ can.fresh),
+        (
+          st.here,
+          subst (λ (d : Dimensions). IsProcess d x) (sym st.shape) (words.named x cut),
+          st.words.permitted x
+              ∙ can.permitted,
+          st.words.taken x ∙ can.fresh,
+        ),
         tt,
       );
       stands = record {
@@ -261,7 +271,8 @@ module _ (v : Member) (whole : IsWholeMember v.words.shape v.words v.signs v.nod
       let step : (flush_process g.shape (g.works.process p)).step ≡ t =
       ap (λ (d : Dimensions). (flush_process d (g.works.process p)).step) st.shape ∙ ap (λ (q : Process). (flush_process w.shape q).step) st.works.process in
       let has : HasWorks g.works out w v.node = record { process = st.works.process; links = st.works.links } in
-      let sends : SendsTo w v.node then t = λ q member uncut. link-grows w.shape t v.node q member (unknown-uncut w t.process.known whole.words flush-known q uncut) in
+      let sends : SendsTo w v.node then t = λ q member uncut. link-grows w.shape t v.node q member
+      (unknown-uncut w t.process.known whole.words flush-known q uncut) in
       record {
         may = (st.here, tt);
         stands = record {

@@ -61,7 +61,11 @@ given-up gateways caller w None is = absurd (cc is)
 given-up gateways caller w (Some o) is = refl
 
 pub give-up-acts : (v : Member) (caller : ℕ) → CanGiveUp v.words v.callers caller
-    → Acts (GiveUp caller ∷ []) v (record v { callers = with_call v.callers caller (call_staged (λ o. stage_given_up o.op o.stage) (caller_of v.callers caller).call) })
+    → Acts (GiveUp caller ∷ []) v
+    (record v {
+      callers = with_call v.callers caller
+          (call_staged (λ o. stage_given_up o.op o.stage) (caller_of v.callers caller).call);
+    })
 give-up-acts v caller can g out st =
     let with = stands-with st in
     let call = (caller_of v.callers caller).call in

@@ -29,7 +29,8 @@ first-then [] m is = absurd (cc is)
 first-then (n ∷ rest) m is = let same : n ≡ m = cc is in ap (λ (x : Message). x ∷ rest) same
 
 -- the first message goes over to what was handed out
-moved : (wire out link : List Message) (m : Message) → IsAhead false wire out link → slice_get link 0 ≡ Some m → IsAhead false wire (out ++ m ∷ []) (drop 1 link)
+moved : (wire out link : List Message) (m : Message) → IsAhead false wire out link → slice_get link 0 ≡ Some m
+    → IsAhead false wire (out ++ m ∷ []) (drop 1 link)
 moved wire out link m ahead is = record {
   behind = drop 1 link;
   is = ahead.is ∙ ap (λ (l : List Message). out ++ l) (ahead.kept refl ∙ first-then link m is) ∙ sym (append_assoc out (m ∷ []) (drop 1 link));
@@ -60,12 +61,14 @@ module _ (v : Member) (q : ProcessId) (member : IsProcess v.words.shape q) where
         links = λ r named. elim (same-cases r q) [
           | inl same ↦ subst (λ (x : ProcessId). IsAhead (knows_dead v.words.cut x) (g.works.messages v.words.name x) ((message_handed q m out).messages x)
               (at [] (handed s q v.node).links (index_of s x))) (sym same)
-              (subst (λ (b : Bool). IsAhead b (g.works.messages v.words.name q) ((message_handed q m out).messages q) (at [] (handed s q v.node).links (index_of s q))) (sym uncut)
+              (subst (λ (b : Bool). IsAhead b (g.works.messages v.words.name q) ((message_handed q m out).messages q)
+              (at [] (handed s q v.node).links (index_of s q))) (sym uncut)
               (subst (λ (more : List Message). IsAhead false (g.works.messages v.words.name q) more (at [] (handed s q v.node).links (index_of s q)))
               (sym (changed-here out.messages q (out.messages q ++ m ∷ [])))
               (subst (λ (link : List Message). IsAhead false (g.works.messages v.words.name q) (out.messages q ++ m ∷ []) link) (sym link-there)
               (moved (g.works.messages v.words.name q) (out.messages q) (at [] v.node.links (index_of s q)) m
-              (subst (λ (b : Bool). IsAhead b (g.works.messages v.words.name q) (out.messages q) (at [] v.node.links (index_of s q))) uncut (st.works.links q member)) first))))
+              (subst (λ (b : Bool). IsAhead b (g.works.messages v.words.name q) (out.messages q)
+              (at [] v.node.links (index_of s q))) uncut (st.works.links q member)) first))))
           | inr other ↦ let ahead = st.works.links r named in record {
             behind = ahead.behind;
             is = ahead.is ∙ ap (λ (l : List Message). l ++ ahead.behind) (sym (changed-other out.messages q r (out.messages q ++ m ∷ []) other));
@@ -111,7 +114,8 @@ module _ (v : Member) (q : ProcessId) (member : IsProcess v.words.shape q) where
   }
 
 -- a new member is whole
-pub opening-whole : (s : Dimensions) (name : ProcessId) → AreWords (opening_words s name) → IsWholeMember s (opening_words s name) (opening_member s name).signs (opening_node s name)
+pub opening-whole : (s : Dimensions) (name : ProcessId) → AreWords (opening_words s name)
+    → IsWholeMember s (opening_words s name) (opening_member s name).signs (opening_node s name)
 opening-whole s name words = record {
   words = words;
   shape_is = refl;
@@ -122,10 +126,12 @@ opening-whole s name words = record {
 }
 
 -- a member that has handed out a message is whole
-pub handed-whole : (v : Member) (q : ProcessId) → IsWholeMember v.words.shape v.words v.signs v.node → IsWholeMember v.words.shape v.words v.signs (handed v.words.shape q v.node)
+pub handed-whole : (v : Member) (q : ProcessId) → IsWholeMember v.words.shape v.words v.signs v.node
+    → IsWholeMember v.words.shape v.words v.signs (handed v.words.shape q v.node)
 handed-whole v q whole = record { words = whole.words; shape_is = refl; lives = whole.lives; up = whole.up; known = whole.known; counts = whole.counts }
 
-pub hands-some : (v : Member) (q : ProcessId) → IsProcess v.words.shape q → knows_dead v.words.cut q ≡ false → (node : Node) → node ≡ handed v.words.shape q v.node
+pub hands-some : (v : Member) (q : ProcessId) → IsProcess v.words.shape q → knows_dead v.words.cut q ≡ false
+    → (node : Node) → node ≡ handed v.words.shape q v.node
     → (first : Option Message) → first ≡ slice_get (at [] v.node.links (index_of v.words.shape q)) 0
     → IfSome first (λ m. ActsHanding [] (message_handed q m) v (record v { node = node }))
 hands-some v q member uncut node is None first = tt

@@ -102,9 +102,11 @@ module _ (v : Member) (s : Dimensions) (whole : IsWhole s v.words v.signs v.call
 
   tells : (r : Request) (t : NodeStep) (told : Option Told) → HasMade v (treating v.words.shape r v.node.process) t → told ≡ told_to r t.answer
       → told_of r (treating v.words.shape r v.node.process).answer ≡ listed told
-  tells r t told made is = told-request r (treating v.words.shape r v.node.process).answer ∙ ap (λ (a : Answer). listed (told_to r a)) (sym made.answer) ∙ ap listed (sym is)
+  tells r t told made is = told-request r (treating v.words.shape r v.node.process).answer
+      ∙ ap (λ (a : Answer). listed (told_to r a)) (sym made.answer) ∙ ap listed (sym is)
 
-  pub treats : (place : ℕ) (r : Request) → entry_at v.parked place ≡ Some r → (t : NodeStep) → treat_node s r v.node ≡ t → (told : Option Told) → told ≡ told_to r t.answer
+  pub treats : (place : ℕ) (r : Request) → entry_at v.parked place ≡ Some r → (t : NodeStep) → treat_node s r v.node ≡ t
+      → (told : Option Told) → told ≡ told_to r t.answer
       → ActsHanding (Treat v.words.name place ∷ Learn v.words.name v.words.name ∷ []) (answer_handed v.words.shape (handed_of v.words told)) v
       (record v { callers = callers_heard v.words v.signs.pinged told v.callers; parked = without v.parked place; node = t.node })
   treats place r there t step told is =
@@ -112,7 +114,8 @@ module _ (v : Member) (s : Dimensions) (whole : IsWhole s v.words v.signs v.call
       treat-acts v place r t.node told whole.member.words there made.step (tells r t told made is) (owns v whole.own whole.member.words.member told)
 
   -- a member's own call is asked, or traced, at its own process
-  module _ (caller : ℕ) (its : IsItsCaller v.callers caller) (o : OpenCall) (opened : (caller_of v.callers caller).call ≡ Some o) (t : NodeStep) (told : Option Told) where
+  module _ (caller : ℕ) (its : IsItsCaller v.callers caller) (o : OpenCall) (opened : (caller_of v.callers caller).call
+      ≡ Some o) (t : NodeStep) (told : Option Told) where
     here : gateway_of v.words.shape caller ≡ v.words.name
     here = gateway-own v.words.shape v.words.name v.callers whole.own whole.member.words.member caller its
 

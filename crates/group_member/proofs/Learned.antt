@@ -21,7 +21,8 @@ use Rattle.group_member.proofs.Calls.{StandsWith, at-gateways, stands-with, with
 use Rattle.group_member.proofs.Reading.{changed-here}
 use Rattle.group_member.proofs.Wires.{other-wire, other-wires, this-wire}
 
-pub reads-from : (g : Group) (out : HandedFrames) (v : Member) (asked : List Request) (told : List Told) → StandsWith g out v asked told → (x : ProcessId) → IsProcess v.words.shape x
+pub reads-from : (g : Group) (out : HandedFrames) (v : Member) (asked : List Request) (told : List Told)
+    → StandsWith g out v asked told → (x : ProcessId) → IsProcess v.words.shape x
     → knows_dead v.words.cut x ≡ false → MayRead g x v.words.name
 reads-from g out v asked told st x member uncut =
     record { here = st.here; sender = subst (λ (s : Dimensions). IsProcess s x) (sym st.shape) member; uncut = st.words.cut x ∙ uncut }
@@ -43,7 +44,8 @@ module _ (g : Group) (out : HandedFrames) (v : Member) where
   pub read-other : StandsWith g out v [] [] → (x : ProcessId) → x ≢ p → (r : Request) (rest : List Request) → g.gateways.requests x p ≡ r ∷ rest
       → StandsWith (group_after g (Read x p)) out (record v { parked = v.parked ++ r ∷ [] }) [] []
   read-other st x other r rest first =
-      subst (λ (wire : List Request). StandsWith (record g { gateways = read_first x p wire g.gateways }) out (record v { parked = v.parked ++ r ∷ [] }) [] []) (sym first)
+      subst (λ (wire : List Request). StandsWith (record g { gateways = read_first x p wire g.gateways }) out
+      (record v { parked = v.parked ++ r ∷ [] }) [] []) (sym first)
       (at-gateways st (reading x r rest) out.requests out.answers v.callers (v.parked ++ r ∷ []) [] [] st.own
       (record { call = st.callers.call; next = st.callers.next })
       (record {
@@ -75,13 +77,15 @@ module _ (g : Group) (out : HandedFrames) (v : Member) where
     call = changed_at g.gateways.call t.caller (call_learned t (g.signs.pinged p) (g.gateways.call t.caller));
   }
 
-  learns : (asked : List Request) (told : List Told) → StandsWith g out v asked told → (x : ProcessId) (t : Told) (rest : List Told) → IsItsCaller v.callers t.caller
+  learns : (asked : List Request) (told : List Told) → StandsWith g out v asked told
+      → (x : ProcessId) (t : Told) (rest : List Told) → IsItsCaller v.callers t.caller
       → (learning x t rest).call ≡ changed_at g.gateways.call t.caller (call_learned t v.signs.pinged (caller_of v.callers t.caller).call)
   learns asked told st x t rest its =
       ap (λ (n : ℕ). changed_at g.gateways.call t.caller (call_learned t n (g.gateways.call t.caller))) st.signs.pinged
       ∙ ap (λ (c : Option OpenCall). changed_at g.gateways.call t.caller (call_learned t v.signs.pinged c)) (st.callers.call t.caller its)
 
-  pub learn-other : StandsWith g out v [] [] → (x : ProcessId) → x ≢ p → (t : Told) (rest : List Told) → IsItsCaller v.callers t.caller → g.gateways.answers x p ≡ t ∷ rest
+  pub learn-other : StandsWith g out v [] [] → (x : ProcessId) → x ≢ p → (t : Told) (rest : List Told)
+      → IsItsCaller v.callers t.caller → g.gateways.answers x p ≡ t ∷ rest
       → StandsWith (group_after g (Learn x p)) out (record v { callers = callers_learned v.signs.pinged t v.callers }) [] []
   learn-other st x other t rest its first =
       let call = call_learned t v.signs.pinged (caller_of v.callers t.caller).call in
@@ -118,7 +122,9 @@ module _ (g : Group) (out : HandedFrames) (v : Member) where
   -- nothing is learned where nothing was told
   pub learn-nothing : StandsWith g out v [] [] → StandsWith (group_after g (Learn p p)) out v [] []
   learn-nothing st =
-      subst (λ (wire : List Told). StandsWith (record g { gateways = learned_first p p (g.signs.pinged p) wire g.gateways }) out v [] []) (sym st.requests.own_answers)
+      subst (λ (wire : List Told).
+      StandsWith (record g { gateways = learned_first p p (g.signs.pinged p) wire g.gateways }) out v [] [])
+      (sym st.requests.own_answers)
       (at-gateways st g.gateways out.requests out.answers v.callers v.parked [] [] st.own st.callers
       (record {
         requests = st.requests.requests;
@@ -136,7 +142,8 @@ read-acts v from r can g out st comes = record {
 }
 
 pub learn-acts : (v : Member) (from : ProcessId) (t : Told) → CanReadFrom v.words from → IsItsCaller v.callers t.caller
-    → ActsWhere (AnswerComes from v.words.name t) (Learn from v.words.name ∷ []) (λ out. out) v (record v { callers = callers_learned v.signs.pinged t v.callers })
+    → ActsWhere (AnswerComes from v.words.name t) (Learn from v.words.name ∷ []) (λ out. out) v
+    (record v { callers = callers_learned v.signs.pinged t v.callers })
 learn-acts v from t can its g out st comes = record {
   may = (reads-from g out v [] [] (stands-with st) from can.member can.uncut, tt);
   stands = with-stands (learn-other g out v (stands-with st) from can.other t comes.0 its comes.1);

@@ -17,7 +17,8 @@ use Rattle.group_member.specs.Words.{AreWords, CanReadFrom, CanTakeDeath}
 use Rattle.group_member.proofs.Delivered.{flush-acts, flush-is, flush-whole, receive-acts, receive-whole, take-acts, take-whole-too}
 use Rattle.group_member.proofs.Wholes.{at-shape, own-shape}
 
-module _ (v : Member) (s : Dimensions) (whole : IsWholeMember s v.words v.signs v.node) (from : ProcessId) (m : Message) (t : NodeStep) (step : receive_node s from m v.node ≡ t) where
+module _ (v : Member) (s : Dimensions) (whole : IsWholeMember s v.words v.signs v.node) (from : ProcessId) (m : Message)
+    (t : NodeStep) (step : receive_node s from m v.node ≡ t) where
   own : IsWholeMember v.words.shape v.words v.signs v.node
   own = own-shape s v.words v.signs v.node whole
 
@@ -38,7 +39,8 @@ module _ (v : Member) (s : Dimensions) (whole : IsWholeMember s v.words v.signs 
       subst (IsWholeMember new v.words v.signs) made-node (at-shape s new v.words v.signs _ same whole.shape_is (receive-whole v from m plain own))
 
 -- the same where a death is taken
-module _ (v : Member) (s : Dimensions) (whole : IsWholeMember s v.words v.signs v.node) (x : ProcessId) (t : NodeStep) (step : receive_node s x (tells.Notice x) v.node ≡ t)
+module _ (v : Member) (s : Dimensions) (whole : IsWholeMember s v.words v.signs v.node) (x : ProcessId) (t : NodeStep)
+    (step : receive_node s x (tells.Notice x) v.node ≡ t)
     (w : OwnWords) (taken : w ≡ record v.words { taken = with_dead v.words.taken x }) (words : AreWords w) where
   own-too : IsWholeMember v.words.shape v.words v.signs v.node
   own-too = own-shape s v.words v.signs v.node whole
@@ -56,7 +58,8 @@ module _ (v : Member) (s : Dimensions) (whole : IsWholeMember s v.words v.signs 
   made-whole-too new same =
       subst (λ (u : OwnWords). IsWholeMember new u v.signs t.node) (sym taken)
       (subst (IsWholeMember new (record v.words { taken = with_dead v.words.taken x }) v.signs) told-node
-      (at-shape s new (record v.words { taken = with_dead v.words.taken x }) v.signs _ same whole.shape_is (take-whole-too v x (subst AreWords taken words) own-too)))
+      (at-shape s new (record v.words { taken = with_dead v.words.taken x }) v.signs _ same whole.shape_is
+      (take-whole-too v x (subst AreWords taken words) own-too)))
 
 -- and where the process tells how far it has settled
 module _ (v : Member) (s : Dimensions) (whole : IsWholeMember s v.words v.signs v.node) (t : NodeStep) (step : flush_node s v.node ≡ t) where

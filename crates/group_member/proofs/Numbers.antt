@@ -42,7 +42,8 @@ each-some s limits =
 module _ (s : Dimensions) (name : ProcessId) (v : OwnCallers) (own : AreCallersOf s name v) (member : IsProcess s name) (caller : ℕ) where
   pub gateway-own : IsItsCaller v caller → gateway_of s caller ≡ name
   gateway-own its =
-      ap (process_at s) (between caller (callers_each s) (index_of s name) v.first (length v.states) own.first own.many its.from its.below) ∙ process_at-index s name member
+      ap (process_at s) (between caller (callers_each s) (index_of s name) v.first (length v.states) own.first own.many
+      its.from its.below) ∙ process_at-index s name member
 
   pub own-low : IsItsCaller v caller → caller < callers
   own-low its = below-all caller (s.k + s.m) (index_of s name) v.first (length v.states) callers (index-below s name member) own.first own.many its.below

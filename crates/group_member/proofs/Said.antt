@@ -185,12 +185,16 @@ hear-acts v from known heard can has g out st comes =
                     ∙ ap (λ (r : ProcessId). knows_dead (at (all_living w.shape) heard (index_of w.shape r)) x) (sym same)
                 | inr other ↦ ap (λ (f : Processes). f x) (changed-other (g.words.heard p) from q (either (g.words.heard p from) set) other)
                     ∙ st.words.heard q member x
-                    ∙ ap (λ (m : Membership). knows_dead m x) (sym (has.others (index_of w.shape q) (λ same. other (index-one w.shape q from member can.member same))))
+                    ∙ ap (λ (m : Membership). knows_dead m x)
+                    (sym (has.others (index_of w.shape q)
+                    (λ same. other (index-one w.shape q from member can.member same))))
               ];
           permitted = st.words.permitted;
           taken = st.words.taken;
           said = λ q. subst (λ (sets : List Processes). AreSets sets (out.said q))
-              (sym (ap (λ (f : ProcessId → List Processes). f q) (changed-other g.words.said from p (changed (g.words.said from) p rest) (λ same. can.other (sym same)))))
+              (sym (ap (λ (f : ProcessId → List Processes). f q)
+              (changed-other g.words.said from p (changed (g.words.said from) p rest)
+              (λ same. can.other (sym same)))))
               (st.words.said q);
         };
         works = record { process = st.works.process; links = st.works.links };

@@ -30,14 +30,16 @@ pub record HasSent (g : Group) (v : Member) (caller : ℕ) (state : OwnCaller) (
   pub answers : h.answers ≡ g.gateways.answers
   pub parked : h.parked ≡ g.gateways.parked
 
-module _ (g : Group) (out : HandedFrames) (v : Member) (st : StandsWith g out v [] []) (caller : ℕ) (its : IsItsCaller v.callers caller) (state : OwnCaller) (r : Request) (h : Gateways) where
+module _ (g : Group) (out : HandedFrames) (v : Member) (st : StandsWith g out v [] []) (caller : ℕ)
+    (its : IsItsCaller v.callers caller) (state : OwnCaller) (r : Request) (h : Gateways) where
   abbrev p : ProcessId
   p = v.words.name
 
   abbrev now : Member
   now = record v { callers = with_caller v.callers caller state }
 
-  pub sent-to : (x : ProcessId) → CanReadFrom v.words x → HasSent g v caller state x r h → StandsWith (record g { gateways = h }) (request_handed x r out) now [] []
+  pub sent-to : (x : ProcessId) → CanReadFrom v.words x → HasSent g v caller state x r h
+      → StandsWith (record g { gateways = h }) (request_handed x r out) now [] []
   sent-to x can has = at-gateways st h (behind_at out.requests x r) out.answers now.callers v.parked [] []
       (still-own v.callers caller its state v.words.shape p st.own)
       (has-changed v.callers caller its state g.gateways h st.callers has.calls has.nexts)
@@ -81,7 +83,8 @@ module _ (g : Group) (out : HandedFrames) (v : Member) (st : StandsWith g out v 
   may-send is = (caller-here st caller its, subst (λ (s : Dimensions). IsProcess s x) (sym st.shape) is)
 
   -- it is asked under its caller's next position
-  asked : HasSent g v caller (state_asked v caller x) x (AskFor caller (caller_of v.callers caller).next o.op) (asking g caller x o (caller_of v.callers caller).next v.words.name)
+  asked : HasSent g v caller (state_asked v caller x) x (AskFor caller (caller_of v.callers caller).next o.op)
+      (asking g caller x o (caller_of v.callers caller).next v.words.name)
   asked = record {
     calls = ap (λ (c : Option OpenCall). changed_at g.gateways.call caller (call_asked x (caller_of v.callers caller).next c)) (sym opened);
     nexts = next-changed v.callers caller its (state_asked v caller x) g.gateways st.callers;
@@ -133,7 +136,8 @@ module _ (g : Group) (out : HandedFrames) (v : Member) (st : StandsWith g out v 
   ask-own unasked =
       let n = (caller_of v.callers caller).next in
       let p = v.words.name in
-      subst (λ (h : Gateways). StandsWith (record g { gateways = h }) out (record v { callers = with_caller v.callers caller (state_asked v caller p) }) (AskFor caller n o.op ∷ []) [])
+      subst (λ (h : Gateways). StandsWith (record g { gateways = h }) out
+      (record v { callers = with_caller v.callers caller (state_asked v caller p) }) (AskFor caller n o.op ∷ []) [])
       (sym (sends-ask g caller p p o open-there (gateway-is st caller its) n (st.callers.next caller its) unasked))
       (sent-own g out v st caller its (state_asked v caller p) (AskFor caller n o.op) (asking g caller p o n p) lives (asked g out v st caller its o opened p))
 
@@ -143,6 +147,8 @@ module _ (g : Group) (out : HandedFrames) (v : Member) (st : StandsWith g out v 
   trace-own unknown =
       let r : Request = TraceOf caller o.position (home_of (key_of o.op.act) v.words.shape.k) in
       let p = v.words.name in
-      subst (λ (h : Gateways). StandsWith (record g { gateways = h }) out (record v { callers = with_caller v.callers caller (state_traced v caller p) }) (r ∷ []) [])
+      subst (λ (h : Gateways). StandsWith (record g { gateways = h }) out
+      (record v { callers = with_caller v.callers caller (state_traced v caller p) }) (r ∷ []) [])
       (sym (sends-trace g caller p p o open-there (gateway-is st caller its) v.words.shape st.shape unknown))
-      (sent-own g out v st caller its (state_traced v caller p) r (tracing g caller p o v.words.shape p) lives (traced g out v st caller its o opened p v.words.shape refl))
+      (sent-own g out v st caller its (state_traced v caller p) r (tracing g caller p o v.words.shape p) lives
+      (traced g out v st caller its o opened p v.words.shape refl))

@@ -37,7 +37,8 @@ counted-within a b top same (suc n) x low =
 -- sets that have the same processes of a group are of one size
 size-within : (s : Dimensions) (a b : Processes) → ((q : ProcessId) → IsProcess s q → a q ≡ b q) → size_of s a ≡ size_of s b
 size-within s a b same =
-    counted-within (λ x. a (process_at s x)) (λ x. b (process_at s x)) (s.k + s.m) (λ x below. same (process_at s x) (process_at-in s x below)) (s.k + s.m) 0 (omega arith)
+    counted-within (λ x. a (process_at s x)) (λ x. b (process_at s x)) (s.k + s.m)
+    (λ x below. same (process_at s x) (process_at-in s x below)) (s.k + s.m) 0 (omega arith)
 
 told-before : (g : Group) (stage : Stage) (ping : ℕ) → IsToldIn stage ping → IsToldBefore g stage ping
 told-before g Unasked ping is = is
@@ -79,7 +80,8 @@ show-acts v caller ping can words g out st =
         (
           caller-here with caller can.its,
           (record {
-            told = subst (λ (call : Option OpenCall). CallIsTold g call ping) (sym (st.callers.call caller can.its)) (call-told g (caller_of v.callers caller).call ping can.told);
+            told = subst (λ (call : Option OpenCall). CallIsTold g call ping) (sym (st.callers.call caller can.its))
+                (call-told g (caller_of v.callers caller).call ping can.told);
             sent = subst (λ (n : ℕ). ping < n) (sym (ap g.signs.pinged named ∙ st.signs.pinged)) can.sent;
             enough = subst (λ (p : ProcessId). g.shape.m ≤ size_of g.shape (answerers g p ping) + size_of g.shape (g.words.taken p)) (sym named)
                 (enough-there v g out st words ping can.enough);

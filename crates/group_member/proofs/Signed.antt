@@ -19,7 +19,8 @@ use Rattle.group_member.specs.Words.{CanReadFrom}
 use Rattle.group_member.proofs.Calls.{requests-stay}
 use Rattle.group_member.proofs.Reading.{changed-here, changed-other}
 
-pub reads-other : (v : Member) (from : ProcessId) (g : Group) (out : HandedFrames) → CanReadFrom v.words from → MemberStands g out v → MayReadOther g from v.words.name
+pub reads-other : (v : Member) (from : ProcessId) (g : Group) (out : HandedFrames) → CanReadFrom v.words from
+    → MemberStands g out v → MayReadOther g from v.words.name
 reads-other v from g out can st = record {
   reads = record {
     here = st.here;
@@ -82,7 +83,9 @@ pong-acts v from ping can g out st comes =
         signs = record {
           pinged = st.signs.pinged;
           answered = st.signs.answered;
-          pings = λ q. ap (λ (f : ProcessId → List ℕ). f q) (changed-other g.signs.pings from p (changed (g.signs.pings from) p rest) (λ same. can.other (sym same))) ∙ st.signs.pings q;
+          pings = λ q. ap (λ (f : ProcessId → List ℕ). f q)
+              (changed-other g.signs.pings from p (changed (g.signs.pings from) p rest) (λ same. can.other (sym same)))
+              ∙ st.signs.pings q;
           pongs = λ q. ap (λ (f : ProcessId → List ℕ). f q) (changed-here g.signs.pongs p row)
               ∙ elim (same-cases q from) [
                 | inl same ↦ ap row same ∙ changed-here (g.signs.pongs p) from more
@@ -90,7 +93,8 @@ pong-acts v from ping can g out st comes =
                     ∙ ap (λ (l : List ℕ). l ++ ping ∷ []) (st.signs.pongs from)
                     ∙ sym (changed-here out.pongs from (out.pongs from ++ ping ∷ []))
                     ∙ ap (behind_at out.pongs from ping) (sym same)
-                | inr other ↦ changed-other (g.signs.pongs p) from q more other ∙ st.signs.pongs q ∙ sym (changed-other out.pongs from q (out.pongs from ++ ping ∷ []) other)
+                | inr other ↦ changed-other (g.signs.pongs p) from q more other ∙ st.signs.pongs q
+                    ∙ sym (changed-other out.pongs from q (out.pongs from ++ ping ∷ []) other)
               ];
         };
         own = st.own;
@@ -113,7 +117,12 @@ pick false q set other = refl
 
 pub count-acts : (v : Member) (from : ProcessId) (ping : ℕ) → CanReadFrom v.words from
     → ActsWhere (PongComes from v.words.name ping) (Count from v.words.name ∷ []) (λ out. out) v
-    (record v { signs = record v.signs { answered = put 0 v.signs.answered (index_of v.words.shape from) (max (at 0 v.signs.answered (index_of v.words.shape from)) (ping + 1)) } })
+    (record v {
+      signs = record v.signs {
+        answered = put 0 v.signs.answered (index_of v.words.shape from)
+            (max (at 0 v.signs.answered (index_of v.words.shape from)) (ping + 1));
+      };
+    })
 count-acts v from ping can g out st comes =
     let w = v.words in
     let p = w.name in
@@ -154,7 +163,9 @@ count-acts v from ping can g out st comes =
                     ∙ ap (nat_lt j) (sym (at-put-other 0 old i (index_of w.shape q) most (λ same. other (index-one w.shape q from member can.member same))))
               ];
           pings = st.signs.pings;
-          pongs = λ q. ap (λ (f : ProcessId → List ℕ). f q) (changed-other g.signs.pongs from p (changed (g.signs.pongs from) p rest) (λ same. can.other (sym same))) ∙ st.signs.pongs q;
+          pongs = λ q. ap (λ (f : ProcessId → List ℕ). f q)
+              (changed-other g.signs.pongs from p (changed (g.signs.pongs from) p rest) (λ same. can.other (sym same)))
+              ∙ st.signs.pongs q;
         };
         own = st.own;
         callers = st.callers;

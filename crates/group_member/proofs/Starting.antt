@@ -61,13 +61,16 @@ starts s name limits member =
       requests = record { requests = λ q other. refl; answers = λ q other. refl; parked = refl; own_requests = refl; own_answers = refl };
     }
 
-pub starts-as : (s : Dimensions) (name : ProcessId) (w : OwnWords) (v : OwnSigns) (c : OwnCallers) (node : Node) → IsShape s → IsProcess s name → w ≡ opening_words s name
+pub starts-as : (s : Dimensions) (name : ProcessId) (w : OwnWords) (v : OwnSigns) (c : OwnCallers) (node : Node)
+    → IsShape s → IsProcess s name → w ≡ opening_words s name
     → v ≡ opening_signs s → c ≡ opening_callers s name → node ≡ opening_node s name
     → MemberStands (opening_group s) nothing_out (record { words = w; signs = v; callers = c; parked = []; node = node })
 starts-as s name w v c node limits member words signs callers process =
     subst (λ (u : OwnWords). MemberStands (opening_group s) nothing_out (record { words = u; signs = v; callers = c; parked = []; node = node })) (sym words)
-    (subst (λ (u : OwnSigns). MemberStands (opening_group s) nothing_out (record { words = opening_words s name; signs = u; callers = c; parked = []; node = node })) (sym signs)
-    (subst (λ (u : OwnCallers). MemberStands (opening_group s) nothing_out (record { words = opening_words s name; signs = opening_signs s; callers = u; parked = []; node = node }))
+    (subst (λ (u : OwnSigns). MemberStands (opening_group s) nothing_out
+    (record { words = opening_words s name; signs = u; callers = c; parked = []; node = node })) (sym signs)
+    (subst (λ (u : OwnCallers). MemberStands (opening_group s) nothing_out
+    (record { words = opening_words s name; signs = opening_signs s; callers = u; parked = []; node = node }))
     (sym callers)
     (subst (λ (n : Node). MemberStands (opening_group s) nothing_out
     (record { words = opening_words s name; signs = opening_signs s; callers = opening_callers s name; parked = []; node = n })) (sym process)

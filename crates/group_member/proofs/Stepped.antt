@@ -44,7 +44,8 @@ module _ (v : Member) (whole : IsWholeMember v.words.shape v.words v.signs v.nod
 
   -- a step that changes nothing
   traced-node : (caller call d : ℕ)
-      → HasMade v (treating v.words.shape (TraceOf caller call d) v.node.process) (unchanged (fate_of v.words.shape caller call d v.node.process (head_at v.node.process d)) v.node)
+      → HasMade v (treating v.words.shape (TraceOf caller call d) v.node.process)
+      (unchanged (fate_of v.words.shape caller call d v.node.process (head_at v.node.process d)) v.node)
   traced-node caller call d = record {
     step = record { process = refl; sends = λ q member uncut. sym (append-nil (at [] v.node.links (index_of v.words.shape q))) };
     answer = refl;

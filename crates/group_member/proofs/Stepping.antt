@@ -33,7 +33,8 @@ abbrev pub SendsTo : OwnWords → Node → Node → ProcessStep → Type 0
 SendsTo w node now t = (q : ProcessId) → IsProcess w.shape q → knows_dead w.cut q ≡ false
     → at [] now.links (index_of w.shape q) ≡ at [] node.links (index_of w.shape q) ++ sent_to q t.sent
 
-pub stepped-works : (cut : ProcessId → Processes) (g : Works) (out : HandedFrames) (w : OwnWords) (node now : Node) (t : ProcessStep) → IsSetOf (cut w.name) w.cut
+pub stepped-works : (cut : ProcessId → Processes) (g : Works) (out : HandedFrames) (w : OwnWords) (node now : Node)
+    (t : ProcessStep) → IsSetOf (cut w.name) w.cut
     → HasWorks g out w node → t.process ≡ now.process → SendsTo w node now t → HasWorks (stepped cut w.name t g) out w now
 stepped-works cut g out w node now t same has process sends = record {
   process = changed-here g.process w.name t.process ∙ process;
@@ -42,7 +43,8 @@ stepped-works cut g out w node now t same has process sends = record {
       subst (λ (wire : List Message). IsAhead (knows_dead w.cut q) wire (out.messages q) (at [] now.links (index_of w.shape q)))
       (sym (ap (λ (f : ProcessId → List Message). f q) (changed-here g.messages w.name row)
       ∙ ap (λ (b : Bool). one_or b (g.messages w.name q) (g.messages w.name q ++ sent_to q t.sent)) (same q)))
-      (ahead-step (knows_dead w.cut q) (g.messages w.name q) (out.messages q) (at [] node.links (index_of w.shape q)) (at [] now.links (index_of w.shape q)) (sent_to q t.sent)
+      (ahead-step (knows_dead w.cut q) (g.messages w.name q) (out.messages q) (at [] node.links (index_of w.shape q))
+      (at [] now.links (index_of w.shape q)) (sent_to q t.sent)
       (has.links q member) (sends q member));
 }
 

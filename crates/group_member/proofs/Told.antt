@@ -76,7 +76,9 @@ module _ (g : Group) (out : HandedFrames) (w : OwnWords) (shape : g.shape ≡ w.
     after = record h { answers = sent_on g.words.cut h.answers p q t }
 
     by : (own lost : Bool) → same_process q p ≡ own → knows_dead w.cut q ≡ lost
-        → gateway_of w.shape t.caller ≡ q → HasRequests after (answer_handed w.shape (one_or (own || lost) None (Some t)) out) p parked [] (one_or own (t ∷ []) [])
+        → gateway_of w.shape t.caller ≡ q
+        → HasRequests after (answer_handed w.shape (one_or (own || lost) None (Some t)) out) p parked []
+        (one_or own (t ∷ []) [])
     by true lost own-is lost-is at-q =
         let same = same-eq q p own-is in
         record {
@@ -120,7 +122,8 @@ IsOwns v (Some t) = gateway_of v.words.shape t.caller ≡ v.words.name → IsIts
 
 module _ (g : Group) (out : HandedFrames) (v : Member) where
   own-learns : (t : Told) (own : Bool) → (own ≡ true → IsItsCaller v.callers t.caller) → StandsWith g out v [] (one_or own (t ∷ []) [])
-      → StandsWith (group_after g (Learn v.words.name v.words.name)) out (record v { callers = one_or own (callers_learned v.signs.pinged t v.callers) v.callers }) [] []
+      → StandsWith (group_after g (Learn v.words.name v.words.name)) out
+      (record v { callers = one_or own (callers_learned v.signs.pinged t v.callers) v.callers }) [] []
   own-learns t true its st = learn-own g out v t st (its refl)
   own-learns t false its st = learn-nothing g out v st
 

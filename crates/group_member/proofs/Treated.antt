@@ -33,11 +33,13 @@ words-handed : (s : Dimensions) (t : Option Told) (g : Words) (out : HandedFrame
 words-handed s None g out w has = has
 words-handed s (Some t) g out w has = record { cut = has.cut; heard = has.heard; permitted = has.permitted; taken = has.taken; said = has.said }
 
-works-handed : (s : Dimensions) (t : Option Told) (g : Works) (out : HandedFrames) (w : OwnWords) (node : Node) → HasWorks g out w node → HasWorks g (answer_handed s t out) w node
+works-handed : (s : Dimensions) (t : Option Told) (g : Works) (out : HandedFrames) (w : OwnWords) (node : Node)
+    → HasWorks g out w node → HasWorks g (answer_handed s t out) w node
 works-handed s None g out w node has = has
 works-handed s (Some t) g out w node has = record { process = has.process; links = has.links }
 
-signs-handed : (s : Dimensions) (t : Option Told) (g : Signs) (out : HandedFrames) (w : OwnWords) (v : OwnSigns) → HasSigns g out w v → HasSigns g (answer_handed s t out) w v
+signs-handed : (s : Dimensions) (t : Option Told) (g : Signs) (out : HandedFrames) (w : OwnWords) (v : OwnSigns)
+    → HasSigns g out w v → HasSigns g (answer_handed s t out) w v
 signs-handed s None g out w v has = has
 signs-handed s (Some t) g out w v has = record { pinged = has.pinged; answered = has.answered; pings = has.pings; pongs = has.pongs }
 
@@ -45,7 +47,8 @@ callers-told : (g : Group) (p : ProcessId) (t : Option Told) (h : Gateways) (v :
 callers-told g p None h v has = has
 callers-told g p (Some t) h v has = record { call = has.call; next = has.next }
 
-module _ (g : Group) (out : HandedFrames) (v : Member) (st : StandsWith g out v [] []) (lives : knows_dead v.words.cut v.words.name ≡ false) (u : CallStep) (node : Node)
+module _ (g : Group) (out : HandedFrames) (v : Member) (st : StandsWith g out v [] [])
+    (lives : knows_dead v.words.cut v.words.name ≡ false) (u : CallStep) (node : Node)
     (has : HasStep v u node) (t : Option Told) where
   abbrev p : ProcessId
   p = v.words.name
@@ -55,7 +58,8 @@ module _ (g : Group) (out : HandedFrames) (v : Member) (st : StandsWith g out v 
 
   -- the process has made its step, and what that tells is sent
   made-step : (h : Gateways) (parked : List Request) → HasCallers h v.callers → HasRequests h out p parked [] []
-      → StandsWith (record g { works = stepped g.words.cut p u.step g.works; gateways = tell g p (listed t) h }) frames (record v { parked = parked; node = node }) []
+      → StandsWith (record g { works = stepped g.words.cut p u.step g.works; gateways = tell g p (listed t) h }) frames
+      (record v { parked = parked; node = node }) []
       (own_of v.words t)
   made-step h parked callers requests = record {
     shape = st.shape;
@@ -77,11 +81,21 @@ module _ (g : Group) (out : HandedFrames) (v : Member) (st : StandsWith g out v 
       let h : Gateways = record g.gateways { parked = changed g.gateways.parked p (without (g.gateways.parked p) place) } in
       let step : treating g.shape r (g.works.process p) ≡ u =
       ap (λ (s : Dimensions). treating s r (g.works.process p)) st.shape ∙ ap (treating v.words.shape r) st.works.process ∙ sym made in
-      subst (λ (o : Option Request). StandsWith (record g { works = works_treated g.shape g.words.cut p o g.works; gateways = request_treated g p place o }) frames after [] (own_of v.words t))
+      subst (λ (o : Option Request).
+      StandsWith (record g {
+        works = works_treated g.shape g.words.cut p o g.works;
+        gateways = request_treated g p place o;
+      }) frames after [] (own_of v.words t))
       (sym (ap (λ (rs : List Request). entry_at rs place) st.requests.parked ∙ there))
-      (subst (λ (c : CallStep). StandsWith (record g { works = stepped g.words.cut p c.step g.works; gateways = tell g p (told_of r c.answer) h }) frames after [] (own_of v.words t))
+      (subst (λ (c : CallStep).
+      StandsWith (record g {
+        works = stepped g.words.cut p c.step g.works;
+        gateways = tell g p (told_of r c.answer) h;
+      }) frames after [] (own_of v.words t))
       (sym step)
-      (subst (λ (ts : List Told). StandsWith (record g { works = stepped g.words.cut p u.step g.works; gateways = tell g p ts h }) frames after [] (own_of v.words t)) (sym tells)
+      (subst (λ (ts : List Told).
+      StandsWith (record g { works = stepped g.words.cut p u.step g.works; gateways = tell g p ts h }) frames after []
+      (own_of v.words t)) (sym tells)
       (made-step h (without v.parked place) (record { call = st.callers.call; next = st.callers.next })
       (record {
         requests = st.requests.requests;
@@ -99,9 +113,15 @@ module _ (g : Group) (out : HandedFrames) (v : Member) (st : StandsWith g out v 
       let step : collect_from caller call (g.works.process p) (range_with_len 0 g.shape.k) ≡ u =
       ap (λ (s : Dimensions). collect_from caller call (g.works.process p) (range_with_len 0 s.k)) st.shape
       ∙ ap (λ (q : Process). collect_from caller call q (range_with_len 0 v.words.shape.k)) st.works.process ∙ sym made in
-      subst (λ (c : CallStep). StandsWith (record g { works = stepped g.words.cut p c.step g.works; gateways = tell g p (handed_to caller call c.answer) g.gateways }) frames after []
+      subst (λ (c : CallStep).
+      StandsWith (record g {
+        works = stepped g.words.cut p c.step g.works;
+        gateways = tell g p (handed_to caller call c.answer) g.gateways;
+      }) frames after []
       (own_of v.words t)) (sym step)
-      (subst (λ (ts : List Told). StandsWith (record g { works = stepped g.words.cut p u.step g.works; gateways = tell g p ts g.gateways }) frames after [] (own_of v.words t)) (sym tells)
+      (subst (λ (ts : List Told).
+      StandsWith (record g { works = stepped g.words.cut p u.step g.works; gateways = tell g p ts g.gateways }) frames
+      after [] (own_of v.words t)) (sym tells)
       (made-step g.gateways v.parked st.callers
       (record {
         requests = st.requests.requests;

@@ -31,7 +31,8 @@ pub at-shape : (s t : Dimensions) (w : OwnWords) (v : OwnSigns) (node : Node) �
 at-shape s t w v node new old whole =
     record { words = whole.words; shape_is = new ∙ old; lives = whole.lives; up = whole.up; known = whole.known; counts = whole.counts }
 
-pub counted-whole : (s : Dimensions) (w : OwnWords) (v now : OwnSigns) (node : Node) → length now.answered ≡ length v.answered → IsWholeMember s w v node → IsWholeMember s w now node
+pub counted-whole : (s : Dimensions) (w : OwnWords) (v now : OwnSigns) (node : Node)
+    → length now.answered ≡ length v.answered → IsWholeMember s w v node → IsWholeMember s w now node
 counted-whole s w v now node same whole =
     record { words = whole.words; shape_is = whole.shape_is; lives = whole.lives; up = whole.up; known = whole.known; counts = same ∙ whole.counts }
 
@@ -45,7 +46,8 @@ rest-whole {w = w} {now = now} {c = c} {parked = parked} whole shape name member
 }
 
 -- and where one of its callers goes on, or others are parked
-pub callers-whole : {s : Dimensions} {w : OwnWords} {v : OwnSigns} {c : OwnCallers} {parked : List Request} {node : Node} → IsWhole s w v c parked node → (caller : ℕ)
+pub callers-whole : {s : Dimensions} {w : OwnWords} {v : OwnSigns} {c : OwnCallers} {parked : List
+    Request} {node : Node} → IsWhole s w v c parked node → (caller : ℕ)
     → IsItsCaller c caller → (state : OwnCaller) (now : OwnCallers) → now ≡ with_caller c caller state → IsWhole s w v now parked node
 callers-whole {s = s} {w = w} {v = v} {c = c} {parked = parked} {node = node} whole caller its state now is =
     subst (λ (n : OwnCallers). IsWhole s w v n parked node) (sym is)

@@ -59,7 +59,8 @@ unmarked (tells.Row session bytes stamp) kind = tt
 unmarked (tells.Cease upto) kind = tt
 unmarked (tells.Notice dead) kind = tt
 
-pub data-unmarked : (role : Role) (q seen : Standing) (m : Message) → standing_in role ≡ seen → IsNamed role → role ≡ Data q → IsFor seen.process.name m → IsNoMark m
+pub data-unmarked : (role : Role) (q seen : Standing) (m : Message) → standing_in role ≡ seen → IsNamed role
+    → role ≡ Data q → IsFor seen.process.name m → IsNoMark m
 data-unmarked role q seen m view named is kind =
     let name = subst IsNamed is named in
     unmarked m (subst (λ (x : ProcessId). IsFor x m) (ap (λ (v : Standing). v.process.name) (sym view ∙ ap standing_in is) ∙ name.1) kind)

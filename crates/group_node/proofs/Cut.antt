@@ -27,7 +27,8 @@ pub record IsCutting (dead : ProcessId) (keep n : ℕ) (before links : List (Lin
 pub none-cut : (dead : ProcessId) (keep : ℕ) (links : List (Link Message)) → IsCutting dead keep 0 links links
 none-cut dead keep links = record { many = refl; cut = λ x below within. absurd (omega arith); left = λ x from. refl }
 
-module _ (dead : ProcessId) (keep n : ℕ) (before links once new : List (Link Message)) (within : n < length before) (cutting : IsCutting dead keep n before links)
+module _ (dead : ProcessId) (keep n : ℕ) (before links once new : List (Link Message)) (within : n < length before)
+    (cutting : IsCutting dead keep n before links)
     (is_once : once ≡ with_link links n (take keep (link_to links n).messages) (link_to links n).spare) where
   inside : n < length links
   inside = let many = cutting.many in omega (arith, many, within)
@@ -47,7 +48,8 @@ module _ (dead : ProcessId) (keep n : ℕ) (before links once new : List (Link M
       omega (arith, spare, same)
 
   -- one more is cut
-  pub cuts-on : new ≡ with_link once n ((link_to once n).messages ++ tells.Notice dead ∷ []) ((link_to once n).spare - 1) → IsCutting dead keep (n + 1) before new
+  pub cuts-on : new ≡ with_link once n ((link_to once n).messages ++ tells.Notice dead ∷ [])
+      ((link_to once n).spare - 1) → IsCutting dead keep (n + 1) before new
   cuts-on is_new = record {
     many = ap length is_new ∙ many-with once n _ _ ∙ has-place;
     cut = λ x below under. by x below under (eqb_tells x n);
@@ -62,7 +64,11 @@ module _ (dead : ProcessId) (keep n : ℕ) (before links once new : List (Link M
     there =
         ap (λ (ls : List (Link Message)). (link_to ls n).messages) is_new
         ∙ ap (λ (l : Link Message). l.messages)
-        (get_or-set_same once n (record { messages = (link_to once n).messages ++ tells.Notice dead ∷ []; spare = (link_to once n).spare - 1 }) empty_link place)
+        (get_or-set_same once n
+        (record {
+          messages = (link_to once n).messages ++ tells.Notice dead ∷ [];
+          spare = (link_to once n).spare - 1;
+        }) empty_link place)
         ∙ ap (λ (l : Link Message). l.messages ++ tells.Notice dead ∷ []) here
         ∙ ap (λ (l : Link Message). cut_to dead keep l.messages) (cutting.left n (omega arith)) where
           place : n < length once
@@ -71,9 +77,10 @@ module _ (dead : ProcessId) (keep n : ℕ) (before links once new : List (Link M
     by : (x : ℕ) → x < n + 1 → x < length before → ((eqb x n ≡ true) × (x ≡ n)) ⊎ ((eqb x n ≡ false) × (x ≢ n))
         → (link_to new x).messages ≡ cut_to dead keep (link_to before x).messages
     by x below under (inl same) = subst (λ (y : ℕ). (link_to new y).messages ≡ cut_to dead keep (link_to before y).messages) (sym same.1) there
-    by x below under (inr other) = let not_n = other.1 in ap (λ (l : Link Message). l.messages) (apart x not_n) ∙ cutting.cut x (below-n x below not_n) under where
-      below-n : (y : ℕ) → y < n + 1 → y ≢ n → y < n
-      below-n y low other = omega (arith, low, other)
+    by x below under (inr other) = let not_n = other.1 in ap (λ (l : Link Message). l.messages) (apart x not_n)
+        ∙ cutting.cut x (below-n x below not_n) under where
+          below-n : (y : ℕ) → y < n + 1 → y ≢ n → y < n
+          below-n y low other = omega (arith, low, other)
 
 -- all links are cut
 pub all-cut : (s : Dimensions) (dead : ProcessId) (keep n : ℕ) (before links : List (Link Message)) → length before ≡ s.k + s.m → s.k + s.m ≤ n
@@ -81,4 +88,5 @@ pub all-cut : (s : Dimensions) (dead : ProcessId) (keep n : ℕ) (before links :
     → messages links ≡ links_cut s dead keep (messages before)
 all-cut s dead keep n before links long all cutting =
     entries-same [] (λ x. cut_to dead keep (at [] (messages before) x)) (messages links) (s.k + s.m) (messages-long links ∙ cutting.many ∙ long)
-    (λ x below. messages-at links x ∙ cutting.cut x (omega (arith, all, below)) (omega (arith, long, below)) ∙ ap (cut_to dead keep) (sym (messages-at before x)))
+    (λ x below. messages-at links x ∙ cutting.cut x (omega (arith, all, below)) (omega (arith, long, below))
+    ∙ ap (cut_to dead keep) (sym (messages-at before x)))

@@ -1,5 +1,6 @@
 -- What a delivery makes of two nodes.
-use Rattle.std.proofs.Common.{ℕ, ◌≡◌, ◌≢◌, ◌<◌, ◌+◌, Bool, true, false, if◌then◌else◌, List, [], ◌∷◌, length, drop, Some, None, refl, sym, ap, subst, ◌∙◌, arith}
+use Rattle.std.proofs.Common.{ℕ, ◌≡◌, ◌≢◌, ◌<◌, ◌+◌, Bool, true, false, if◌then◌else◌, List, [], ◌∷◌, length, drop}
+use Rattle.std.proofs.Common.{Some, None, refl, sym, ap, subst, ◌∙◌, arith}
 use Rattle.std.specs.Prelude.{slice_get}
 use Rattle.group_types.specs.Dimensions.{Dimensions}
 use Rattle.group_types.specs.Lists.{at, put}
@@ -66,7 +67,8 @@ not-emptied s (tells.Row session bytes stamp) node other = refl
 not-emptied s (tells.Cease upto) node other = refl
 
 -- a node receives a message: its process makes a step, and what that sends goes into the links
-module _ (s t : Dimensions) (from : ProcessId) (m : Message) (node : Node) (step : Step) (new : Process) (known : Membership) (own roomy after : List (Link Message))
+module _ (s t : Dimensions) (from : ProcessId) (m : Message) (node : Node) (step : Step) (new : Process)
+    (known : Membership) (own roomy after : List (Link Message))
     (same : t ≡ s)
     (is : receive t from m node.process ≡ stepped new step) (links_are : node.links ≡ messages own) (room_made : messages roomy ≡ messages own)
     (known_is : known ≡ new.known)
@@ -97,7 +99,8 @@ module _ (s t : Dimensions) (from : ProcessId) (m : Message) (node : Node) (step
       ∙ ap (λ (n : Node). record { node = n; answer = says.Done; settled = step.settled.items }) (emptied s dead acted after cut x n named long refl here made)
 
   -- another message
-  pub takes : ((dead : ProcessId) → m ≢ tells.Notice dead) → receive_node s from m node ≡ record { node = acted; answer = says.Done; settled = step.settled.items }
+  pub takes : ((dead : ProcessId) → m ≢ tells.Notice dead) → receive_node s from m node
+      ≡ record { node = acted; answer = says.Done; settled = step.settled.items }
   takes other = steps ∙ ap (λ (n : Node). record { node = n; answer = says.Done; settled = step.settled.items }) (not-emptied s m acted other)
 
 -- the first message of a link
@@ -144,7 +147,8 @@ pub popped : (s : Dimensions) (to : ProcessId) (old new : List (Link Message)) (
     → new ≡ with_link old x (drop 1 (link_to old x).messages) n → messages new ≡ put [] (messages old) (index_of s to) (drop 1 (link_to old x).messages)
 popped s to old new x n named long here made =
     let within : x < length old = let below = index-below s to named in omega (arith, below, here, long) in
-    ap messages made ∙ messages-with old x (drop 1 (link_to old x).messages) n within ∙ ap (λ (y : ℕ). put [] (messages old) y (drop 1 (link_to old x).messages)) here
+    ap messages made ∙ messages-with old x (drop 1 (link_to old x).messages) n within
+    ∙ ap (λ (y : ℕ). put [] (messages old) y (drop 1 (link_to old x).messages)) here
 
 -- a delivery by the calls of two nodes: the first message of the sender's link is received, and handed out then
 module _ (s r : NodeStanding) (from to : ProcessId) (same : s.shape ≡ r.shape) (from_is : from ≡ s.node.process.name) (to_is : to ≡ r.node.process.name) where

@@ -44,10 +44,16 @@ module _ (s : Dimensions) (p : Process) where
   other-than-notice : (m : Message) → is_current p m ≡ false → (dead : ProcessId) → m ≢ tells.Notice dead
   other-than-notice m stale dead notice = absurd (cc (ap (is_current p) notice, stale))
 
-pub nothing-received : (s : Dimensions) (from : ProcessId) (m : Message) (node : Node) (own : List (Link Message)) → node.links ≡ messages own → length own ≡ s.k + s.m
+pub nothing-received : (s : Dimensions) (from : ProcessId) (m : Message) (node : Node) (own : List (Link Message))
+    → node.links ≡ messages own → length own ≡ s.k + s.m
     → is_current node.process m ≡ false → receive_node s from m node ≡ record { node = node; answer = says.Done; settled = [] }
 nothing-received s from m node own links long stale =
-    ap (λ (step : ProcessStep). record { node = link_emptied s m (node_after s step node); answer = says.Done; settled = step.settled }) (drops s node.process from m stale)
+    ap (λ (step : ProcessStep). record {
+      node = link_emptied s m (node_after s step node);
+      answer = says.Done;
+      settled = step.settled;
+    }) (drops s node.process from m stale)
     ∙ ap (λ (n : Node). record { node = n; answer = says.Done; settled = [] })
     (not-emptied s m (node_after s (quiet node.process) node) (other-than-notice s node.process m stale)
-    ∙ ap (λ (ls : List (List Message)). record node { links = ls }) (nothing-behind s node.process.known node.links (ap length links ∙ messages-long own ∙ long)))
+    ∙ ap (λ (ls : List (List Message)). record node { links = ls })
+    (nothing-behind s node.process.known node.links (ap length links ∙ messages-long own ∙ long)))

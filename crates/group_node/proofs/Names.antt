@@ -22,9 +22,11 @@ use Rattle.group_run.specs.Asking.{Oldest, act_on, ask_head, ask_process, collec
 use Rattle.group_run.specs.Asking.{handed_out, is_call, issued, oldest_inherited, retry_block, ticketed, update_of}
 use Rattle.group_run.specs.Deciding.{decide}
 use Rattle.group_run.specs.Heading.{acknowledge, acknowledged, judge, judge_head}
-use Rattle.group_run.specs.Leaders.{close_sessions, copy_kept, copy_marked, lost_of, mark_comes, mark_taken, own_mark, row_finished, session_opened, start_session}
+use Rattle.group_run.specs.Leaders.{close_sessions, copy_kept, copy_marked, lost_of, mark_comes, mark_taken, own_mark}
+use Rattle.group_run.specs.Leaders.{row_finished, session_opened, start_session}
 use Rattle.group_run.specs.Process.{Copy, Gathering, Head, Held, Process}
-use Rattle.group_run.specs.Receiving.{ack_to, death_known, enthroned, log_adopted, notice_comes, read_comes, receive, take_over_if, taken_over, takes_over, update_taken}
+use Rattle.group_run.specs.Receiving.{ack_to, death_known, enthroned, log_adopted, notice_comes, read_comes, receive}
+use Rattle.group_run.specs.Receiving.{take_over_if, taken_over, takes_over, update_taken}
 use Rattle.group_run.specs.Replica.{with_update}
 use Rattle.group_run.specs.Rows.{accepts_mark, begin_copy, copy_begun, copy_in, is_marked, marked, parity_number, with_copies, without_copy}
 
@@ -101,7 +103,8 @@ module _ (s : Dimensions) where
 
   -- whatever comes
   pub named-received : (from : ProcessId) (m : Message) (p : Process) → (receive s from m p).process.name ≡ p.name
-  named-received from (tells.Update r d u stable) p = named-when (nat_le (at 0 p.ranks d.0) r.0) p (ack_to from r.0 d.0 u.number (update_taken s d.0 u stable p)) refl
+  named-received from (tells.Update r d u stable) p = named-when (nat_le (at 0 p.ranks d.0) r.0) p
+      (ack_to from r.0 d.0 u.number (update_taken s d.0 u stable p)) refl
   named-received from (tells.Stable r d n) p = named-when (nat_le (at 0 p.ranks d.0) r.0) p (quiet (apply_to s d.0 n p)) refl
   named-received from (tells.Adopt r d base list) p =
       named-when (nat_le (at 0 p.ranks d.0) r.0) p (ack_to from r.0 d.0 (base + length list) (log_adopted s r.0 d.0 base list p)) refl
@@ -133,7 +136,8 @@ module _ (s : Dimensions) where
   named-ticketed true d u t = refl
   named-ticketed false d u t = refl
 
-  named-act : (name : CallName) (op : Asked) (d : ℕ) (h : Head) (p : Process) (decision : Decision) → (act_on s name op d h p decision).step.process.name ≡ p.name
+  named-act : (name : CallName) (op : Asked) (d : ℕ) (h : Head) (p : Process) (decision : Decision)
+      → (act_on s name op d h p decision).step.process.name ≡ p.name
   named-act name op d h p (decides.Answer reply) = refl
   named-act name op d h p (decides.Retry n) = refl
   named-act name op d h p decides.NoSpace = refl
@@ -160,6 +164,7 @@ named-collected caller call p (d ∷ ds) = by (find (is_call caller call) (held_
   handed true h = refl
   handed false h = refl
 
-  by : (o : Option Held) → (collect_from caller call p ds).step.process.name ≡ p.name → (collect_held d o p (collect_from caller call p ds)).step.process.name ≡ p.name
+  by : (o : Option Held) → (collect_from caller call p ds).step.process.name ≡ p.name
+      → (collect_held d o p (collect_from caller call p ds)).step.process.name ≡ p.name
   by None rest = rest
   by (Some h) rest = handed (nat_le h.number (replica_of p d).applied) h

@@ -35,7 +35,8 @@ apart d i same = cc same
 
 module _ (role : Role) (q seen : Standing) (key : List ℕ) (b : Bool) (view : standing_in role ≡ seen) (named : IsNamed role) where
   -- what a data process tells of its numbers
-  pub numbers-data : role ≡ Data q → (IsTrue b ↔ last_of (replica_of q.process (home_of key q.shape.k)) < 2 ^ 62) → IsTrue b ↔ HasNumbers seen.shape key seen.process
+  pub numbers-data : role ≡ Data q → (IsTrue b ↔ last_of (replica_of q.process (home_of key q.shape.k)) < 2 ^ 62)
+      → IsTrue b ↔ HasNumbers seen.shape key seen.process
   numbers-data is told =
       let name = subst IsNamed is named in
       subst (λ (v : Standing). IsTrue b ↔ HasNumbers v.shape key v.process) (sym (ap standing_in is) ∙ view) (

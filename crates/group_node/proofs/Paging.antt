@@ -13,13 +13,17 @@ use Rattle.group_node.specs.declared.process.Role.TheVariants.{Data, Parity}
 abbrev Brings : Message → Standing → Standing → Type 0
 Brings m old new = MakesNoneOf (MessageMisses old.shape.block m) old.made new.made
 
-pub data-pages : (m : Message) (now inside : Role) (new old seen : Standing) → now ≡ Data new → inside ≡ Data old → standing_in inside ≡ seen → new.made ≡ old.made
+pub data-pages : (m : Message) (now inside : Role) (new old seen : Standing) → now ≡ Data new → inside ≡ Data old
+    → standing_in inside ≡ seen → new.made ≡ old.made
     → MakesNoneOf (MessageMisses seen.shape.block m) seen.made (standing_in now).made
 data-pages m now inside new old seen is was view same =
-    let none : Brings m old new = subst (λ (made : List ℕ). MakesNoneOf (MessageMisses old.shape.block m) old.made made) (sym same) (makes-none (MessageMisses old.shape.block m) old.made) in
-    subst (λ (p : Standing). Brings m p (standing_in now)) (sym (ap standing_in was) ∙ view) (subst (λ (p : Standing). Brings m old p) (sym (ap standing_in is)) none)
+    let none : Brings m old new = subst (λ (made : List ℕ). MakesNoneOf (MessageMisses old.shape.block m) old.made made)
+    (sym same) (makes-none (MessageMisses old.shape.block m) old.made) in
+    subst (λ (p : Standing). Brings m p (standing_in now)) (sym (ap standing_in was) ∙ view)
+    (subst (λ (p : Standing). Brings m old p) (sym (ap standing_in is)) none)
 
 pub parity-pages : (m : Message) (now inside : Role) (new old seen : Standing) → now ≡ Parity new → inside ≡ Parity old → standing_in inside ≡ seen
     → MakesNoneOf (MessageMisses old.shape.block m) old.made new.made → MakesNoneOf (MessageMisses seen.shape.block m) seen.made (standing_in now).made
 parity-pages m now inside new old seen is was view made =
-    subst (λ (p : Standing). Brings m p (standing_in now)) (sym (ap standing_in was) ∙ view) (subst (λ (p : Standing). Brings m old p) (sym (ap standing_in is)) made)
+    subst (λ (p : Standing). Brings m p (standing_in now)) (sym (ap standing_in was) ∙ view)
+    (subst (λ (p : Standing). Brings m old p) (sym (ap standing_in is)) made)

@@ -9,7 +9,8 @@ pub range-same : {X : Type 0} (f g : ℕ → X) (a n : ℕ) → ((x : ℕ) → a
 range-same f g a zero same = refl
 range-same f g a (suc n) same =
     let first : f a ≡ g a = same a (omega arith) (omega arith) in
-    let rest : map f (range_with_len (a + 1) n) ≡ map g (range_with_len (a + 1) n) = range-same f g (a + 1) n (λ x from below. same x (omega arith) (omega arith)) in
+    let rest : map f (range_with_len (a + 1) n) ≡ map g (range_with_len (a + 1) n) =
+    range-same f g (a + 1) n (λ x from below. same x (omega arith) (omega arith)) in
     λ j. first j ∷ rest j
 
 pub range-below : {X : Type 0} (f g : ℕ → X) (n : ℕ) → ((x : ℕ) → x < n → f x ≡ g x) → map f (range_with_len 0 n) ≡ map g (range_with_len 0 n)
@@ -23,6 +24,7 @@ entries-all d xs = sym (map-indices (λ x. x) d (λ i. at d xs i) xs 0 (λ i wit
   map-id (y ∷ ys) = ap (λ (rest : List _). y ∷ rest) (map-id ys)
 
 -- a list is known by its entries
-pub entries-same : {X : Type 0} (d : X) (f : ℕ → X) (xs : List X) (n : ℕ) → length xs ≡ n → ((x : ℕ) → x < n → at d xs x ≡ f x) → xs ≡ map f (range_with_len 0 n)
+pub entries-same : {X : Type 0} (d : X) (f : ℕ → X) (xs : List X) (n : ℕ) → length xs ≡ n
+    → ((x : ℕ) → x < n → at d xs x ≡ f x) → xs ≡ map f (range_with_len 0 n)
 entries-same d f xs n long same =
     sym (entries-all d xs) ∙ ap (λ (m : ℕ). map (λ x. at d xs x) (range_with_len 0 m)) long ∙ range-below (λ x. at d xs x) f n same

@@ -60,18 +60,22 @@ module _ (s : Dimensions) (name : CallName) (op : Asked) (p : Process) where
   refused-quiet refused = by-head (home_of (key_of op.act) s.k) (head_at p (home_of (key_of op.act) s.k)) refused
 
 -- nor does its node, and that of any process that does nothing
-pub quiet-stays : (s t : Dimensions) (name : CallName) (op : Asked) (old new : whole.Standing) (own roomy after : List (Link Message)) (known : Membership) (step : code.CallStep)
+pub quiet-stays : (s t : Dimensions) (name : CallName) (op : Asked) (old new : whole.Standing)
+    (own roomy after : List (Link Message)) (known : Membership) (step : code.CallStep)
     (dead down : Bool) → t ≡ s → length own ≡ s.k + s.m → ask_process t name op old.process ≡ called new.process step
-    → (ask_process t name op old.process).step ≡ quiet old.process → messages roomy ≡ messages own → messages after ≡ links_after s known step.sent.items (messages roomy)
+    → (ask_process t name op old.process).step ≡ quiet old.process → messages roomy ≡ messages own
+    → messages after ≡ links_after s known step.sent.items (messages roomy)
     → node_standing s new after dead down ≡ node_standing s old own dead down
 quiet-stays s t name op old new own roomy after known step dead down same long is quietly room behind =
     let process : new.process ≡ old.process = sym (ap (λ (c : CallStep). c.step.process) is) ∙ ap (λ (x : ProcessStep). x.process) quietly in
     let sent : step.sent.items ≡ [] = sym (ap (λ (c : CallStep). c.step.sent) is) ∙ ap (λ (x : ProcessStep). x.sent) quietly in
     let links : messages after ≡ messages own =
-    behind ∙ ap (λ (xs : List Sent). links_after s known xs (messages roomy)) sent ∙ nothing-behind s known (messages roomy) (ap length room ∙ messages-long own ∙ long) ∙ room in
+    behind ∙ ap (λ (xs : List Sent). links_after s known xs (messages roomy)) sent
+    ∙ nothing-behind s known (messages roomy) (ap length room ∙ messages-long own ∙ long) ∙ room in
     (λ i. record { shape = s; node = record { process = process i; links = links i; dead = dead; down = down } })
 
-pub refused-stays : (s t : Dimensions) (name : CallName) (op : Asked) (old new : whole.Standing) (own roomy after : List (Link Message)) (known : Membership) (step : code.CallStep)
+pub refused-stays : (s t : Dimensions) (name : CallName) (op : Asked) (old new : whole.Standing)
+    (own roomy after : List (Link Message)) (known : Membership) (step : code.CallStep)
     (dead down : Bool) → t ≡ s → length own ≡ s.k + s.m → ask_process t name op old.process ≡ called new.process step → IsRefusal step.answer
     → messages roomy ≡ messages own → messages after ≡ links_after s known step.sent.items (messages roomy)
     → node_standing s new after dead down ≡ node_standing s old own dead down

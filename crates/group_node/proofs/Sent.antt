@@ -52,7 +52,9 @@ module _ (s : Dimensions) (known : Membership) (one : Sent) (rest : List Sent) w
 
   -- a message to one of the living
   pub one-sent : (links : List (List Message)) → IsLiving s known one.to
-      → links_after s known rest (put [] links (index_of s one.to) (at [] links (index_of s one.to) ++ one.message ∷ [])) ≡ links_after s known (one ∷ rest) links
+      → links_after s known rest
+      (put [] links (index_of s one.to) (at [] links (index_of s one.to) ++ one.message ∷ [])) ≡ links_after s known
+      (one ∷ rest) links
   one-sent links lives = range-below (λ x. after false (process_at s x) (at [] more x))
       (λ x. after (same_process one.to (process_at s x)) (process_at s x) (at [] links x)) (s.k + s.m)
       (λ x below. by x (same_process one.to (process_at s x)) refl) where
@@ -62,7 +64,8 @@ module _ (s : Dimensions) (known : Membership) (one : Sent) (rest : List Sent) w
         more : List (List Message)
         more = put [] links to (at [] links to ++ one.message ∷ [])
 
-        by : (x : ℕ) (b : Bool) → same_process one.to (process_at s x) ≡ b → after false (process_at s x) (at [] more x) ≡ after b (process_at s x) (at [] links x)
+        by : (x : ℕ) (b : Bool) → same_process one.to (process_at s x) ≡ b → after false (process_at s x) (at [] more x)
+            ≡ after b (process_at s x) (at [] links x)
         by x false e = ap (after false (process_at s x)) (at-put-other [] links to x _ apart) where
           apart : x ≢ to
           apart same = cc (e, same-refl one.to, ap (λ (q : ProcessId). same_process one.to q) (ap (process_at s) same ∙ process_at-index s one.to lives.named))

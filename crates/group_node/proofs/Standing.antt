@@ -32,27 +32,34 @@ pub received-name : (s : Dimensions) (from : ProcessId) (m : Message) (old new :
 received-name s from m old new (Ok step) is same = sym (ap (λ (t : ProcessStep). t.process.name) is) ∙ named-received s from m old
 received-name s from m old new (Err e) is same = ap (λ (p : Process). p.name) same
 
-pub collected-name : (caller call : ℕ) (ds : List ℕ) (answer : Answer) (old new : Process) → collect_from caller call old ds ≡ only answer new → new.name ≡ old.name
+pub collected-name : (caller call : ℕ) (ds : List ℕ) (answer : Answer) (old new : Process)
+    → collect_from caller call old ds ≡ only answer new → new.name ≡ old.name
 collected-name caller call ds answer old new is = sym (ap (λ (t : machine.CallStep). t.step.process.name) is) ∙ named-collected caller call old ds
 
 -- a process of the same name stays in its role
-pub data-named : (now inside : Role) (new old : Standing) → now ≡ Data new → inside ≡ Data old → new.process.name ≡ old.process.name → IsNamed inside → IsNamed now
+pub data-named : (now inside : Role) (new old : Standing) → now ≡ Data new → inside ≡ Data old
+    → new.process.name ≡ old.process.name → IsNamed inside → IsNamed now
 data-named now inside new old is was same named =
     let before = subst IsNamed was named in
     subst IsNamed (sym is) (before.0, same ∙ before.1)
 
-pub parity-named : (now inside : Role) (new old : Standing) → now ≡ Parity new → inside ≡ Parity old → new.process.name ≡ old.process.name → IsNamed inside → IsNamed now
+pub parity-named : (now inside : Role) (new old : Standing) → now ≡ Parity new → inside ≡ Parity old
+    → new.process.name ≡ old.process.name → IsNamed inside → IsNamed now
 parity-named now inside new old is was same named =
     let before = subst IsNamed was named in
     subst IsNamed (sym is) (before.0, same ∙ before.1)
 
 -- its name is the one that is seen
-pub data-name : (now inside : Role) (new old seen : Standing) → now ≡ Data new → inside ≡ Data old → standing_in inside ≡ seen → new.process.name ≡ old.process.name
+pub data-name : (now inside : Role) (new old seen : Standing) → now ≡ Data new → inside ≡ Data old
+    → standing_in inside ≡ seen → new.process.name ≡ old.process.name
     → (standing_in now).process.name ≡ seen.process.name
 data-name now inside new old seen is was view same =
-    ap (λ (r : Role). (standing_in r).process.name) is ∙ same ∙ sym (ap (λ (r : Role). (standing_in r).process.name) was) ∙ ap (λ (v : Standing). v.process.name) view
+    ap (λ (r : Role). (standing_in r).process.name) is ∙ same
+    ∙ sym (ap (λ (r : Role). (standing_in r).process.name) was) ∙ ap (λ (v : Standing). v.process.name) view
 
-pub parity-name : (now inside : Role) (new old seen : Standing) → now ≡ Parity new → inside ≡ Parity old → standing_in inside ≡ seen → new.process.name ≡ old.process.name
+pub parity-name : (now inside : Role) (new old seen : Standing) → now ≡ Parity new → inside ≡ Parity old
+    → standing_in inside ≡ seen → new.process.name ≡ old.process.name
     → (standing_in now).process.name ≡ seen.process.name
 parity-name now inside new old seen is was view same =
-    ap (λ (r : Role). (standing_in r).process.name) is ∙ same ∙ sym (ap (λ (r : Role). (standing_in r).process.name) was) ∙ ap (λ (v : Standing). v.process.name) view
+    ap (λ (r : Role). (standing_in r).process.name) is ∙ same
+    ∙ sym (ap (λ (r : Role). (standing_in r).process.name) was) ∙ ap (λ (v : Standing). v.process.name) view

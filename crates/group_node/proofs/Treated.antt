@@ -29,7 +29,8 @@ use Rattle.group_node.proofs.Sent.{nothing-behind}
 pub few-asked : (s t : Dimensions) (p new : Process) (name : CallName) (op : Asked) (step : CallStep) → AlwaysSendsFew → IsShape s → t ≡ s
     → ask_process t name op p ≡ called new step → FewForEach s step.sent.items
 few-asked s t p new name op step always limits same is =
-    subst (λ (c : machine.CallStep). FewForEach s c.step.sent) (ap (λ (x : Dimensions). ask_process x name op p) (sym same) ∙ is) ((always s p limits).asked name op)
+    subst (λ (c : machine.CallStep). FewForEach s c.step.sent)
+    (ap (λ (x : Dimensions). ask_process x name op p) (sym same) ∙ is) ((always s p limits).asked name op)
 
 pub few-received : (s t : Dimensions) (p new : Process) (from : ProcessId) (m : Message) (step : Step) → AlwaysSendsFew → IsShape s → t ≡ s → Fits s from m p
     → receive t from m p ≡ stepped new step → FewForEach s step.sent.items
@@ -45,7 +46,8 @@ up false false node step is lives = refl
 -- what is collected sends nothing
 pub collected : (s t : Dimensions) (caller call : ℕ) (node : Node) (answer : Answer) (new : Process) → node.down ≡ false → node.dead ≡ false
     → length node.links ≡ s.k + s.m → t ≡ s
-    → collect_from caller call node.process (range_with_len 0 t.k) ≡ only answer new → collect_node s caller call node ≡ unchanged answer (record node { process = new })
+    → collect_from caller call node.process (range_with_len 0 t.k) ≡ only answer new → collect_node s caller call node
+    ≡ unchanged answer (record node { process = new })
 collected s t caller call node answer new is_up lives long same is =
     up node.down node.dead node (treated s node (collect_from caller call node.process (range_with_len 0 s.k))) is_up lives
     ∙ ap (treated s node) (ap (λ (x : Dimensions). collect_from caller call node.process (range_with_len 0 x.k)) (sym same) ∙ is)
@@ -58,7 +60,8 @@ no-messages (suc n) = ap (λ (rest : List (List Message)). [] ∷ rest) (no-mess
 -- a node at the start
 pub starts : (s : Dimensions) (name : ProcessId) (p : whole.Standing) (old new : List (Link Message))
     → p ≡ record { shape = s; process = opening_process s name; made = [] }
-    → old ≡ replicate (s.k + s.m) empty_link → messages new ≡ messages old → node_standing s p new false false ≡ record { shape = s; node = opening_node s name }
+    → old ≡ replicate (s.k + s.m) empty_link → messages new ≡ messages old → node_standing s p new false false
+    ≡ record { shape = s; node = opening_node s name }
 starts s name p old new process is same =
     let links = same ∙ ap messages is ∙ no-messages (s.k + s.m) in
     ap (λ (x : whole.Standing). node_standing s x new false false) process

@@ -24,7 +24,9 @@ use Rattle.group_calls.specs.declared.decision.Decision.TheVariants as decides
 use Rattle.group_run.specs.Applying.{ProcessStep, head_at, quiet}
 use Rattle.group_run.specs.Asking.{CallStep, Oldest, act_on, ask_head, ask_process, found_at, oldest_inherited, retry_block, ticketed}
 use Rattle.group_run.specs.Applying.{replica_of}
-use Rattle.group_run.specs.Deciding.{Bytes, Found, Missing, blind_reply, decide, decide_blind, decide_found, decide_ruled, decide_waiting, is_get, item_found, length_of, run_needed, ruling_with, unseen, waits_for, held_as}
+use Rattle.group_run.specs.Deciding.{Bytes, Found, Missing, blind_reply, decide, decide_blind, decide_found}
+use Rattle.group_run.specs.Deciding.{decide_ruled, decide_waiting, is_get, item_found, length_of, run_needed}
+use Rattle.group_run.specs.Deciding.{ruling_with, unseen, waits_for, held_as}
 use Rattle.group_run.specs.Process.{Head, Process}
 use Rattle.group_run.specs.Replica.{Replica, number_on, slot_in}
 use Rattle.group_run.specs.World.{links_after}
@@ -89,7 +91,8 @@ module _ (s : Dimensions) (name : CallName) (op : Asked) (p : Process) where
   by-block b None nothing = absurd nothing
   by-block b (Some o) nothing = refl
 
-  by-decision : (d : ℕ) (h : Head) (decision : Decision) → (is_get op.act ≡ true → IsNoIssue decision) → ChangesNothing op (act_on s name op d h p decision).answer
+  by-decision : (d : ℕ) (h : Head) (decision : Decision) → (is_get op.act ≡ true → IsNoIssue decision)
+      → ChangesNothing op (act_on s name op d h p decision).answer
       → (act_on s name op d h p decision).step ≡ quiet p
   by-decision d h (decides.Answer r) none nothing = refl
   by-decision d h (decides.Retry n) none nothing = refl
@@ -105,7 +108,8 @@ module _ (s : Dimensions) (name : CallName) (op : Asked) (p : Process) where
   unmade-quiet nothing = by-head (home_of (key_of op.act) s.k) (head_at p (home_of (key_of op.act) s.k)) nothing
 
 -- nor does its node
-pub unmade-stays : (s t : Dimensions) (name : CallName) (op : Asked) (old new : whole.Standing) (own roomy after : List (Link Message)) (known : Membership) (step : code.CallStep)
+pub unmade-stays : (s t : Dimensions) (name : CallName) (op : Asked) (old new : whole.Standing)
+    (own roomy after : List (Link Message)) (known : Membership) (step : code.CallStep)
     (dead down : Bool) → t ≡ s → length own ≡ s.k + s.m → ask_process t name op old.process ≡ called new.process step → ChangesNothing op step.answer
     → messages roomy ≡ messages own → messages after ≡ links_after s known step.sent.items (messages roomy)
     → node_standing s new after dead down ≡ node_standing s old own dead down

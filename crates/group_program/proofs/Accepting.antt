@@ -77,7 +77,8 @@ played-not l never before now status played is = by played.told where
   by (inr (inr (inl read))) = cc (sym read.0 ∙ is)
   by (inr (inr (inr wrote))) = cc (sym wrote.0 ∙ is)
 
-pub written-not : (wanted : Status) (text before now : List ℕ) (faults_before faults_now : ℕ) (status : Status) → IsWritten wanted text before now faults_before faults_now status
+pub written-not : (wanted : Status) (text before now : List ℕ) (faults_before faults_now : ℕ) (status : Status)
+    → IsWritten wanted text before now faults_before faults_now status
     → wanted ≢ AcceptFault → status ≢ AcceptFault
 written-not wanted text before now faults_before faults_now status written not is = by written.told where
   by : (status ≡ wanted) ⊎ (status ≡ Want) ⊎ ((status ≡ WriteFault) × Rose faults_before faults_now) → ⊥
@@ -114,7 +115,8 @@ listed-not before now status listed = ended-not (listing.status_of listed.end) l
 
 pub session-not : (d : Dimensions) (moment : Option ℕ) (before now : Outside) (status : Status) → IsSession d moment before now status → status ≢ AcceptFault
 session-not d moment before now status (inl shaped) = ended-not _ before now status shaped.2 (λ is. cc is)
-session-not d moment before now status (inr served) = ended-not (session.status_of served.1.end) served.1.middle now status served.1.told (of_session served.1.end)
+session-not d moment before now status (inr served) = ended-not (session.status_of served.1.end) served.1.middle now
+    status served.1.told (of_session served.1.end)
 
 of_verdict : (e : VerifyStatus) → verifying.status_of e ≢ AcceptFault
 of_verdict verdict.Done is = cc is

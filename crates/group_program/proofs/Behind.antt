@@ -8,7 +8,8 @@ module _ {A B : Type 0} (f : A → B) where
   dropped None [] rest is some = ap (map f) is
   dropped None (x ∷ all) rest is some = cc (some (omega arith))
 
-  pub behind_first : {V E : Type 0} (items : V → List A) (len : V → ℕ) (first : Option A) (all rest : List A) (r : Result V E) → all ≡ option_to_list first ++ rest
+  pub behind_first : {V E : Type 0} (items : V → List A) (len : V → ℕ) (first : Option A) (all rest : List A)
+      (r : Result V E) → all ≡ option_to_list first ++ rest
       → (0 < length all → IsSome first) → IfOk r (λ v. (items v ≡ rest) × (len v ≡ length rest)) → IfOk r (λ v. map f (items v) ≡ drop 1 (map f all))
   behind_first items len first all rest (Ok v) is some given = ap (map f) given.0 ∙ sym (dropped first all rest is some)
   behind_first items len first all rest (Err e) is some given = tt

@@ -23,26 +23,35 @@ use Rattle.group_program.specs.declared.member_stop.MemberStop.{MemberStop}
 pub refused : (name : Option (List ℕ)) (before now : Input) (text : List ℕ) (f : MemberFault) (out : Result MemberSettings MemberStop) → HasRead before now text
     → MemberComesOf name text (Err f) → IsErrAnd out (λ e. e ≡ stop_of f) → IsGivenMemberOr name before now out
 refused name before now text f (Ok settings) read comes is = absurd is
-refused name before now text (fault.BadKey key) (Err e) read comes is = subst (λ (s : MemberStop). IsGivenMemberOr name before now (Err s)) (sym is) (record { text = text; read = read; refuses = comes })
+refused name before now text (fault.BadKey key) (Err e) read comes is =
+    subst (λ (s : MemberStop). IsGivenMemberOr name before now (Err s)) (sym is)
+    (record { text = text; read = read; refuses = comes })
 refused name before now text fault.Want (Err e) read comes is = subst (λ (s : MemberStop). IsGivenMemberOr name before now (Err s)) (sym is) tt
 
 -- and none of how it is watched: those of the member are refused, or else these
-pub member_refused : (name : Option (List ℕ)) (before now : Input) (text : List ℕ) (f : MemberFault) (out : Result (MemberSettings × WatchSettings) MemberStop) → HasRead before now text
+pub member_refused : (name : Option (List ℕ)) (before now : Input) (text : List ℕ) (f : MemberFault)
+    (out : Result (MemberSettings × WatchSettings) MemberStop) → HasRead before now text
     → MemberComesOf name text (Err f) → IsErrAnd out (λ e. e ≡ stop_of f) → IsGivenWatchOr name before now out
 member_refused name before now text f (Ok given) read comes is = absurd is
-member_refused name before now text (fault.BadKey key) (Err e) read comes is = subst (λ (s : MemberStop). IsGivenWatchOr name before now (Err s)) (sym is) (record { text = text; read = read; refuses = inl comes })
+member_refused name before now text (fault.BadKey key) (Err e) read comes is =
+    subst (λ (s : MemberStop). IsGivenWatchOr name before now (Err s)) (sym is)
+    (record { text = text; read = read; refuses = inl comes })
 member_refused name before now text fault.Want (Err e) read comes is = subst (λ (s : MemberStop). IsGivenWatchOr name before now (Err s)) (sym is) tt
 
-pub watch_refused : (name : Option (List ℕ)) (before now : Input) (text : List ℕ) (settings : MemberSettings) (f : MemberFault) (out : Result (MemberSettings × WatchSettings) MemberStop) → HasRead before now text
+pub watch_refused : (name : Option (List ℕ)) (before now : Input) (text : List ℕ) (settings : MemberSettings)
+    (f : MemberFault) (out : Result (MemberSettings × WatchSettings) MemberStop) → HasRead before now text
     → GivesMember name text settings → WatchComesOf text (Err f) → IsErrAnd out (λ e. e ≡ stop_of f) → IsGivenWatchOr name before now out
 watch_refused name before now text settings f (Ok given) read gives comes is = absurd is
 watch_refused name before now text settings (fault.BadKey key) (Err e) read gives comes is =
     subst (λ (s : MemberStop). IsGivenWatchOr name before now (Err s)) (sym is) (record { text = text; read = read; refuses = inr (settings, gives, comes) })
-watch_refused name before now text settings fault.Want (Err e) read gives comes is = subst (λ (s : MemberStop). IsGivenWatchOr name before now (Err s)) (sym is) tt
+watch_refused name before now text settings fault.Want (Err e) read gives comes is =
+    subst (λ (s : MemberStop). IsGivenWatchOr name before now (Err s)) (sym is) tt
 
 -- and none of a carry
 pub carry_refused : (before now : Input) (text : List ℕ) (f : CarryKeyFault) (out : Result CarrySettings CarryStop) → HasRead before now text
     → CarryComesOf text (Err f) → IsErrAnd out (λ e. e ≡ carrying.stop_of f) → IsGivenCarryOr before now out
 carry_refused before now text f (Ok settings) read comes is = absurd is
-carry_refused before now text (carry_fault.BadKey key) (Err e) read comes is = subst (λ (s : CarryStop). IsGivenCarryOr before now (Err s)) (sym is) (record { text = text; read = read; refuses = comes })
+carry_refused before now text (carry_fault.BadKey key) (Err e) read comes is =
+    subst (λ (s : CarryStop). IsGivenCarryOr before now (Err s)) (sym is)
+    (record { text = text; read = read; refuses = comes })
 carry_refused before now text carry_fault.Want (Err e) read comes is = subst (λ (s : CarryStop). IsGivenCarryOr before now (Err s)) (sym is) tt

@@ -20,7 +20,9 @@ use Rattle.group_program.specs.Session.{HasToldLast, status_of}
 
 -- what is told by the call that writes the last line
 pub has_told : (wanted asked : Status) (before now : Outside) (status : Status) → asked ≡ wanted → (status ≡ asked) ⊎ (status ≡ Want)
-    → (last_line asked ≡ [] → status ≡ asked) → (status ≡ asked → (status ≡ Want) ⊎ EndsWith before.held now.held before.writes now.writes [] (last_line asked)) → TellsFront before.held now.held status → HasToldLast wanted before now status
+    → (last_line asked ≡ [] → status ≡ asked)
+    → (status ≡ asked → (status ≡ Want) ⊎ EndsWith before.held now.held before.writes now.writes [] (last_line asked))
+    → TellsFront before.held now.held status → HasToldLast wanted before now status
 has_told wanted asked before now status same (inr want) silent line front = record {
   is = inr want;
   silent = λ none. silent (ap last_line same ∙ none) ∙ same;
@@ -76,7 +78,8 @@ stopped before now status (inl want) front = record { want = want; told = subst 
 stopped before now status (inr want) front = record { want = want; told = subst (TellsFront before now) want front }
 
 -- a script that was played to its end was taken whole, and keeps its promises
-pub played_whole : (l : Language) (before now : Outside) (status : Status) → IsPlayed l before now status → status ≡ Done → HasPlayedWhole l before.input now.input before.held now.held
+pub played_whole : (l : Language) (before now : Outside) (status : Status) → IsPlayed l before now status
+    → status ≡ Done → HasPlayedWhole l before.input now.input before.held now.held
 played_whole l before now status played done = record {
   script = played.script;
   taken = played.taken;
@@ -86,7 +89,8 @@ played_whole l before now status played done = record {
 }
 
 -- a group that was served to its end
-module _ {L : Type 0} (listened : L → List ℕ → L → Type 0) (tells : L → Tally) (l l_now : L) (before now : Outside) (status : Status) (done : status ≡ Done) where
+module _ {L : Type 0} (listened : L → List ℕ → L → Type 0) (tells : L → Tally) (l l_now : L) (before now : Outside)
+    (status : Status) (done : status ≡ Done) where
   abbrev Serves : Input → List ℕ → Result ℕ ServiceFault → Type 0
   Serves input held end = HasServedGroup listened tells before.input input before.held held l l_now end
 
@@ -102,8 +106,14 @@ module _ {L : Type 0} (listened : L → List ℕ → L → Type 0) (tells : L �
 
   pub served_whole : IsServed listened tells l l_now before now status → HasServedWhole listened tells l l_now before now
   served_whole served = by served.end served.served served.told where
-    by : (end : Result ℕ ServiceFault) → Serves served.middle.input served.middle.held end → HasToldLast (serving.status_of end) served.middle now status → HasServedWhole listened tells l l_now before now
-    by (Ok n) serves told = (n, subst (λ (i : Input). Serves i now.held (Ok n)) (sym served.kept) (subst (λ (h : List ℕ). Serves served.middle.input h (Ok n)) (nothing_behind served.middle told.line) serves))
+    by : (end : Result ℕ ServiceFault) → Serves served.middle.input served.middle.held end
+        → HasToldLast (serving.status_of end) served.middle now status
+        → HasServedWhole listened tells l l_now before now
+    by (Ok n) serves told = (
+      n,
+      subst (λ (i : Input). Serves i now.held (Ok n)) (sym served.kept)
+          (subst (λ (h : List ℕ). Serves served.middle.input h (Ok n)) (nothing_behind served.middle told.line) serves),
+    )
     by (Err fault.TooLong) serves told = absurd (not_done _ told.is (λ is. cc is))
     by (Err (fault.BadConfig key)) serves told = absurd (not_done _ told.is (λ is. cc is))
     by (Err fault.ReadFault) serves told = absurd (not_done _ told.is (λ is. cc is))

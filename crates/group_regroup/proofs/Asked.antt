@@ -1,5 +1,6 @@
 -- What an event logs of the call that it asks has the op that was asked.
-use Rattle.std.proofs.Common.{◌≡◌, ℕ, ◌<◌, ◌==◌, ◌&&◌, Bool, true, false, List, [], ◌∷◌, ◌++◌, Option, Some, None, if◌then◌else◌, refl, sym, ap, subst, ◌∙◌, append-nil, arith}
+use Rattle.std.proofs.Common.{◌≡◌, ℕ, ◌<◌, ◌==◌, ◌&&◌, Bool, true, false, List, [], ◌∷◌, ◌++◌, Option, Some, None}
+use Rattle.std.proofs.Common.{if◌then◌else◌, refl, sym, ap, subst, ◌∙◌, append-nil, arith}
 use mathlib.Core.Bool.{false≢true}
 use Rattle.std.proofs.lemmas.Option.{none-some}
 use Rattle.std.specs.Option.{unwrap_or}
@@ -20,9 +21,12 @@ use Rattle.group_calls.specs.declared.event.Answer.TheVariants as says
 use Rattle.group_calls.specs.declared.event.Event.TheVariants.{Ask}
 use Rattle.group_run.specs.Asking.{reply_from}
 use Rattle.group_run.specs.Applying.{Settlement}
-use Rattle.group_run.specs.World.{Ledger, Ticket, World, call_of, entries_for, entry_then, group_step, grown, is_issued, ledger_after, ledger_with, logged_at_once, new_ones, next_name, op_in, same_call, settled_in, step, ticket_if, tickets_after, update_name, refusal_logged}
+use Rattle.group_run.specs.World.{Ledger, Ticket, World, call_of, entries_for, entry_then, group_step, grown, is_issued}
+use Rattle.group_run.specs.World.{ledger_after, ledger_with, logged_at_once, new_ones, next_name, op_in, same_call}
+use Rattle.group_run.specs.World.{settled_in, step, ticket_if, tickets_after, update_name, refusal_logged}
 
-module _ (P : Entry → Type 0) (tickets : List Ticket) (holds : (name : CallName) (op : Asked) (reply : Reply) → op_in name tickets ≡ Some op → P (entry_of name op reply)) where
+module _ (P : Entry → Type 0) (tickets : List Ticket) (holds : (name : CallName) (op : Asked) (reply : Reply)
+    → op_in name tickets ≡ Some op → P (entry_of name op reply)) where
   for-settled : (us : List Update) → Each P (entries_for tickets us)
   for-settled [] = tt
   for-settled (u ∷ us) = by (op_in (update_name u) tickets) refl (for-settled us) where
@@ -86,13 +90,16 @@ module _ (w : World) (caller : ℕ) where
 
     has-its-op : (issued : Bool) (since : ℕ) → All IsOld w.tickets → (name : CallName) (o : Asked) (reply : Reply)
         → op_in name (ticket_if issued since (record { name = next_name w caller; op = op }) w.tickets) ≡ Some o → HasItsOp (entry_of name o reply)
-    has-its-op issued since old name o reply found same = by issued (subst (λ (n : CallName). op_in n (ticket_if issued since (record { name = next_name w caller; op = op }) w.tickets) ≡ Some o) name_is found) where
-      name_is : name ≡ next_name w caller
-      name_is = let (caller_is, call_is) = same-name (next_name w caller) name same in λ i. record { caller = sym caller_is i; call = sym call_is i }
+    has-its-op issued since old name o reply found same =
+        by issued (subst
+        (λ (n : CallName). op_in n (ticket_if issued since (record { name = next_name w caller; op = op }) w.tickets)
+        ≡ Some o) name_is found) where
+          name_is : name ≡ next_name w caller
+          name_is = let (caller_is, call_is) = same-name (next_name w caller) name same in λ i. record { caller = sym caller_is i; call = sym call_is i }
 
-      by : (b : Bool) → op_in (next_name w caller) (ticket_if b since (record { name = next_name w caller; op = op }) w.tickets) ≡ Some o → o ≡ op
-      by true is = only o (same_call (next_name w caller) (next_name w caller)) (sym (behind w.tickets _ old) ∙ is)
-      by false is = absurd (none-some o (sym (none w.tickets old) ∙ is))
+          by : (b : Bool) → op_in (next_name w caller) (ticket_if b since (record { name = next_name w caller; op = op }) w.tickets) ≡ Some o → o ≡ op
+          by true is = only o (same_call (next_name w caller) (next_name w caller)) (sym (behind w.tickets _ old) ∙ is)
+          by false is = absurd (none-some o (sym (none w.tickets old) ∙ is))
 
     at-once : (answer : Answer) → Each HasItsOp (logged_at_once (Some (record { name = next_name w caller; op = op })) answer)
     at-once (says.Reply reply) = by (accepts reply) where

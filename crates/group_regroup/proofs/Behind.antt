@@ -1,5 +1,6 @@
 -- What stands behind an era: how its items are read, and what the next one begins with.
-use Rattle.std.proofs.Common.{◌≡◌, ℕ, zero, suc, ◌+◌, ◌<◌, ◌≤◌, Bool, true, false, cond, List, [], ◌∷◌, ◌++◌, length, map, Option, refl, sym, ap, subst, ◌∙◌, arith}
+use Rattle.std.proofs.Common.{◌≡◌, ℕ, zero, suc, ◌+◌, ◌<◌, ◌≤◌, Bool, true, false, cond, List, [], ◌∷◌, ◌++◌, length}
+use Rattle.std.proofs.Common.{map, Option, refl, sym, ap, subst, ◌∙◌, arith}
 use Rattle.std.specs.Prelude.{All, count_by, fold}
 use Rattle.std.specs.List.{range_with_len}
 use Rattle.std.proofs.lemmas.List.Elements.{All-cons, All-head, All-map, All-nil, All-tail}
@@ -49,19 +50,23 @@ read-within k w (x ∷ xs) all =
 parcels-back : (k : ℕ) (ps : List Parcel) → All (InFirst k) (parcels_as ps) → AreAllWithin k ps
 parcels-back k [] all = All-nil (λ (x : Parcel). x.item.partition.0 < k)
 parcels-back k (p ∷ ps) all =
-    All-cons (λ (x : Parcel). x.item.partition.0 < k) p ps (All-head (InFirst k) (parcel_as p) (parcels_as ps) all) (parcels-back k ps (All-tail (InFirst k) (parcel_as p) (parcels_as ps) all))
+    All-cons (λ (x : Parcel). x.item.partition.0 < k) p ps (All-head (InFirst k) (parcel_as p) (parcels_as ps) all)
+    (parcels-back k ps (All-tail (InFirst k) (parcel_as p) (parcels_as ps) all))
 
-pub parcels-within : (k : ℕ) (w : World) (items : List Item) (ps : List Parcel) → AreWithin k items → parcels_as ps ≡ (read_all w (loads_of items)).parcels → AreAllWithin k ps
+pub parcels-within : (k : ℕ) (w : World) (items : List Item) (ps : List Parcel) → AreWithin k items
+    → parcels_as ps ≡ (read_all w (loads_of items)).parcels → AreAllWithin k ps
 parcels-within k w items ps within is =
     parcels-back k ps (subst (All (InFirst k)) (sym is) (read-within k w (loads_of items) (All-map (λ (x : Load). x.partition < k) load_of items within)))
 
 -- a log has as many updates of a partition as entries that are one
-counted-from : (k d : ℕ) (t : Contents) (runs : List (Option Run)) (es : List Entry) (a : ℕ) → fold (λ n e. n + cond (is_update_of k d e) 1 0) a es ≡ a + length (updates_from k d t runs es)
+counted-from : (k d : ℕ) (t : Contents) (runs : List (Option Run)) (es : List Entry) (a : ℕ)
+    → fold (λ n e. n + cond (is_update_of k d e) 1 0) a es ≡ a + length (updates_from k d t runs es)
 counted-from k d t runs [] a = omega arith
 counted-from k d t runs (e ∷ es) a =
     let b : Bool = is_update_of k d e in
     let later = counted-from k d (table_after t e.op) (runs_left b runs) es (a + cond b 1 0) in
-    let front = by b (record { entry = e; run = next_run runs; item = (table_after t e.op).items (key_of e.op.act) }) (updates_from k d (table_after t e.op) (runs_left b runs) es) in
+    let front = by b (record { entry = e; run = next_run runs; item = (table_after t e.op).items (key_of e.op.act) })
+    (updates_from k d (table_after t e.op) (runs_left b runs) es) in
     omega (arith, later, front)
   where
     by : (b : Bool) (x : Logged) (xs : List Logged) → length (front_if b x xs) ≡ length xs + cond b 1 0
@@ -87,7 +92,8 @@ range-long f (suc n) a = ap suc (range-long f n (a + 1))
 
 pub range-all : {X : Type 0} (P : X → Type 0) (f : ℕ → X) (n a : ℕ) → ((d : ℕ) → d < a + n → P (f d)) → All P (map f (range_with_len a n))
 range-all P f zero a each = All-nil P
-range-all P f (suc n) a each = All-cons P (f a) (map f (range_with_len (a + 1) n)) (each a (omega arith)) (range-all P f n (a + 1) (λ d low. each d (omega (arith, low))))
+range-all P f (suc n) a each = All-cons P (f a) (map f (range_with_len (a + 1) n)) (each a (omega arith))
+    (range-all P f n (a + 1) (λ d low. each d (omega (arith, low))))
 
 pub at-low : (bases : List ℕ) (d most : ℕ) → 0 < most → All (λ base. base < most) bases → at 0 bases d < most
 at-low [] d most some all = some
@@ -103,13 +109,15 @@ pub bases-none : (w : World) (bases : List ℕ) → AreBases w bases [] 0
 bases-none w bases = record { low = omega arith; is = refl }
 
 module _ (w : World) (bases next : List ℕ) (many : ℕ) (are : AreBases w bases next many) where
-  pub bases-next : (now : List ℕ) (base : ℕ) → many < w.shape.k → now ≡ next ++ base ∷ [] → base ≡ at 0 bases many + count_logged w many → AreBases w bases now (many + 1)
+  pub bases-next : (now : List ℕ) (base : ℕ) → many < w.shape.k → now ≡ next ++ base ∷ []
+      → base ≡ at 0 bases many + count_logged w many → AreBases w bases now (many + 1)
   bases-next now base below is value = record { low = omega (arith, below); is = pushed } where
     one : suc many ≡ many + 1
     one = omega arith
 
     pushed : now ≡ map (λ d. at 0 bases d + count_logged w d) (range_with_len 0 (many + 1))
-    pushed = is ∙ ap (λ (xs : List ℕ). xs ++ base ∷ []) are.is ∙ ap (λ (x : ℕ). map (λ d. at 0 bases d + count_logged w d) (range_with_len 0 many) ++ x ∷ []) value
+    pushed = is ∙ ap (λ (xs : List ℕ). xs ++ base ∷ []) are.is
+        ∙ ap (λ (x : ℕ). map (λ d. at 0 bases d + count_logged w d) (range_with_len 0 many) ++ x ∷ []) value
         ∙ sym (range-first (λ d. at 0 bases d + count_logged w d) many) ∙ ap (λ (n : ℕ). map (λ d. at 0 bases d + count_logged w d) (range_with_len 0 n)) one
 
   pub bases-all : w.shape.k ≤ many → next ≡ bases_after w bases

@@ -19,7 +19,8 @@ use Rattle.group_regroup.specs.Kept.{entries_from, eras_of}
 use Rattle.group_regroup.proofs.Plain.{plain-after, plain-reads, plain-sets}
 use Rattle.group_regroup.proofs.Renewed.{renewed}
 
-module _ (w : World) (bases : Bases) (past : List (List Entry)) (l : List Lowered) (s : Dimensions) (has : HasRun w) (within : All (λ x. x.until ≤ length w.log) l) (limits : IsShape s)
+module _ (w : World) (bases : Bases) (past : List (List Entry)) (l : List Lowered) (s : Dimensions) (has : HasRun w)
+    (within : All (λ x. x.until ≤ length w.log) l) (limits : IsShape s)
     (reads : IsRunFrom w (reading w).events) (sets : IsRunFrom (opening s) (setting (opening s) (reading w).parcels)) where
   -- the old world once all items are read, and what is kept of it
   abbrev pub old : World
@@ -36,6 +37,9 @@ module _ (w : World) (bases : Bases) (past : List (List Entry)) (l : List Lowere
 
   pub carried-over : eras_of (world_after (opening s) puts) new_bases new_past [] ≡ carried (eras_of w bases past l) s
   carried-over =
-      plain-after new_bases new_past [] (opening s) puts (begun s limits) sets (plain-sets new_bases s.k (opening s) (reading w).parcels) (All-nil (λ (x : Lowered). x.until ≤ length (opening s).log))
+      plain-after new_bases new_past [] (opening s) puts (begun s limits) sets
+      (plain-sets new_bases s.k (opening s) (reading w).parcels)
+      (All-nil (λ (x : Lowered). x.until ≤ length (opening s).log))
       ∙ ap (λ (x : Eras). eras_after x puts) (sym (renewed old bases past l s))
-      ∙ ap (λ (x : Eras). eras_after (next_era x s) puts) (plain-after bases past l w (reading w).events has reads (plain-reads bases w.shape.k w (loads w)) within)
+      ∙ ap (λ (x : Eras). eras_after (next_era x s) puts)
+      (plain-after bases past l w (reading w).events has reads (plain-reads bases w.shape.k w (loads w)) within)

@@ -91,10 +91,13 @@ module _ (w : World) (bases : Bases) (past : List (List Entry)) (l : List Lowere
   old = world_after w (reading w).events
 
   old-led : IsLed (eras_of old bases past l)
-  old-led = subst (λ (es : List Event). IsLed (eras_of (world_after w es) bases past l)) (take-whole (reading w).events (length (reading w).events) (omega arith)) (part-led (length (reading w).events)).led
+  old-led = subst (λ (es : List Event). IsLed (eras_of (world_after w es) bases past l))
+      (take-whole (reading w).events (length (reading w).events) (omega arith))
+      (part-led (length (reading w).events)).led
 
   -- all were read and set
-  module _ (s : Dimensions) (successor : IsSuccessor w s) (can : CanCarry w s) (fresh : Fresh) (made : IsFresh (reading w).world bases l s (reading w).parcels fresh) where
+  module _ (s : Dimensions) (successor : IsSuccessor w s) (can : CanCarry w s) (fresh : Fresh)
+      (made : IsFresh (reading w).world bases l s (reading w).parcels fresh) where
     is-fresh : IsFresh old bases l s (reading w).parcels fresh
     is-fresh = subst (λ (v : World). IsFresh v bases l s (reading w).parcels fresh) (read-after w (loads w)) made
 
@@ -122,7 +125,8 @@ module _ (w : World) (bases : Bases) (past : List (List Entry)) (l : List Lowere
 
       new-many : length fresh.bases.items ≡ fresh.world.shape.k
       new-many = ap length is-fresh.bases ∙ range-long (λ d. at 0 bases d + count_logged old d) old.shape.k 0 ∙ width ∙ sym successor.partitions
-          ∙ sym (ap (λ (u : World). u.shape.k) is-fresh.world ∙ ap (λ (t : Dimensions). t.k) (keeps-shape (opening s) (setting (opening s) (reading w).parcels)))
+          ∙ sym (ap (λ (u : World). u.shape.k) is-fresh.world
+          ∙ ap (λ (t : Dimensions). t.k) (keeps-shape (opening s) (setting (opening s) (reading w).parcels)))
 
       pub carried-led : AreLed fresh.world fresh.bases.items new_past []
       carried-led = record {

@@ -1,5 +1,6 @@
 -- The deliveries that drain a group, one after the other.
-use Rattle.std.proofs.Common.{◌≡◌, ℕ, zero, suc, ◌+◌, ◌-◌, ◌≤◌, ◌<◌, List, [], ◌∷◌, ◌++◌, length, take, Option, Some, None, Result, Ok, Err, refl, sym, ap, ◌∙◌, append_assoc, append-nil, length-append, arith}
+use Rattle.std.proofs.Common.{◌≡◌, ℕ, zero, suc, ◌+◌, ◌-◌, ◌≤◌, ◌<◌, List, [], ◌∷◌, ◌++◌, length, take, Option, Some}
+use Rattle.std.proofs.Common.{None, Result, Ok, Err, refl, sym, ap, ◌∙◌, append_assoc, append-nil, length-append, arith}
 use Rattle.std.specs.Prelude.{OnErr}
 use Rattle.group_calls.specs.declared.event.Event.{Event}
 use Rattle.group_run.specs.Draining.{drain_events, next_delivery}
@@ -43,7 +44,8 @@ Delivering-none w has up = record {
 one-left : (n m : ℕ) (v : World) (e : Event) → n ≡ suc m → next_delivery v ≡ Some e → drain_events n v ≡ e ∷ drain_events m (step v e).world
 one-left zero m v e more is = absurd (cc more)
 one-left (suc n) m v e more is = let same : n ≡ m = omega (arith, more) in
-    ap (λ (next : Option Event). elim next [ None ↦ [] | Some x ↦ x ∷ drain_events n (step v x).world ]) is ∙ ap (λ (k : ℕ). e ∷ drain_events k (step v e).world) same
+    ap (λ (next : Option Event). elim next [ None ↦ [] | Some x ↦ x ∷ drain_events n (step v x).world ]) is
+    ∙ ap (λ (k : ℕ). e ∷ drain_events k (step v e).world) same
 
 none-left : (n : ℕ) (v : World) → next_delivery v ≡ None → drain_events n v ≡ []
 none-left zero v is = refl
@@ -64,7 +66,9 @@ module _ (w v : World) (d : Delivering w v) where
     made = d.made ++ e ∷ [];
     fuel = let long = length-append d.made (e ∷ []) in omega (arith, lower, fuel, long);
     after = ap (λ (u : World). (step u e).world) d.after ∙ sym (after-push w d.made e);
-    whole = d.whole ∙ ap (λ (es : List Event). d.made ++ es) (one-left (load_of w - length d.made) (load_of w - length (d.made ++ e ∷ [])) v e fewer is) ∙ sym (append_assoc d.made (e ∷ []) _);
+    whole = d.whole ∙ ap (λ (es : List Event). d.made ++ es)
+        (one-left (load_of w - length d.made) (load_of w - length (d.made ++ e ∷ [])) v e fewer is)
+        ∙ sym (append_assoc d.made (e ∷ []) _);
   } where
     one : Lightens v e
     one = next-lightens e is
@@ -79,7 +83,10 @@ module _ (w v : World) (d : Delivering w v) where
     fewer = let long = length-append d.made (e ∷ []) in omega (arith, lower, fuel, long)
 
   pub all-made : next_delivery v ≡ None → v ≡ drained w
-  all-made is = d.after ∙ ap (world_after w) (sym (append-nil d.made) ∙ sym (ap (λ (es : List Event). d.made ++ es) (none-left (load_of w - length d.made) v is)) ∙ sym d.whole)
+  all-made is = d.after
+      ∙ ap (world_after w)
+      (sym (append-nil d.made)
+      ∙ sym (ap (λ (es : List Event). d.made ++ es) (none-left (load_of w - length d.made) v is)) ∙ sym d.whole)
 
   pub part-made : IsPart w (draining w) v
   part-made = (length d.made, d.after ∙ ap (world_after w) (sym (take-front d.made _) ∙ ap (take (length d.made)) (sym d.whole)))

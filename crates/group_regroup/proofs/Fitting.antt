@@ -1,5 +1,6 @@
 -- No number of an answer is above the number of events, so each fits with a base.
-use Rattle.std.proofs.Common.{◌≡◌, ℕ, zero, suc, ◌+◌, ◌<◌, ◌≤◌, Bool, true, false, if◌then◌else◌, List, [], ◌∷◌, length, replicate, Option, Some, None, refl, sym, ap, subst, ◌∙◌, arith}
+use Rattle.std.proofs.Common.{◌≡◌, ℕ, zero, suc, ◌+◌, ◌<◌, ◌≤◌, Bool, true, false, if◌then◌else◌, List, [], ◌∷◌, length}
+use Rattle.std.proofs.Common.{replicate, Option, Some, None, refl, sym, ap, subst, ◌∙◌, arith}
 use Rattle.std.specs.Prelude.{All, slice_index}
 use Rattle.std.proofs.lemmas.List.{length-replicate}
 use Rattle.std.proofs.lemmas.List.Elements.{All-head, All-tail}
@@ -63,7 +64,8 @@ keeps s es run up d zero low lives = ((headline_always s es run).not_undone up).
 keeps s es run up d (suc i) low lives = ((headline_always s es run).not_undone up).at_parity i d low lives
 
 -- an item of the table has a number that its partition's updates reach
-item-low : (s : Dimensions) (es : List Event) → IsRun s es → (key : List ℕ) (h : Holding) → home_of key (after s es).shape.k < (after s es).shape.k → (table_now (after s es)).items key ≡ Some h
+item-low : (s : Dimensions) (es : List Event) → IsRun s es → (key : List ℕ) (h : Holding)
+    → home_of key (after s es).shape.k < (after s es).shape.k → (table_now (after s es)).items key ≡ Some h
     → h.item.cas ≤ count_logged (after s es) (home_of key (after s es).shape.k)
 item-low s es run key h low there =
     let w : World = after s es in
@@ -71,9 +73,11 @@ item-low s es run key h low there =
     let many : length (empty_table k).counts ≡ k = length-replicate k 0 in
     let whole : length (table_now w).counts ≡ k = length-log (empty_table k) w.log ∙ many in
     let below : h.item.cas ≤ count_of (table_now w) key = counted-log (empty_table k) w.log (omega (arith, many, low)) (none-counted k) key h there in
-    let place : count_of (table_now w) key ≡ slice_index (table_now w).counts (home_of key k) = ap (λ (n : ℕ). slice_index (table_now w).counts (home_of key n)) whole in
+    let place : count_of (table_now w) key ≡ slice_index (table_now w).counts (home_of key k) =
+    ap (λ (n : ℕ). slice_index (table_now w).counts (home_of key n)) whole in
     let zero_at : slice_index (empty_table k).counts (home_of key k) ≡ 0 = none-there k (home_of key k) in
-    let count = count-updates k (home_of key k) low (empty_table k) (at [] w.places (home_of key k)) w.log many (subst (λ (n : ℕ). IsLegal n w.log) (sym (keeps-k s es)) (headline_always s es run).one_log.legal) in
+    let count = count-updates k (home_of key k) low (empty_table k) (at [] w.places (home_of key k)) w.log many
+    (subst (λ (n : ℕ). IsLegal n w.log) (sym (keeps-k s es)) (headline_always s es run).one_log.legal) in
     omega (arith, below, place, zero_at, count)
   where
     none-there : (k d : ℕ) → slice_index (replicate k 0) d ≡ 0
@@ -113,7 +117,8 @@ numbers-fit s es run bases (Ask caller op p) all few may = by (step w (Ask calle
   shown reply.NotNumber low = tt
   shown reply.TooLarge low = tt
 
-  live : IsUp (after s es) p → IsReady (after s es) p (home_in (after s es) op) → LiveLow (after s es).events (live_at op.moment ((table_now (after s es)).items (key_of op.act)))
+  live : IsUp (after s es) p → IsReady (after s es) p (home_in (after s es) op)
+      → LiveLow (after s es).events (live_at op.moment ((table_now (after s es)).items (key_of op.act)))
   live up ready = held ((table_now (after s es)).items (key_of op.act)) refl where
     inside : home_of (key_of op.act) (after s es).shape.k < (after s es).shape.k
     inside = home-inside (key_of op.act) (after s es).shape.k (subst (λ (x : Dimensions). 1 ≤ x.k) (sym (keeps-shape (opening s) es)) (run.0).k.0)
@@ -124,20 +129,30 @@ numbers-fit s es run bases (Ask caller op p) all few may = by (step w (Ask calle
       low : h.item.cas ≤ (after s es).events
       low =
           let count = item-low s es run (key_of op.act) h inside is in
-          let reached = (keeps s es run up.group (home_in (after s es) op) ready.rank inside (subst (Lives (after s es)) ready.name (may.1, up.process))).reached in
-          let last = low-at (of_rank (home_in (after s es) op) ready.rank) (home_in (after s es) op) (subst (Lives (after s es)) ready.name (may.1, up.process)) in
+          let reached =
+          (keeps s es run up.group (home_in (after s es) op) ready.rank inside
+          (subst (Lives (after s es)) ready.name (may.1, up.process))).reached in
+          let last = low-at (of_rank (home_in (after s es) op) ready.rank) (home_in (after s es) op)
+          (subst (Lives (after s es)) ready.name (may.1, up.process)) in
           omega (arith, count, reached, last)
 
       within : (b : Bool) → LiveLow (after s es).events (if b then Some h else None)
       within true = low
       within false = tt
 
-  by : (a : Answer) → a ≡ (step w (Ask caller op p)).turn.answer → AskCause (after s es) (step (after s es) (Ask caller op p)).world p op a → AnswerFits bases (home_of (key_of op.act) (after s es).shape.k) a
+  by : (a : Answer) → a ≡ (step w (Ask caller op p)).turn.answer
+      → AskCause (after s es) (step (after s es) (Ask caller op p)).world p op a
+      → AnswerFits bases (home_of (key_of op.act) (after s es).shape.k) a
   by (says.Reply r) is (up, ready, cause) = shown r (subst (ShowsLow (after s es).events) (sym cause)
-      (shows-low (after s es).events op.moment (count_of (table_now (after s es)) (key_of op.act) + 1) op.act (live_at op.moment ((table_now (after s es)).items (key_of op.act))) (live up ready)))
-  by (says.Ticket n) is (up, ready, cause) = fits (home_of (key_of op.act) (after s es).shape.k) n (let last = low-at p (home_in (after s es) op) (may.1, up.process) in let next = cause.next in omega (arith, last, next))
+      (shows-low (after s es).events op.moment (count_of (table_now (after s es)) (key_of op.act) + 1) op.act
+      (live_at op.moment ((table_now (after s es)).items (key_of op.act))) (live up ready)))
+  by (says.Ticket n) is (up, ready, cause) = fits (home_of (key_of op.act) (after s es).shape.k) n
+      (let last = low-at p (home_in (after s es) op) (may.1, up.process) in let next = cause.next in
+      omega (arith, last, next))
   by (says.Retry (cause.Pending d n)) is (up, ready, cause) = fits d.0 n
-      (let waits : AskWaits (after s es) p op d.0 n = (waits_always s es run).asks caller op p d n may (sym is) in let last = low-at p d.0 (may.1, up.process) in let within = waits.unfinished.within in omega (arith, last, within))
+      (let waits : AskWaits (after s es) p op d.0 n = (waits_always s es run).asks caller op p d n may (sym is) in
+      let last = low-at p d.0 (may.1, up.process) in let within = waits.unfinished.within in
+      omega (arith, last, within))
   by (says.Retry (cause.Block b)) is why = tt
   by says.Lost is why = tt
   by says.Down is why = tt

@@ -1,5 +1,7 @@
 -- The items of partitions, as their heads tell them, stand for the loads of a group.
-use Rattle.std.proofs.Common.{◌≡◌, ℕ, zero, suc, ◌+◌, ◌<◌, ◌≤◌, ◌⊎◌, inl, inr, Bool, true, false, cond, if◌then◌else◌, List, [], ◌∷◌, ◌++◌, length, map, Result, Ok, Err, refl, sym, ap, subst, ◌∙◌, append-nil, append_assoc, arith}
+use Rattle.std.proofs.Common.{◌≡◌, ℕ, zero, suc, ◌+◌, ◌<◌, ◌≤◌, ◌⊎◌, inl, inr, Bool, true, false, cond, if◌then◌else◌}
+use Rattle.std.proofs.Common.{List, [], ◌∷◌, ◌++◌, length, map, Result, Ok, Err, refl, sym, ap, subst, ◌∙◌, append-nil}
+use Rattle.std.proofs.Common.{append_assoc, arith}
 use Rattle.std.specs.Prelude.{IfErr, OnOk, filter, fold, sum_by}
 use Rattle.std.specs.List.{range_with_len}
 use Rattle.std.proofs.lemmas.Bool.{cases_lt}
@@ -36,7 +38,8 @@ always-ok (Ok x) p = p
 always-ok (Err e) p = tt
 
 pub stand-both : (xs ys : List Item) (us vs : List Load) → StandFor xs us → StandFor ys vs → StandFor (xs ++ ys) (us ++ vs)
-stand-both xs ys us vs one two = map-both load_of xs ys ∙ ap (λ (zs : List Load). zs ++ loads_of ys) one ∙ ap (λ (zs : List Load). map known_of us ++ zs) two ∙ sym (map-both known_of us vs)
+stand-both xs ys us vs one two = map-both load_of xs ys ∙ ap (λ (zs : List Load). zs ++ loads_of ys) one
+    ∙ ap (λ (zs : List Load). map known_of us ++ zs) two ∙ sym (map-both known_of us vs)
 
 live-stand : (p : Partition) (xs : Items) → StandFor (live_items p (heads_of xs)) (map (load_from p.0) (filter (λ x. is_live 0 x.1.until) xs))
 live-stand p [] = refl
@@ -53,7 +56,9 @@ sum-map f g (x ∷ xs) a = sum-map f g xs (a + f (g x))
 
 bytes-stand : (items : List Item) (xs : List Load) → StandFor items xs → bytes_of items ≡ sum_by (λ x. x.slot.len) xs
 bytes-stand items xs stand =
-    sym (sum-map (λ (x : Load). x.slot.len) load_of items 0) ∙ ap (λ (ys : List Load). sum_by (λ (x : Load). x.slot.len) ys) stand ∙ sum-map (λ (x : Load). x.slot.len) known_of xs 0
+    sym (sum-map (λ (x : Load). x.slot.len) load_of items 0)
+    ∙ ap (λ (ys : List Load). sum_by (λ (x : Load). x.slot.len) ys) stand ∙ sum-map (λ (x : Load). x.slot.len)
+    known_of xs 0
 
 -- the list of a partition's head
 module _ (w : World) (p : Partition) (list : List ItemHead) (listed : ListsItems w p.0 list) where
@@ -95,10 +100,18 @@ pub record Loaded (w : World) (space : ℕ) (items : List Item) (many : ℕ) : T
   pub fit : AllFit w space many
 
 pub Loaded-none : (w : World) (space : ℕ) → Loaded w space [] 0
-Loaded-none w space = record { low = omega arith; stand = refl; within = All-nil (λ (x : Item). x.partition.0 < w.shape.k); fit = λ d low. absurd (omega (arith, low)) }
+Loaded-none w space =
+    record {
+      low = omega arith;
+      stand = refl;
+      within = All-nil (λ (x : Item). x.partition.0 < w.shape.k);
+      fit = λ d low. absurd (omega (arith, low));
+    }
 
 module _ (w : World) (space : ℕ) (items : List Item) (many : ℕ) (loaded : Loaded w space items many) where
-  pub Loaded-next : (now : List Item) → many < w.shape.k → ((xs : List Load) → StandFor items xs → StandFor now (xs ++ loads_in w many)) → (AreWithin w.shape.k items → AreWithin w.shape.k now)
+  pub Loaded-next : (now : List Item) → many < w.shape.k
+      → ((xs : List Load) → StandFor items xs → StandFor now (xs ++ loads_in w many))
+      → (AreWithin w.shape.k items → AreWithin w.shape.k now)
       → bytes_in w many ≤ space → Loaded w space now (many + 1)
   Loaded-next now below stand within fits = record {
     low = omega (arith, below);
@@ -124,7 +137,8 @@ module _ (w : World) (space : ℕ) (items : List Item) (many : ℕ) (loaded : Lo
   Loaded-fit high = subst (AllFit w space) (whole high) loaded.fit
 
 -- the first partition that has too much
-pub long-is : (w : World) (s : Dimensions) (p : Partition) → IsAtRest w → p.0 < w.shape.k → AllFit w (space_of s) p.0 → (f : CarryFault) → IsLongFault p (bytes_in w p.0) (space_of s) f → IsRefused w s f
+pub long-is : (w : World) (s : Dimensions) (p : Partition) → IsAtRest w → p.0 < w.shape.k → AllFit w (space_of s) p.0
+    → (f : CarryFault) → IsLongFault p (bytes_in w p.0) (space_of s) f → IsRefused w s f
 long-is w s p rest low fit (NoSpace q) (same, long) =
     let is : p.0 ≡ q.0 = ap (λ (x : Partition). x.0) (sym same) in (
       rest,

@@ -15,13 +15,16 @@ use Rattle.group_regroup.specs.Kept.{AreKept, eras_of, lowered_by, noted}
 use Rattle.group_regroup.proofs.Stepped.{told-step}
 
 module _ (w v : World) (bases : Bases) (past : List (List Entry)) (l now : List Lowered) (e : Event) (place : ℕ) (x : Option Lowered)
-    (kept : AreKept w bases l) (stepped : v ≡ (step w (event_in bases w.shape.k e)).world) (lowered : x ≡ lowered_by w bases e) (behind : place ≡ length v.log) (is : now ≡ noted l x place) where
+    (kept : AreKept w bases l) (stepped : v ≡ (step w (event_in bases w.shape.k e)).world)
+    (lowered : x ≡ lowered_by w bases e) (behind : place ≡ length v.log) (is : now ≡ noted l x place) where
   now-is : now ≡ noted l (lowered_by w bases e) (length (step w (event_in bases w.shape.k e)).world.log)
   now-is = is ∙ ap (λ (o : Option Lowered). noted l o place) lowered ∙ ap (noted l (lowered_by w bases e)) (behind ∙ ap (λ (u : World). length u.log) stepped)
 
   later : length w.log ≤ length v.log
   later =
-      let grows = ap (λ (u : World). length u.log) stepped ∙ ap length (grown-is w.log (step w (event_in bases w.shape.k e)).turn.logged) ∙ length-append w.log (step w (event_in bases w.shape.k e)).turn.logged in
+      let grows = ap (λ (u : World). length u.log) stepped
+      ∙ ap length (grown-is w.log (step w (event_in bases w.shape.k e)).turn.logged)
+      ∙ length-append w.log (step w (event_in bases w.shape.k e)).turn.logged in
       omega (arith, grows)
 
   still : All (λ y. y.until ≤ length v.log) l

@@ -20,12 +20,21 @@ numbers-of : NumbersFitAlways → (w : World) → HasRun w → NumbersFit w
 numbers-of always w has = subst NumbersFit (sym has.is) (always w.shape has.events has.run)
 
 -- an ask whose op is changed may come where it may as it is
-pub changed-may : (w : World) (bases : Bases) (caller : ℕ) (op : Asked) (p : ProcessId) → MayCome w (Ask caller op p) → MayCome w (Ask caller (op_in bases w.shape.k op) p)
-changed-may w bases caller op p (low, pin, bytes) = (low, pin, subst (All (λ b. b < 256)) (sym (value-same (without_base bases (home_of (key_of op.act) w.shape.k)) op.act)) bytes)
+pub changed-may : (w : World) (bases : Bases) (caller : ℕ) (op : Asked) (p : ProcessId) → MayCome w (Ask caller op p)
+    → MayCome w (Ask caller (op_in bases w.shape.k op) p)
+changed-may w bases caller op p (low, pin, bytes) = (
+  low,
+  pin,
+  subst (All (λ b. b < 256))
+      (sym (value-same (without_base bases (home_of (key_of op.act) w.shape.k)) op.act)) bytes,
+)
 
-pub ask-fits : NumbersFitAlways → (w : World) → HasRun w → (bases : Bases) (caller : ℕ) (op : Asked) (p : ProcessId) → All IsLowBase bases → w.events < 4611686018427387904 → MayCome w (Ask caller op p)
+pub ask-fits : NumbersFitAlways → (w : World) → HasRun w → (bases : Bases) (caller : ℕ) (op : Asked) (p : ProcessId)
+    → All IsLowBase bases → w.events < 4611686018427387904 → MayCome w (Ask caller op p)
     → (d : ℕ) (a : Answer) → d ≡ home_of (key_of op.act) w.shape.k → a ≡ (step w (Ask caller (op_in bases w.shape.k op) p)).turn.answer → AnswerFits bases d a
 ask-fits always w has bases caller op p low events may d a home answer =
-    subst (λ (n : ℕ). AnswerFits bases n a) (sym (home ∙ ap (λ (key : List ℕ). home_of key w.shape.k) (sym (key-same (without_base bases (home_of (key_of op.act) w.shape.k)) op.act))))
+    subst (λ (n : ℕ). AnswerFits bases n a)
+    (sym (home ∙ ap (λ (key : List ℕ). home_of key w.shape.k)
+    (sym (key-same (without_base bases (home_of (key_of op.act) w.shape.k)) op.act))))
     (subst (AnswerFits bases (home_of (key_of (op_in bases w.shape.k op).act) w.shape.k)) (sym answer)
     (numbers-of always w has bases (Ask caller (op_in bases w.shape.k op) p) low events (changed-may w bases caller op p may)))

@@ -1,5 +1,6 @@
 -- The entries of logs that stand one behind the other, by their places.
-use Rattle.std.proofs.Common.{◌≡◌, ℕ, zero, suc, ◌+◌, ◌-◌, ◌<◌, ◌≤◌, List, [], ◌∷◌, ◌++◌, length, map, drop, Option, Some, None, slice_index_or, refl, sym, ap, ◌∙◌, append_assoc, arith}
+use Rattle.std.proofs.Common.{◌≡◌, ℕ, zero, suc, ◌+◌, ◌-◌, ◌<◌, ◌≤◌, List, [], ◌∷◌, ◌++◌, length, map, drop, Option}
+use Rattle.std.proofs.Common.{Some, None, slice_index_or, refl, sym, ap, ◌∙◌, append_assoc, arith}
 use Rattle.std.specs.Prelude.{slice_get}
 use Rattle.std.specs.Option.{option_map, unwrap_or}
 use Rattle.std.proofs.lemmas.Option.{none-some}
@@ -9,17 +10,21 @@ use Rattle.group_eras.specs.Told.{Bases}
 use Rattle.group_regroup.specs.declared.changing.Lowered.{Lowered}
 use Rattle.group_regroup.specs.Kept.{past_from, told_at, told_from}
 
-pub get-front : (e : ℕ) (xs : List Entry) (ys : List EraEntry) (i : ℕ) (d : Entry) → i < length xs → slice_get xs i ≡ Some d → slice_get (map (λ x. (e, x)) xs ++ ys) i ≡ Some (e, d)
+pub get-front : (e : ℕ) (xs : List Entry) (ys : List EraEntry) (i : ℕ) (d : Entry) → i < length xs
+    → slice_get xs i ≡ Some d → slice_get (map (λ x. (e, x)) xs ++ ys) i ≡ Some (e, d)
 get-front e [] ys i d low is = absurd (omega (arith, low))
 get-front e (x ∷ xs) ys zero d low is = ap (option_map (λ y. (e, y))) is
 get-front e (x ∷ xs) ys (suc i) d low is = get-front e xs ys i d (omega (arith, low)) is
 
-pub get-behind : (e : ℕ) (xs : List Entry) (ys : List EraEntry) (i : ℕ) → length xs ≤ i → slice_get (map (λ x. (e, x)) xs ++ ys) i ≡ slice_get ys (i - length xs)
+pub get-behind : (e : ℕ) (xs : List Entry) (ys : List EraEntry) (i : ℕ) → length xs ≤ i
+    → slice_get (map (λ x. (e, x)) xs ++ ys) i ≡ slice_get ys (i - length xs)
 get-behind e [] ys i high = let same : i ≡ i - 0 = omega arith in ap (slice_get ys) same
 get-behind e (x ∷ xs) ys zero high = absurd (omega (arith, high))
-get-behind e (x ∷ xs) ys (suc i) high = get-behind e xs ys i (omega (arith, high)) ∙ (let same : i - length xs ≡ suc i - suc (length xs) = omega arith in ap (slice_get ys) same)
+get-behind e (x ∷ xs) ys (suc i) high = get-behind e xs ys i (omega (arith, high))
+    ∙ (let same : i - length xs ≡ suc i - suc (length xs) = omega arith in ap (slice_get ys) same)
 
-pub told-get : (bases : Bases) (k era : ℕ) (l : List Lowered) (p : ℕ) (xs : List Entry) (i : ℕ) (d : Entry) → slice_get xs i ≡ Some d → slice_get (told_from bases k era l p xs) i ≡ Some (era, told_at bases k l (p + i) d)
+pub told-get : (bases : Bases) (k era : ℕ) (l : List Lowered) (p : ℕ) (xs : List Entry) (i : ℕ) (d : Entry)
+    → slice_get xs i ≡ Some d → slice_get (told_from bases k era l p xs) i ≡ Some (era, told_at bases k l (p + i) d)
 told-get bases k era l p [] zero d is = absurd (none-some d is)
 told-get bases k era l p [] (suc i) d is = absurd (none-some d is)
 told-get bases k era l p (x ∷ xs) zero d is =
@@ -27,7 +32,8 @@ told-get bases k era l p (x ∷ xs) zero d is =
 told-get bases k era l p (x ∷ xs) (suc i) d is =
     let there : suc p + i ≡ p + suc i = omega arith in told-get bases k era l (suc p) xs i d is ∙ ap (λ (n : ℕ). Some (era, told_at bases k l n d)) there
 
-pub told-none : (bases : Bases) (k era : ℕ) (l : List Lowered) (p : ℕ) (xs : List Entry) (i : ℕ) → length xs ≤ i → slice_get (told_from bases k era l p xs) i ≡ None
+pub told-none : (bases : Bases) (k era : ℕ) (l : List Lowered) (p : ℕ) (xs : List Entry) (i : ℕ) → length xs ≤ i
+    → slice_get (told_from bases k era l p xs) i ≡ None
 told-none bases k era l p [] zero high = refl
 told-none bases k era l p [] (suc i) high = refl
 told-none bases k era l p (x ∷ xs) zero high = absurd (omega (arith, high))
@@ -57,7 +63,8 @@ module _ (own : List EraEntry) where
         ∙ (let same : suc era ≡ era + 1 = omega arith in ap (λ (n : ℕ). map (λ x. (era, x)) xs ++ (past_from n (drop (era + 1) past) ++ own)) same)
 
     pub here-past : (d : Entry) → left < length xs → slice_get xs left ≡ Some d → entry_past past era left ≡ Some (era, d)
-    here-past d low there = ap (λ (ys : List EraEntry). slice_get ys left) split ∙ get-front era xs (past_from (era + 1) (drop (era + 1) past) ++ own) left d low there
+    here-past d low there = ap (λ (ys : List EraEntry). slice_get ys left) split
+        ∙ get-front era xs (past_from (era + 1) (drop (era + 1) past) ++ own) left d low there
 
     pub next-past : length xs ≤ left → entry_past past era left ≡ entry_past past (era + 1) (left - length xs)
     next-past high = ap (λ (ys : List EraEntry). slice_get ys left) split ∙ get-behind era xs (past_from (era + 1) (drop (era + 1) past) ++ own) left high
@@ -79,6 +86,7 @@ pub long-part : {X Y : Type 0} (f : X → Y) (xs : List X) → length (map f xs)
 long-part f [] = refl
 long-part f (x ∷ xs) = ap suc (long-part f xs)
 
-pub told-same : (era : ℕ) (bases bases2 : Bases) (k k2 : ℕ) (l l2 : List Lowered) (log log2 : List Entry) (i : ℕ) → bases2 ≡ bases → k2 ≡ k → l2 ≡ l → log2 ≡ log
+pub told-same : (era : ℕ) (bases bases2 : Bases) (k k2 : ℕ) (l l2 : List Lowered) (log log2 : List Entry) (i : ℕ)
+    → bases2 ≡ bases → k2 ≡ k → l2 ≡ l → log2 ≡ log
     → slice_get (told_from bases k era l 0 log) i ≡ slice_get (told_from bases2 k2 era l2 0 log2) i
 told-same era bases bases2 k k2 l l2 log log2 i b w x y = sym (λ j. slice_get (told_from (b j) (w j) era (x j) 0 (y j)) i)

@@ -1,5 +1,6 @@
 -- How items are read, one after the other.
-use Rattle.std.proofs.Common.{◌≡◌, ℕ, zero, suc, ◌<◌, Bool, true, false, if◌then◌else◌, List, [], ◌∷◌, ◌++◌, refl, sym, ap, subst, ◌∙◌, append_assoc, append-nil}
+use Rattle.std.proofs.Common.{◌≡◌, ℕ, zero, suc, ◌<◌, Bool, true, false, if◌then◌else◌, List, [], ◌∷◌, ◌++◌, refl, sym}
+use Rattle.std.proofs.Common.{ap, subst, ◌∙◌, append_assoc, append-nil}
 use Rattle.std.proofs.lemmas.List.Elements.{All-head, All-tail}
 use Rattle.group_types.specs.Dimensions.{Dimensions}
 use Rattle.group_calls.specs.declared.event.Event.{Event}
@@ -21,9 +22,12 @@ tried-after (suc n) u get = by (is_retry (step u get).turn.answer) (tried-after 
   rest : Getting
   rest = get_with n get (step (drained (step u get).world) get)
 
-  by : (b : Bool) → (get_with n get (step (drained (step u get).world) get)).world ≡ world_after (drained (step u get).world) (get_with n get (step (drained (step u get).world) get)).events
+  by : (b : Bool) → (get_with n get (step (drained (step u get).world) get)).world
+      ≡ world_after (drained (step u get).world) (get_with n get (step (drained (step u get).world) get)).events
       → (if b then got_behind (get ∷ draining (step u get).world) (get_with n get (step (drained (step u get).world) get)) else only_got get (step u get)).world
-      ≡ world_after u (if b then got_behind (get ∷ draining (step u get).world) (get_with n get (step (drained (step u get).world) get)) else only_got get (step u get)).events
+      ≡ world_after u
+      (if b then got_behind (get ∷ draining (step u get).world)
+      (get_with n get (step (drained (step u get).world) get)) else only_got get (step u get)).events
   by true later = later ∙ sym (after-append (step u get).world (draining (step u get).world) (get_with n get (step (drained (step u get).world) get)).events)
   by false later = refl
 
@@ -75,15 +79,24 @@ module _ (w : World) (all : List Item) (v : World) (x : Item) (rest : List Item)
       within = subst (λ (s : Dimensions). AreWithin s.k rest) (sym shape) (All-tail (λ (y : Item). y.partition.0 < v.shape.k) x rest r.within);
       events = r.events ++ here.events;
       after = led;
-      whole = r.whole ∙ joined ∙ ap (λ (y : World). read_behind (r.events ++ here.events) (parcels_as (parcels ++ p ∷ [])) (read_all y (loads_of rest))) (sym is);
+      whole = r.whole ∙ joined
+          ∙ ap (λ (y : World). read_behind (r.events ++ here.events) (parcels_as (parcels ++ p ∷ []))
+          (read_all y (loads_of rest))) (sym is);
     } where
       shape : u.shape ≡ v.shape
       shape = ap (λ (y : World). y.shape) (is ∙ got-after v x.partition.0 x.key) ∙ keeps-shape v here.events
 
       parcel : parcel_of (load_of x) here.answer ≡ parcel_as p
-      parcel = λ i. record { partition = (sym item i).partition.0; key = (sym item i).key; flags = (sym item i).flags; until = (sym item i).until; value = sym value i }
+      parcel = λ i. record {
+        partition = (sym item i).partition.0;
+        key = (sym item i).key;
+        flags = (sym item i).flags;
+        until = (sym item i).until;
+        value = sym value i;
+      }
 
-      joined : read_behind r.events (parcels_as parcels) (read_all v (loads_of (x ∷ rest))) ≡ read_behind (r.events ++ here.events) (parcels_as (parcels ++ p ∷ [])) (read_all here.world (loads_of rest))
+      joined : read_behind r.events (parcels_as parcels) (read_all v (loads_of (x ∷ rest)))
+          ≡ read_behind (r.events ++ here.events) (parcels_as (parcels ++ p ∷ [])) (read_all here.world (loads_of rest))
       joined = λ i. record {
         events = sym (append_assoc r.events here.events (read_all here.world (loads_of rest)).events) i;
         world = (read_all here.world (loads_of rest)).world;

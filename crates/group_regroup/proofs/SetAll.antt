@@ -34,7 +34,8 @@ module _ (w : World) (all : List Parcel) (v : World) (x : Parcel) (rest : List P
   Sets-next u up is = record {
     up = up;
     within = subst (λ (t : Dimensions). AreAllWithin t.k rest) (sym shape) (All-tail (λ (y : Parcel). y.item.partition.0 < v.shape.k) x rest s.within);
-    whole = s.whole ∙ after-append v (set_of (parcel_as x) ∷ draining (step v (set_of (parcel_as x))).world) (setting (drained (step v (set_of (parcel_as x))).world) (parcels_as rest))
+    whole = s.whole ∙ after-append v (set_of (parcel_as x) ∷ draining (step v (set_of (parcel_as x))).world)
+        (setting (drained (step v (set_of (parcel_as x))).world) (parcels_as rest))
         ∙ ap (λ (y : World). world_after y (setting y (parcels_as rest))) (sym is);
   } where
     shape : u.shape ≡ v.shape

@@ -1,5 +1,7 @@
 -- What an event makes of the eras that a group stands for.
-use Rattle.std.proofs.Common.{◌≡◌, ℕ, suc, ◌+◌, ◌-◌, ◌<◌, ◌≤◌, ◌==◌, nat_lt, nat_le, ◌&&◌, Bool, true, false, List, [], ◌∷◌, ◌++◌, length, map, Option, Some, None, if◌then◌else◌, refl, sym, ap, ◌∙◌, append_assoc, length-append, arith}
+use Rattle.std.proofs.Common.{◌≡◌, ℕ, suc, ◌+◌, ◌-◌, ◌<◌, ◌≤◌, ◌==◌, nat_lt, nat_le, ◌&&◌, Bool, true, false, List, []}
+use Rattle.std.proofs.Common.{◌∷◌, ◌++◌, length, map, Option, Some, None, if◌then◌else◌, refl, sym, ap, ◌∙◌}
+use Rattle.std.proofs.Common.{append_assoc, length-append, arith}
 use Rattle.std.specs.Prelude.{All}
 use Rattle.std.specs.Option.{option_map, unwrap_or}
 use Rattle.std.proofs.lemmas.Option.{none-some}
@@ -28,7 +30,9 @@ use Rattle.group_regroup.proofs.Asked.{logged-ops}
 -- an op comes out as it was asked, unless it went in lowered
 pub op-back : (bases : Bases) (k : ℕ) (op : Asked) → is_low bases k op.act ≡ false → op_out bases k (op_in bases k op) ≡ op
 op-back bases k op high = by op.act high where
-  by : (act : Act) → is_low bases k act ≡ false → op_out bases k (op_in bases k (record { moment = op.moment; act = act })) ≡ record { moment = op.moment; act = act }
+  by : (act : Act) → is_low bases k act ≡ false
+      → op_out bases k (op_in bases k (record { moment = op.moment; act = act }))
+      ≡ record { moment = op.moment; act = act }
   by (Cas key flags expiry cas value) above =
       let whole : at 0 bases (home_of key k) + (cas - at 0 bases (home_of key k)) ≡ cas = less above in
       ap (λ (n : ℕ). record { moment = op.moment; act = Cas key flags expiry n value }) whole where
@@ -46,11 +50,13 @@ op-back bases k op high = by op.act high where
   by (Decr key n) above = refl
 
 module _ (bases : Bases) (k era : ℕ) where
-  pub told-append : (l : List Lowered) (p : ℕ) (xs ys : List Entry) → told_from bases k era l p (xs ++ ys) ≡ told_from bases k era l p xs ++ told_from bases k era l (p + length xs) ys
+  pub told-append : (l : List Lowered) (p : ℕ) (xs ys : List Entry) → told_from bases k era l p (xs ++ ys)
+      ≡ told_from bases k era l p xs ++ told_from bases k era l (p + length xs) ys
   told-append l p [] ys = let same : p ≡ p + 0 = omega arith in ap (λ (n : ℕ). told_from bases k era l n ys) same
   told-append l p (x ∷ xs) ys =
       let same : suc p + length xs ≡ p + suc (length xs) = omega arith in
-      ap (λ (zs : List EraEntry). (era, told_at bases k l p x) ∷ zs) (told-append l (suc p) xs ys ∙ ap (λ (n : ℕ). told_from bases k era l (suc p) xs ++ told_from bases k era l n ys) same)
+      ap (λ (zs : List EraEntry). (era, told_at bases k l p x) ∷ zs) (told-append l (suc p) xs ys
+      ∙ ap (λ (n : ℕ). told_from bases k era l (suc p) xs ++ told_from bases k era l n ys) same)
 
 -- what is lowered later doesn't cover an earlier place
 early : (x : Lowered) (place : ℕ) (name : CallName) → place < x.from → covers x place name ≡ false
@@ -67,7 +73,8 @@ late x place name high = by (nat_le x.from place) (nat_lt place x.until) refl wh
   by true false is = refl
   by false false is = refl
 
-pub asked-early : (l : List Lowered) (x : Lowered) (place : ℕ) (name : CallName) → covers x place name ≡ false → op_asked (l ++ x ∷ []) place name ≡ op_asked l place name
+pub asked-early : (l : List Lowered) (x : Lowered) (place : ℕ) (name : CallName) → covers x place name ≡ false
+    → op_asked (l ++ x ∷ []) place name ≡ op_asked l place name
 asked-early [] x place name none = ap (λ (b : Bool). if b then Some x.op else None) none
 asked-early (y ∷ l) x place name none = ap (λ (rest : Option Asked). if covers y place name then Some y.op else rest) (asked-early l x place name none)
 
@@ -75,20 +82,30 @@ pub asked-none : (l : List Lowered) (n place : ℕ) (name : CallName) → All (�
 asked-none [] n place name all high = refl
 asked-none (x ∷ l) n place name all high =
     let low : x.until ≤ n = All-head (λ x. x.until ≤ n) x l all in
-    ap (λ (b : Bool). if b then Some x.op else op_asked l place name) (late x place name (omega (arith, low, high))) ∙ asked-none l n place name (All-tail (λ x. x.until ≤ n) x l all) high
+    ap (λ (b : Bool). if b then Some x.op else op_asked l place name) (late x place name (omega (arith, low, high)))
+    ∙ asked-none l n place name (All-tail (λ x. x.until ≤ n) x l all) high
 
-asked-last : (l : List Lowered) (x : Lowered) (n place : ℕ) (name : CallName) → All (λ x. x.until ≤ n) l → n ≤ place → op_asked (l ++ x ∷ []) place name ≡ (if covers x place name then Some x.op else None)
+asked-last : (l : List Lowered) (x : Lowered) (n place : ℕ) (name : CallName) → All (λ x. x.until ≤ n) l → n ≤ place
+    → op_asked (l ++ x ∷ []) place name ≡ (if covers x place name then Some x.op else None)
 asked-last [] x n place name all high = refl
 asked-last (y ∷ l) x n place name all high =
     let low : y.until ≤ n = All-head (λ x. x.until ≤ n) y l all in
-    ap (λ (b : Bool). if b then Some y.op else op_asked (l ++ x ∷ []) place name) (late y place name (omega (arith, low, high))) ∙ asked-last l x n place name (All-tail (λ x. x.until ≤ n) y l all) high
+    ap (λ (b : Bool). if b then Some y.op else op_asked (l ++ x ∷ []) place name)
+    (late y place name (omega (arith, low, high)))
+    ∙ asked-last l x n place name (All-tail (λ x. x.until ≤ n) y l all) high
 
 module _ (bases : Bases) (k era : ℕ) where
-  pub told-early : (l : List Lowered) (x : Lowered) (p : ℕ) (es : List Entry) → p + length es ≤ x.from → told_from bases k era (l ++ x ∷ []) p es ≡ told_from bases k era l p es
+  pub told-early : (l : List Lowered) (x : Lowered) (p : ℕ) (es : List Entry) → p + length es ≤ x.from
+      → told_from bases k era (l ++ x ∷ []) p es ≡ told_from bases k era l p es
   told-early l x p [] low = refl
   told-early l x p (e ∷ es) low =
       let here : op_asked (l ++ x ∷ []) p (name_of e) ≡ op_asked l p (name_of e) = asked-early l x p (name_of e) (early x p (name_of e) (omega (arith, low))) in
-      ap (λ (asked : Option Asked). (era, entry_of (name_of e) (unwrap_or asked (op_out bases k e.op)) (told_reply bases (home_of (key_of e.op.act) k) e.reply)) ∷ told_from bases k era (l ++ x ∷ []) (suc p) es) here
+      ap (λ (asked : Option Asked). (
+        era,
+        entry_of (name_of e) (unwrap_or asked (op_out bases k e.op))
+            (told_reply bases (home_of (key_of e.op.act) k) e.reply),
+      ) ∷ told_from bases k era (l ++ x ∷ []) (suc p) es)
+      here
       ∙ ap (λ (rest : List EraEntry). (era, told_at bases k l p e) ∷ rest) (told-early l x (suc p) es (omega (arith, low)))
 
   -- entries at places behind all that was lowered, told by what says of each which op was asked
@@ -97,12 +114,15 @@ module _ (bases : Bases) (k era : ℕ) where
 
   -- the op that is found at a place is the one that is told
   abbrev pub AreFound : List Lowered → Option Call → ℕ → ℕ → Entry → Type 0
-  AreFound l c low high entry = (place : ℕ) → low ≤ place → place < high → unwrap_or (op_asked l place (name_of entry)) (op_out bases k entry.op) ≡ told_op bases k c entry
+  AreFound l c low high entry = (place : ℕ) → low ≤ place → place < high
+      → unwrap_or (op_asked l place (name_of entry)) (op_out bases k entry.op) ≡ told_op bases k c entry
 
-  pub told-found : (l : List Lowered) (c : Option Call) (p high : ℕ) (es : List Entry) → p + length es ≤ high → Each (AreFound l c p high) es → told_from bases k era l p es ≡ map (tell_by c) es
+  pub told-found : (l : List Lowered) (c : Option Call) (p high : ℕ) (es : List Entry) → p + length es ≤ high
+      → Each (AreFound l c p high) es → told_from bases k era l p es ≡ map (tell_by c) es
   told-found l c p high [] fits all = refl
   told-found l c p high (e ∷ es) fits (here, rest) =
-      ap (λ (op : Asked). (era, entry_of (name_of e) op (told_reply bases (home_of (key_of e.op.act) k) e.reply)) ∷ told_from bases k era l (suc p) es) (here p (omega arith) (omega (arith, fits)))
+      ap (λ (op : Asked). (era, entry_of (name_of e) op (told_reply bases (home_of (key_of e.op.act) k) e.reply))
+      ∷ told_from bases k era l (suc p) es) (here p (omega arith) (omega (arith, fits)))
       ∙ ap (λ (zs : List EraEntry). tell_by c e ∷ zs) (told-found l c (suc p) high es (omega (arith, fits)) (later es rest)) where
         later : (es : List Entry) → Each (AreFound l c p high) es → Each (AreFound l c (suc p) high) es
         later [] all = tt
@@ -113,11 +133,17 @@ module _ (w : World) (bases : Bases) (era : ℕ) (l : List Lowered) (within : Al
   abbrev place_behind : ℕ
   place_behind = length w.log + length es
 
-  quiet : (e : Event) → call_of w e ≡ None → lowered_by w bases e ≡ None → told_from bases w.shape.k era (noted l (lowered_by w bases e) place_behind) (length w.log) es ≡ map (tell_by bases w.shape.k era (call_of w e)) es
+  quiet : (e : Event) → call_of w e ≡ None → lowered_by w bases e ≡ None
+      → told_from bases w.shape.k era (noted l (lowered_by w bases e) place_behind) (length w.log) es
+      ≡ map (tell_by bases w.shape.k era (call_of w e)) es
   quiet e none same = rw (same, none) (told-found bases w.shape.k era l None (length w.log) place_behind es (omega arith) (each es)) where
     each : (xs : List Entry) → Each (AreFound bases w.shape.k era l None (length w.log) place_behind) xs
     each [] = tt
-    each (x ∷ xs) = ((λ place low high. ap (λ (o : Option Asked). unwrap_or o (op_out bases w.shape.k x.op)) (asked-none l (length w.log) place (name_of x) within low)), each xs)
+    each (x ∷ xs) = (
+      (λ place low high. ap (λ (o : Option Asked). unwrap_or o (op_out bases w.shape.k x.op))
+          (asked-none l (length w.log) place (name_of x) within low)),
+      each xs,
+    )
 
   module _ (caller : ℕ) (op : Asked) (p : ProcessId) where
     abbrev call : Call
@@ -129,9 +155,15 @@ module _ (w : World) (bases : Bases) (era : ℕ) (l : List Lowered) (within : Al
     abbrev lowest : Lowered
     lowest = record { from = length w.log; until = place_behind; caller = caller; call = at 0 w.asked caller; op = op }
 
-    high-each : is_low bases w.shape.k op.act ≡ false → (xs : List Entry) → Each HasOp xs → Each (AreFound bases w.shape.k era l (Some call) (length w.log) place_behind) xs
+    high-each : is_low bases w.shape.k op.act ≡ false → (xs : List Entry) → Each HasOp xs
+        → Each (AreFound bases w.shape.k era l (Some call) (length w.log) place_behind) xs
     high-each high [] all = tt
-    high-each high (x ∷ xs) (own, rest) = ((λ place low lt. ap (λ (o : Option Asked). unwrap_or o (op_out bases w.shape.k x.op)) (asked-none l (length w.log) place (name_of x) within low) ∙ by (same_call (next_name w caller) (name_of x)) own), high-each high xs rest) where
+    high-each high (x ∷ xs) (own, rest) = (
+      (λ place low lt. ap (λ (o : Option Asked). unwrap_or o (op_out bases w.shape.k x.op))
+          (asked-none l (length w.log) place (name_of x) within low) ∙ by (same_call (next_name w caller) (name_of x))
+          own),
+      high-each high xs rest,
+    ) where
       by : (b : Bool) → (b ≡ true → x.op ≡ op_in bases w.shape.k op) → op_out bases w.shape.k x.op ≡ (if b then op else op_out bases w.shape.k x.op)
       by true is = ap (op_out bases w.shape.k) (is refl) ∙ op-back bases w.shape.k op high
       by false is = refl
@@ -140,32 +172,43 @@ module _ (w : World) (bases : Bases) (era : ℕ) (l : List Lowered) (within : Al
     low-each [] = tt
     low-each (x ∷ xs) = (
       (λ place low lt. ap (λ (o : Option Asked). unwrap_or o (op_out bases w.shape.k x.op)) (asked-last l lowest (length w.log) place (name_of x) within low)
-          ∙ by (nat_le (length w.log) place) (nat_lt place place_behind) (same_call (next_name w caller) (name_of x)) (grind (arith, nat_tests)) (grind (arith, nat_tests))),
+          ∙ by (nat_le (length w.log) place) (nat_lt place place_behind) (same_call (next_name w caller) (name_of x))
+          (grind (arith, nat_tests)) (grind (arith, nat_tests))),
       low-each xs,
     ) where
-      by : (a b s : Bool) → a ≡ true → b ≡ true → unwrap_or (if ((a && b) && s) then Some op else None) (op_out bases w.shape.k x.op) ≡ (if s then op else op_out bases w.shape.k x.op)
+      by : (a b s : Bool) → a ≡ true → b ≡ true → unwrap_or (if ((a && b) && s) then Some op else None)
+          (op_out bases w.shape.k x.op) ≡ (if s then op else op_out bases w.shape.k x.op)
       by a b true one two = rw (one, two) refl
       by a b false one two = rw (one, two) refl
 
-    asks : Each HasOp es → told_from bases w.shape.k era (noted l (lowered_by w bases (Ask caller op p)) place_behind) (length w.log) es ≡ map (tell_by bases w.shape.k era (Some call)) es
+    asks : Each HasOp es → told_from bases w.shape.k era (noted l (lowered_by w bases (Ask caller op p)) place_behind)
+        (length w.log) es ≡ map (tell_by bases w.shape.k era (Some call)) es
     asks own = by (is_low bases w.shape.k op.act) refl where
       by : (b : Bool) → is_low bases w.shape.k op.act ≡ b
-          → told_from bases w.shape.k era (noted l (if b then Some (record { from = length w.log; until = length w.log; caller = caller; call = at 0 w.asked caller; op = op }) else None) place_behind) (length w.log) es
+          → told_from bases w.shape.k era
+          (noted l (if b then Some
+          (record { from = length w.log; until = length w.log; caller = caller; call = at 0 w.asked caller; op = op })
+          else None) place_behind) (length w.log) es
           ≡ map (tell_by bases w.shape.k era (Some call)) es
       by true is = told-found bases w.shape.k era (l ++ lowest ∷ []) (Some call) (length w.log) place_behind es (omega arith) (low-each es)
       by false is = told-found bases w.shape.k era l (Some call) (length w.log) place_behind es (omega arith) (high-each is es own)
 
   -- what stood in the log is told as before
-  before : (x : Option Lowered) → ((y : Lowered) → x ≡ Some y → y.from ≡ length w.log) → told_from bases w.shape.k era (noted l x place_behind) 0 w.log ≡ told_from bases w.shape.k era l 0 w.log
+  before : (x : Option Lowered) → ((y : Lowered) → x ≡ Some y → y.from ≡ length w.log)
+      → told_from bases w.shape.k era (noted l x place_behind) 0 w.log ≡ told_from bases w.shape.k era l 0 w.log
   before None from = refl
-  before (Some y) from = let at_end : y.from ≡ length w.log = from y refl in told-early bases w.shape.k era l (record y { until = place_behind }) 0 w.log (omega (arith, at_end))
+  before (Some y) from = let at_end : y.from ≡ length w.log = from y refl in
+      told-early bases w.shape.k era l (record y { until = place_behind }) 0 w.log (omega (arith, at_end))
 
 abbrev pub IsOldTicket : World → Ticket → Type 0
 IsOldTicket w t = t.name.call < at 0 w.asked t.name.caller
 
 lowered-from : (w : World) (bases : Bases) (e : Event) (y : Lowered) → lowered_by w bases e ≡ Some y → y.from ≡ length w.log
 lowered-from w bases (Ask caller op p) y is = by (is_low bases w.shape.k op.act) is where
-  by : (b : Bool) → (if b then Some (record { from = length w.log; until = length w.log; caller = caller; call = at 0 w.asked caller; op = op }) else None) ≡ Some y → y.from ≡ length w.log
+  by : (b : Bool)
+      → (if b then Some
+      (record { from = length w.log; until = length w.log; caller = caller; call = at 0 w.asked caller; op = op }) else
+      None) ≡ Some y → y.from ≡ length w.log
   by true is = sym (ap (λ (o : Option Lowered). unwrap_or (option_map (λ x. x.from) o) 0) is)
   by false is = absurd (none-some y is)
 lowered-from w bases (Collect caller number p) y is = absurd (none-some y is)
@@ -175,8 +218,11 @@ lowered-from w bases (Flush p) y is = absurd (none-some y is)
 lowered-from w bases (Trace caller number d p) y is = absurd (none-some y is)
 
 -- the log of the eras after an event
-pub told-step : (w : World) (bases : Bases) (past : List (List Entry)) (l : List Lowered) (e : Event) → All (IsOldTicket w) w.tickets → All (λ x. x.until ≤ length w.log) l
-    → eras_of (step w (event_in bases w.shape.k e)).world bases past (noted l (lowered_by w bases e) (length (step w (event_in bases w.shape.k e)).world.log)) ≡ (era_step (eras_of w bases past l) e).eras
+pub told-step : (w : World) (bases : Bases) (past : List (List Entry)) (l : List Lowered) (e : Event)
+    → All (IsOldTicket w) w.tickets → All (λ x. x.until ≤ length w.log) l
+    → eras_of (step w (event_in bases w.shape.k e)).world bases past
+    (noted l (lowered_by w bases e) (length (step w (event_in bases w.shape.k e)).world.log))
+    ≡ (era_step (eras_of w bases past l) e).eras
 told-step w bases past l e old within = ap (λ (log : List EraEntry). record { era = length past; world = t.world; bases = bases; log = log }) whole where
   t : WorldStep
   t = step w (event_in bases w.shape.k e)
@@ -193,7 +239,10 @@ told-step w bases past l e old within = ap (λ (log : List EraEntry). record { e
   now : List Lowered
   now = noted l (lowered_by w bases e) (length w.log + length es)
 
-  own : (e : Event) → told_from bases w.shape.k (length past) (noted l (lowered_by w bases e) (length w.log + length (step w (event_in bases w.shape.k e)).turn.logged)) (length w.log) (step w (event_in bases w.shape.k e)).turn.logged
+  own : (e : Event)
+      → told_from bases w.shape.k (length past)
+      (noted l (lowered_by w bases e) (length w.log + length (step w (event_in bases w.shape.k e)).turn.logged))
+      (length w.log) (step w (event_in bases w.shape.k e)).turn.logged
       ≡ map (tell_by bases w.shape.k (length past) (call_of w e)) (step w (event_in bases w.shape.k e)).turn.logged
   own (Ask caller op p) = asks w bases (length past) l within _ caller op p (logged-ops w caller (op_in bases w.shape.k op) p old)
   own (Collect caller number p) = quiet w bases (length past) l within _ (Collect caller number p) refl refl
@@ -202,10 +251,14 @@ told-step w bases past l e old within = ap (λ (log : List EraEntry). record { e
   own (Flush p) = quiet w bases (length past) l within _ (Flush p) refl refl
   own (Trace caller number d p) = quiet w bases (length past) l within _ (Trace caller number d p) refl refl
 
-  parts : told_from bases w.shape.k (length past) now 0 (w.log ++ es) ≡ told_from bases w.shape.k (length past) l 0 w.log ++ map (tell_by bases w.shape.k (length past) (call_of w e)) es
+  parts : told_from bases w.shape.k (length past) now 0 (w.log ++ es) ≡ told_from bases w.shape.k (length past) l 0
+      w.log ++ map (tell_by bases w.shape.k (length past) (call_of w e)) es
   parts = told-append bases w.shape.k (length past) now 0 w.log es
-      ∙ (let front : 0 + length w.log ≡ length w.log = omega arith in ap (λ (n : ℕ). told_from bases w.shape.k (length past) now 0 w.log ++ told_from bases w.shape.k (length past) now n es) front)
-      ∙ ap (λ (xs : List EraEntry). xs ++ told_from bases w.shape.k (length past) now (length w.log) es) (before w bases (length past) l within es (lowered_by w bases e) (lowered-from w bases e))
+      ∙ (let front : 0 + length w.log ≡ length w.log = omega arith in
+      ap (λ (n : ℕ). told_from bases w.shape.k (length past) now 0 w.log ++ told_from bases w.shape.k (length past)
+      now n es) front)
+      ∙ ap (λ (xs : List EraEntry). xs ++ told_from bases w.shape.k (length past) now (length w.log) es)
+      (before w bases (length past) l within es (lowered_by w bases e) (lowered-from w bases e))
       ∙ ap (λ (xs : List EraEntry). told_from bases w.shape.k (length past) l 0 w.log ++ xs) (own e)
 
   whole : past_from 0 past ++ told_from bases w.shape.k (length past) (noted l (lowered_by w bases e) (length t.world.log)) 0 t.world.log

@@ -1,5 +1,7 @@
 -- How an item is read: the get, and where a block has to be rebuilt first a drain and the get again.
-use Rattle.std.proofs.Common.{◌≡◌, ℕ, zero, suc, ◌+◌, ◌-◌, ◌≤◌, ◌<◌, Bool, true, false, if◌then◌else◌, List, [], ◌∷◌, ◌++◌, length, take, drop, Option, Some, None, is_some, refl, sym, ap, subst, ◌∙◌, append_assoc, append-nil, arith}
+use Rattle.std.proofs.Common.{◌≡◌, ℕ, zero, suc, ◌+◌, ◌-◌, ◌≤◌, ◌<◌, Bool, true, false, if◌then◌else◌, List, [], ◌∷◌}
+use Rattle.std.proofs.Common.{◌++◌, length, take, drop, Option, Some, None, is_some, refl, sym, ap, subst, ◌∙◌}
+use Rattle.std.proofs.Common.{append_assoc, append-nil, arith}
 use mathlib.Core.Bool.{false≢true}
 use Rattle.std.specs.List.{range_with_len}
 use Rattle.std.specs.Option.{unwrap_or}
@@ -45,9 +47,12 @@ module _ (w : World) (d : ℕ) where
   pub ranks-first : is_dead w (DataNode d) ≡ true → head_of w d ≡ of_rank d (first_living w d (range_with_len 1 (w.shape.m - 0)))
   ranks-first dead =
       let all : w.shape.m ≡ w.shape.m - 0 = omega arith in
-      ap (λ (b : Bool). of_rank d (if b then first_living w d (range_with_len 1 w.shape.m) else 0)) dead ∙ ap (λ (n : ℕ). of_rank d (first_living w d (range_with_len 1 n))) all
+      ap (λ (b : Bool). of_rank d (if b then first_living w d (range_with_len 1 w.shape.m) else 0)) dead
+      ∙ ap (λ (n : ℕ). of_rank d (first_living w d (range_with_len 1 n))) all
 
-  one-more : (i n : ℕ) → n ≡ suc (w.shape.m - suc i) → first_living w d (range_with_len (suc i) n) ≡ (if is_dead w (ParityNode i) then first_living w d (range_with_len (suc (suc i)) (w.shape.m - suc i)) else suc i)
+  one-more : (i n : ℕ) → n ≡ suc (w.shape.m - suc i) → first_living w d (range_with_len (suc i) n)
+      ≡ (if is_dead w (ParityNode i) then first_living w d (range_with_len (suc (suc i)) (w.shape.m - suc i)) else suc
+      i)
   one-more i zero is = absurd (cc is)
   one-more i (suc n) is =
       let same : n ≡ w.shape.m - suc i = omega (arith, is) in
@@ -60,13 +65,20 @@ module _ (w : World) (d : ℕ) where
     more = omega (arith, low)
 
     pub ranks-here : is_dead w (ParityNode i) ≡ false → head_of w d ≡ ParityNode i
-    ranks-here lives = so-far ∙ ap (of_rank d) (one-more i (w.shape.m - i) more ∙ ap (λ (b : Bool). if b then first_living w d (range_with_len (suc (suc i)) (w.shape.m - suc i)) else suc i) lives)
+    ranks-here lives = so-far
+        ∙ ap (of_rank d) (one-more i (w.shape.m - i) more
+        ∙ ap (λ (b : Bool). if b then first_living w d (range_with_len (suc (suc i)) (w.shape.m - suc i)) else suc i)
+        lives)
 
     pub ranks-next : is_dead w (ParityNode i) ≡ true → head_of w d ≡ of_rank d (first_living w d (range_with_len (suc (suc i)) (w.shape.m - suc i)))
-    ranks-next dead = so-far ∙ ap (of_rank d) (one-more i (w.shape.m - i) more ∙ ap (λ (b : Bool). if b then first_living w d (range_with_len (suc (suc i)) (w.shape.m - suc i)) else suc i) dead)
+    ranks-next dead = so-far
+        ∙ ap (of_rank d) (one-more i (w.shape.m - i) more
+        ∙ ap (λ (b : Bool). if b then first_living w d (range_with_len (suc (suc i)) (w.shape.m - suc i)) else suc i)
+        dead)
 
   pub ranks-none : (i : ℕ) → w.shape.m ≤ i → head_of w d ≡ of_rank d (first_living w d (range_with_len (suc i) (w.shape.m - i))) → head_of w d ≡ DataNode d
-  ranks-none i high so-far = let none : w.shape.m - i ≡ 0 = omega (arith, high) in so-far ∙ ap (λ (n : ℕ). of_rank d (first_living w d (range_with_len (suc i) n))) none
+  ranks-none i high so-far = let none : w.shape.m - i ≡ 0 = omega (arith, high) in
+      so-far ∙ ap (λ (n : ℕ). of_rank d (first_living w d (range_with_len (suc i) n))) none
 
 pub after-append : (w : World) (es fs : List Event) → world_after w (es ++ fs) ≡ world_after (world_after w es) fs
 after-append w [] fs = refl
@@ -88,7 +100,11 @@ back-take {X} (x ∷ xs) ys m = let same : suc (length xs) + m ≡ suc (length x
     ap (λ (n : ℕ). take n (x ∷ xs ++ ys)) same ∙ ap (λ (zs : List X). x ∷ zs) (back-take xs ys m)
 
 pub part-back : (w u v : World) (es fs : List Event) → u ≡ world_after w es → IsPart u fs v → IsPart w (es ++ fs) v
-part-back w u v es fs led (many, is) = (length es + many, is ∙ ap (λ (x : World). world_after x (take many fs)) led ∙ sym (after-append w es (take many fs)) ∙ ap (world_after w) (sym (back-take es fs many)))
+part-back w u v es fs led (many, is) = (
+  length es + many,
+  is ∙ ap (λ (x : World). world_after x (take many fs)) led
+      ∙ sym (after-append w es (take many fs)) ∙ ap (world_after w) (sym (back-take es fs many)),
+)
 
 pub part-whole : (w v : World) (es : List Event) → v ≡ world_after w es → IsPart w es v
 part-whole w v es is = (length es, is ∙ ap (world_after w) (sym (whole es))) where
@@ -106,7 +122,8 @@ pub record Trying (w : World) (get : Event) (v : World) (value : Option (List �
   pub after : v ≡ world_after w (before ++ get ∷ [])
   pub whole : tried w get ≡ got_behind before (get_with tries get last)
 
-pub Trying-first : (w v : World) (get : Event) (value : Option (List ℕ)) → MayAsk w get → ¬ (IsDown v) → v ≡ (step w get).world → IsFound (step w get).turn.answer value → Trying w get v value w.shape.blocks
+pub Trying-first : (w v : World) (get : Event) (value : Option (List ℕ)) → MayAsk w get → ¬ (IsDown v)
+    → v ≡ (step w get).world → IsFound (step w get).turn.answer value → Trying w get v value w.shape.blocks
 Trying-first w v get value ask up is found = record {
   ask = ask-later w v get ask (ap (λ (x : World). x.shape) is);
   up = up;
@@ -128,7 +145,8 @@ module _ (w v : World) (get : Event) (value : Option (List ℕ)) (tries : ℕ) (
   rest-of : (n : ℕ) → tries ≡ suc n → value ≡ None → get_with tries get t.last ≡ got_behind (get ∷ draining v) (get_with n get (step (drained v) get))
   rest-of n more none =
       ap (λ (k : ℕ). get_with k get t.last) more
-      ∙ ap (λ (b : Bool). if b then got_behind (get ∷ draining t.last.world) (get_with n get (step (drained t.last.world) get)) else only_got get t.last) (retries none)
+      ∙ ap (λ (b : Bool). if b then got_behind (get ∷ draining t.last.world)
+      (get_with n get (step (drained t.last.world) get)) else only_got get t.last) (retries none)
       ∙ ap (λ (u : World). got_behind (get ∷ draining u) (get_with n get (step (drained u) get))) (sym t.world)
 
   -- the events up to now, and up to the next get
@@ -166,13 +184,18 @@ module _ (w v : World) (get : Event) (value : Option (List ℕ)) (tries : ℕ) (
 
     -- want of memory in the drain
     pub drain-part : (u : World) → IsPart v (draining v) u → IsPart w (tried w get).events u
-    drain-part u part = subst (λ (es : List Event). IsPart w es u) (sym (ap (λ (x : Getting). x.events) whole-next ∙ ap (λ (es : List Event). es ++ (get_with n get (step (drained v) get)).events) split))
-        (part-front w u ((t.before ++ get ∷ []) ++ draining v) (get_with n get (step (drained v) get)).events (part-back w v u (t.before ++ get ∷ []) (draining v) t.after part))
+    drain-part u part = subst (λ (es : List Event). IsPart w es u)
+        (sym (ap (λ (x : Getting). x.events) whole-next
+        ∙ ap (λ (es : List Event). es ++ (get_with n get (step (drained v) get)).events) split))
+        (part-front w u ((t.before ++ get ∷ []) ++ draining v) (get_with n get (step (drained v) get)).events
+        (part-back w v u (t.before ++ get ∷ []) (draining v) t.after part))
 
     -- and in the next get
     pub again-part : (u : World) → IsPart (drained v) (get ∷ []) u → IsPart w (tried w get).events u
     again-part u part = subst (λ (es : List Event). IsPart w es u) (sym (ap (λ (x : Getting). x.events) whole-next ∙ begins-next))
-        (part-front w u ((t.before ++ get ∷ draining v) ++ get ∷ []) (drop 1 (get_with n get (step (drained v) get)).events) (part-back w (drained v) u (t.before ++ get ∷ draining v) (get ∷ []) led-now part)) where
+        (part-front w u ((t.before ++ get ∷ draining v) ++ get ∷ [])
+        (drop 1 (get_with n get (step (drained v) get)).events)
+        (part-back w (drained v) u (t.before ++ get ∷ draining v) (get ∷ []) led-now part)) where
           begins : (n : ℕ) (s : WorldStep) → (get_with n get s).events ≡ get ∷ drop 1 (get_with n get s).events
           begins zero s = refl
           begins (suc n) s = by (is_retry s.turn.answer) where
@@ -181,10 +204,13 @@ module _ (w v : World) (get : Event) (value : Option (List ℕ)) (tries : ℕ) (
             by true = refl
             by false = refl
 
-          begins-next : (t.before ++ get ∷ draining v) ++ (get_with n get (step (drained v) get)).events ≡ ((t.before ++ get ∷ draining v) ++ get ∷ []) ++ drop 1 (get_with n get (step (drained v) get)).events
-          begins-next = ap (λ (es : List Event). (t.before ++ get ∷ draining v) ++ es) (begins n (step (drained v) get)) ∙ sym (append_assoc (t.before ++ get ∷ draining v) (get ∷ []) _)
+          begins-next : (t.before ++ get ∷ draining v) ++ (get_with n get (step (drained v) get)).events
+              ≡ ((t.before ++ get ∷ draining v) ++ get ∷ []) ++ drop 1 (get_with n get (step (drained v) get)).events
+          begins-next = ap (λ (es : List Event). (t.before ++ get ∷ draining v) ++ es) (begins n (step (drained v) get))
+              ∙ sym (append_assoc (t.before ++ get ∷ draining v) (get ∷ []) _)
 
-    pub Trying-next : (u x : World) (found : Option (List ℕ)) → u ≡ drained v → ¬ (IsDown x) → x ≡ (step u get).world → IsFound (step u get).turn.answer found → Trying w get x found n
+    pub Trying-next : (u x : World) (found : Option (List ℕ)) → u ≡ drained v → ¬ (IsDown x) → x ≡ (step u get).world
+        → IsFound (step u get).turn.answer found → Trying w get x found n
     Trying-next u x found drained_is up is found_is = record {
       ask = ask-later v x get t.ask (ap (λ (y : World). y.shape) (is ∙ ap (λ (y : World). (step y get).world) drained_is) ∙ keeps-shape v (draining v));
       up = up;
@@ -246,11 +272,12 @@ none-of (Some x) is = absurd (false≢true (sym is))
 
 -- want of memory in the first get
 pub first-part : (w v : World) (get : Event) → IsPart w (get ∷ []) v → IsPart w (tried w get).events v
-first-part w v get part = subst (λ (es : List Event). IsPart w es v) (sym (begins w.shape.blocks (step w get))) (part-front w v (get ∷ []) (drop 1 (tried w get).events) part) where
-  begins : (n : ℕ) (s : WorldStep) → (get_with n get s).events ≡ get ∷ drop 1 (get_with n get s).events
-  begins zero s = refl
-  begins (suc n) s = by (is_retry s.turn.answer) where
-    by : (b : Bool) → (if b then got_behind (get ∷ draining s.world) (get_with n get (step (drained s.world) get)) else only_got get s).events
-        ≡ get ∷ drop 1 (if b then got_behind (get ∷ draining s.world) (get_with n get (step (drained s.world) get)) else only_got get s).events
-    by true = refl
-    by false = refl
+first-part w v get part = subst (λ (es : List Event). IsPart w es v) (sym (begins w.shape.blocks (step w get)))
+    (part-front w v (get ∷ []) (drop 1 (tried w get).events) part) where
+      begins : (n : ℕ) (s : WorldStep) → (get_with n get s).events ≡ get ∷ drop 1 (get_with n get s).events
+      begins zero s = refl
+      begins (suc n) s = by (is_retry s.turn.answer) where
+        by : (b : Bool) → (if b then got_behind (get ∷ draining s.world) (get_with n get (step (drained s.world) get)) else only_got get s).events
+            ≡ get ∷ drop 1 (if b then got_behind (get ∷ draining s.world) (get_with n get (step (drained s.world) get)) else only_got get s).events
+        by true = refl
+        by false = refl

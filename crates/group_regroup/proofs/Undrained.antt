@@ -24,28 +24,34 @@ module _ (w : World) (has : HasRun w) (up : ¬ (IsDown w)) (drained : IsDrained 
       (next-comes w.shape has.events has.run (λ down. up (subst IsDown (sym has.is) down)) e (subst (λ (v : World). next_delivery v ≡ Some e) has.is is))
 
   none-comes : (e : Event) → next_delivery w ≡ Some e → ⊥
-  none-comes e is = by (at [] (node_at w x).links y) (both-true (node_at w y).dead (some_message (at [] (node_at w x).links y)) there.waiting) (ap (at [] (node_at w x).links) (index-process_at w.shape y)) where
-    there : Waits w e
-    there = next-waits w e is
+  none-comes e is =
+      by (at [] (node_at w x).links y) (both-true (node_at w y).dead (some_message (at [] (node_at w x).links y))
+      there.waiting) (ap (at [] (node_at w x).links) (index-process_at w.shape y)) where
+        there : Waits w e
+        there = next-waits w e is
 
-    x : ℕ
-    x = there.from
+        x : ℕ
+        x = there.from
 
-    y : ℕ
-    y = there.to
+        y : ℕ
+        y = there.to
 
-    from : ProcessId
-    from = process_at w.shape x
+        from : ProcessId
+        from = process_at w.shape x
 
-    to : ProcessId
-    to = process_at w.shape y
+        to : ProcessId
+        to = process_at w.shape y
 
-    apart : from ≢ to
-    apart = (subst (NextComes w) (sym there.is) (comes e is)).may.2
+        apart : from ≢ to
+        apart = (subst (NextComes w) (sym there.is) (comes e is)).may.2
 
-    by : (ms : List Message) → ((node_at w y).dead ≡ false) × (some_message ms ≡ true) → link w from to ≡ ms → ⊥
-    by [] waits same = cc waits.1
-    by (m ∷ rest) waits same = cc (sym (drained from to (process_at-in w.shape x there.from_low) (process_at-in w.shape y there.to_low, waits.0) apart) ∙ same)
+        by : (ms : List Message) → ((node_at w y).dead ≡ false) × (some_message ms ≡ true) → link w from to ≡ ms → ⊥
+        by [] waits same = cc waits.1
+        by (m ∷ rest) waits same =
+            cc (sym (drained from to (process_at-in w.shape x there.from_low) (
+              process_at-in w.shape y there.to_low,
+              waits.0,
+            ) apart) ∙ same)
 
   pub none-next : next_delivery w ≡ None
   none-next = by (next_delivery w) refl where

@@ -14,7 +14,10 @@ use Rattle.group_message.specs.declared.update.Body.TheVariants.{Put, Remove, To
 use Rattle.group_message.specs.declared.update.Outcome.{Outcome}
 use Rattle.group_calls.specs.declared.decision.Decision.{Decision}
 use Rattle.group_calls.specs.declared.decision.Decision.TheVariants as decides
-use Rattle.group_run.specs.Deciding.{Found, Bytes, Missing, blind_reply, decide, decide_accepted, decide_blind, decide_found, decide_left, decide_placed, decide_ruled, decide_waiting, decide_written, is_touch, item_found, length_of, outcome_of, ruling_with, run_needed, unseen, waits_for, window}
+use Rattle.group_run.specs.Deciding.{Found, Bytes, Missing, blind_reply, decide, decide_accepted, decide_blind}
+use Rattle.group_run.specs.Deciding.{decide_found, decide_left, decide_placed, decide_ruled, decide_waiting}
+use Rattle.group_run.specs.Deciding.{decide_written, is_touch, item_found, length_of, outcome_of, ruling_with}
+use Rattle.group_run.specs.Deciding.{run_needed, unseen, waits_for, window}
 use Rattle.group_run.specs.Free.{place_for}
 use Rattle.group_run.specs.Replica.{Replica, number_on, slot_in}
 
@@ -33,12 +36,14 @@ module _ (space : ℕ) (r : Replica) (op : Asked) (read : Run → Found) where
         → Holds (decides.Issue (Put h.item.flags h.until run (add_bytes h.item.value under)) outcome)
 
   module _ (inherited : ℕ) (Holds : Decision → Type 0) (ends : Ends inherited Holds) where
-    written : length r.log < window → (outcome : Outcome) (h : Holding) (len : ℕ) (run : Run) → place_for space r len ≡ Some run → (found : Found) → read run ≡ found
+    written : length r.log < window → (outcome : Outcome) (h : Holding) (len : ℕ) (run : Run)
+        → place_for space r len ≡ Some run → (found : Found) → read run ≡ found
         → Holds (decide_written outcome h run found)
     written few outcome h len run is (Missing b) missing = ends.place len run b is missing
     written few outcome h len run is (Bytes under) found = ends.puts few h run under outcome found
 
-    placed : length r.log < window → (outcome : Outcome) (h : Holding) (len : ℕ) (run : Option Run) → place_for space r len ≡ run → Holds (decide_placed read outcome h run)
+    placed : length r.log < window → (outcome : Outcome) (h : Holding) (len : ℕ) (run : Option Run)
+        → place_for space r len ≡ run → Holds (decide_placed read outcome h run)
     placed few outcome h len None is = ends.no_space
     placed few outcome h len (Some run) is = written few outcome h len run is (read run) refl
 
@@ -47,16 +52,20 @@ module _ (space : ℕ) (r : Replica) (op : Asked) (read : Run → Found) where
     left few outcome true (Some h) = ends.touches few h outcome
     left few outcome false (Some h) = placed few outcome h (length h.item.value) (place_for space r (length h.item.value)) refl
 
-    accepted : (full : Bool) → nat_le window (length r.log) ≡ full → (decision : Decision) → (length r.log < window → Holds decision) → Holds (decide_accepted full r decision)
+    accepted : (full : Bool) → nat_le window (length r.log) ≡ full → (decision : Decision)
+        → (length r.log < window → Holds decision) → Holds (decide_accepted full r decision)
     accepted true is decision holds = ends.full (grind (arith, common_steps))
     accepted false is decision holds = holds (grind (arith, common_steps))
 
     ruled : (ruling : Ruling) → Holds (decide_ruled space r op read ruling)
     ruled (Refused refusal) = ends.answers refusal
     ruled (Accepted reply leaves) =
-        accepted (nat_le window (length r.log)) refl (decide_left space r read (outcome_of reply) (is_touch op.act) leaves) (λ few. left few (outcome_of reply) (is_touch op.act) leaves)
+        accepted (nat_le window (length r.log)) refl (decide_left space r read (outcome_of reply) (is_touch op.act)
+        leaves) (λ few. left few (outcome_of reply) (is_touch op.act) leaves)
 
-    found : (slot : Option Slot) (run : Option Run) (there : Found) → ((x : Run) (b : ℕ) → run ≡ Some x → read x ≡ Missing b → Holds (decides.NeedBlock b)) → item_found read slot run ≡ there
+    found : (slot : Option Slot) (run : Option Run) (there : Found)
+        → ((x : Run) (b : ℕ) → run ≡ Some x → read x ≡ Missing b → Holds (decides.NeedBlock b))
+        → item_found read slot run ≡ there
         → Holds (decide_found space r op read slot there)
     found slot run (Bytes bytes) item is = ruled (ruling_with r op slot bytes)
     found slot None (Missing b) item is = absurd (bytes_not (unseen slot) b is) where
@@ -64,7 +73,9 @@ module _ (space : ℕ) (r : Replica) (op : Asked) (read : Run → Found) where
       bytes_not bytes b e = cc e
     found slot (Some run) (Missing b) item is = item run b refl is
 
-    blind : (slot : Option Slot) (reply : Option Reply) → ((x : Run) (b : ℕ) → run_needed op slot ≡ Some x → read x ≡ Missing b → Holds (decides.NeedBlock b)) → Holds (decide_blind space r op read slot reply)
+    blind : (slot : Option Slot) (reply : Option Reply)
+        → ((x : Run) (b : ℕ) → run_needed op slot ≡ Some x → read x ≡ Missing b → Holds (decides.NeedBlock b))
+        → Holds (decide_blind space r op read slot reply)
     blind slot (Some reply) item = ends.answers reply
     blind slot None item = found slot (run_needed op slot) (item_found read slot (run_needed op slot)) item refl
 

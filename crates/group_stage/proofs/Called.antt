@@ -17,10 +17,18 @@ use Rattle.group_stage.specs.declared.view.View.{View}
 use Rattle.group_stage.proofs.Committing.{asks-append}
 
 pub not-worn : (calls : ℕ) → (eqb calls most_calls) ≡ false → calls ≤ most_calls → calls < most_calls
-not-worn calls is few = ⊎_elim (λ (e : calls ≡ most_calls). absurd (let yes : eqb calls most_calls ≡ true = eq-eqb calls most_calls e in cc (yes, is))) (λ (n : calls ≢ most_calls). omega (arith, n, few)) (cases_eq calls most_calls)
+not-worn calls is few =
+    ⊎_elim (λ (e : calls ≡ most_calls). absurd (let yes : eqb calls most_calls ≡ true = eq-eqb calls most_calls e in
+    cc (yes, is))) (λ (n : calls ≢ most_calls). omega (arith, n, few)) (cases_eq calls most_calls)
 
 pub ready : (m : Sat) (caller calls asks : ℕ) → IsSeat m caller calls asks → calls < most_calls → IsIdle m
-ready m caller calls asks seat low = record { part = seat.part; calls = let same = seat.counted in omega (arith, same, low); idle = seat.idle; slots = seat.slots }
+ready m caller calls asks seat low = record {
+  part = seat.part;
+  calls = let same = seat.counted in
+      omega (arith, same, low);
+  idle = seat.idle;
+  slots = seat.slots;
+}
 
 pub returned : (e : Event) (v w : View) (r : Result StageAnswer AllocError) → v.calls < most_calls → HasEnded e v r w → HasReturned v w
 returned e v w (Ok (Made a)) low ended = ended.0
@@ -35,7 +43,8 @@ more_asks n (Ok (Busy p)) = 0
 more_asks n (Ok Worn) = 0
 more_asks n (Err x) = 0
 
-pub asks-after : (e : Event) (c : ℕ) (v w : View) (r : Result StageAnswer AllocError) → v.calls < most_calls → HasEnded e v r w → asks_by c w.made ≡ asks_by c v.made + more_asks (ask_by c e) r
+pub asks-after : (e : Event) (c : ℕ) (v w : View) (r : Result StageAnswer AllocError) → v.calls < most_calls
+    → HasEnded e v r w → asks_by c w.made ≡ asks_by c v.made + more_asks (ask_by c e) r
 asks-after e c v w (Ok (Made a)) low ended =
     let es = ended.1.0 in
     let more = asks-append c v.made (record { number = length es; event = e; answer = a } ∷ []) in
@@ -63,7 +72,9 @@ one-most (Ok (Busy p)) = omega arith
 one-most (Ok Worn) = omega arith
 one-most (Err x) = omega arith
 
-module _ (e : Event) (m n : Sat) (caller calls asks : ℕ) (seat : IsSeat m caller calls asks) (r : Result StageAnswer AllocError) (low : calls < most_calls) (ended : HasEnded e m.0 r n.0) (slots : n.1 ≡ []) where
+module _ (e : Event) (m n : Sat) (caller calls asks : ℕ) (seat : IsSeat m caller calls asks)
+    (r : Result StageAnswer AllocError) (low : calls < most_calls) (ended : HasEnded e m.0 r n.0)
+    (slots : n.1 ≡ []) where
   few : m.0.calls < most_calls
   few = let same = seat.counted in omega (arith, same, low)
 

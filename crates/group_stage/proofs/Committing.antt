@@ -1,5 +1,7 @@
 -- A call becomes an event: the rule is kept with the schedule one event longer.
-use Rattle.std.proofs.Common.{ℕ, suc, ◌≡◌, ◌≢◌, ◌<◌, ◌≤◌, ◌+◌, ◌%◌, ⊎_elim, List, [], ◌∷◌, ◌++◌, length, map, get_or, set, refl, sym, ap, subst, ◌∙◌, arith, length-set, get_or-set_other, get_or-set_same, length-append}
+use Rattle.std.proofs.Common.{ℕ, suc, ◌≡◌, ◌≢◌, ◌<◌, ◌≤◌, ◌+◌, ◌%◌, ⊎_elim, List, [], ◌∷◌, ◌++◌, length, map, get_or}
+use Rattle.std.proofs.Common.{set, refl, sym, ap, subst, ◌∙◌, arith, length-set, get_or-set_other, get_or-set_same}
+use Rattle.std.proofs.Common.{length-append}
 use Rattle.std.specs.Prelude as std
 use Rattle.std.proofs.lemmas.Bool.{cases_eq}
 use mathlib.Core.Option.{none, some}
@@ -59,7 +61,8 @@ held-fits s t es [] same = tt
 held-fits s t es (h ∷ hs) same = (ap (λ (x : Dimensions). standing_at x es h.0) same, held-fits s t es hs same)
 
 -- each node that is held is counted
-each-counted : (hs ks : List (ℕ × NodeStanding)) → ((q : ℕ) → times q (map (λ h. h.0) hs) ≤ times q (map (λ h. h.0) ks)) → Each (λ h. 0 < times h.0 (map (λ h. h.0) ks)) hs
+each-counted : (hs ks : List (ℕ × NodeStanding)) → ((q : ℕ) → times q (map (λ h. h.0) hs) ≤ times q (map (λ h. h.0) ks))
+    → Each (λ h. 0 < times h.0 (map (λ h. h.0) ks)) hs
 each-counted [] ks le = tt
 each-counted (h ∷ hs) ks le = (
   (let one = times-here h.0 (map (λ h. h.0) hs) in let most = le h.0 in omega (arith, one, most)),
@@ -81,7 +84,9 @@ module _ (plan : Plan) (st : St) (o : Kept plan st) (id : ℕ) (v : View) (me : 
 
   -- a process whose node someone else has, or nobody, isn't named
   not-named : (q : ℕ) → q < processes_of plan.shape → holding q v ≡ 0 → times q (names plan.shape e) ≡ 0
-  not-named q low none_held = ⊎_elim (λ (z : times q (names plan.shape e) ≡ 0). z) (λ ne. absurd (let some_held = can.holds q low (omega (arith, ne)) in omega (arith, some_held, none_held))) (cases_eq (times q (names plan.shape e)) 0)
+  not-named q low none_held = ⊎_elim (λ (z : times q (names plan.shape e) ≡ 0). z)
+      (λ ne. absurd (let some_held = can.holds q low (omega (arith, ne)) in omega (arith, some_held, none_held)))
+      (cases_eq (times q (names plan.shape e)) 0)
 
   -- and stands as it stood
   pub still : (q : ℕ) → q < processes_of plan.shape → holding q v ≡ 0 → standing_at plan.shape (es ++ e ∷ []) q ≡ standing_at plan.shape es q
@@ -102,9 +107,13 @@ module _ (plan : Plan) (st : St) (o : Kept plan st) (id : ℕ) (v : View) (me : 
         held = held-fits plan.shape v.shape (es ++ e ∷ []) v.held shape;
         named = each-place (λ q. 0 < times q (names plan.shape e)) v.shape (es ++ e ∷ []) v.held fits.named;
         made = each-snoc (IsAnswered plan.shape (es ++ e ∷ [])) v.made _
-            (each-weaker (IsAnswered plan.shape es) (IsAnswered plan.shape (es ++ e ∷ [])) (λ x is. still-answered plan.shape es (e ∷ []) x is) v.made fits.made)
-            (subst (λ (s : Dimensions). IsAnswered plan.shape (es ++ e ∷ []) (record { number = length es; event = e; answer = answer_at s es e })) (sym shape) (last-answered plan.shape es e));
-        few = let long = length-append v.made (record { number = length es; event = e; answer = answer_at v.shape es e } ∷ []) in let few = fits.few in let due = can.due in omega (arith, long, few, due);
+            (each-weaker (IsAnswered plan.shape es) (IsAnswered plan.shape (es ++ e ∷ []))
+            (λ x is. still-answered plan.shape es (e ∷ []) x is) v.made fits.made)
+            (subst (λ (s : Dimensions). IsAnswered plan.shape (es ++ e ∷ [])
+            (record { number = length es; event = e; answer = answer_at s es e })) (sym shape)
+            (last-answered plan.shape es e));
+        few = let long = length-append v.made (record { number = length es; event = e; answer = answer_at v.shape es e }
+            ∷ []) in let few = fits.few in let due = can.due in omega (arith, long, few, due);
         calls = fits.calls;
         numbers = fits.numbers;
         no_parts = λ z. absurd (let part = can.part in omega (arith, z, part));
@@ -121,15 +130,19 @@ module _ (plan : Plan) (st : St) (o : Kept plan st) (id : ℕ) (v : View) (me : 
       record {
         shape = fits.shape;
         inside = fits.inside;
-        held = each-weaker (λ h. ((0 < times h.0 (map (λ h. h.0) u.held)) × (h.0 < processes_of plan.shape)) × (h.1 ≡ standing_at plan.shape es h.0)) (λ h. h.1 ≡ standing_at plan.shape (es ++ e ∷ []) h.0)
+        held = each-weaker (λ h. ((0 < times h.0 (map (λ h. h.0) u.held)) × (h.0 < processes_of plan.shape))
+            × (h.1 ≡ standing_at plan.shape es h.0)) (λ h. h.1 ≡ standing_at plan.shape (es ++ e ∷ []) h.0)
             (λ h is. is.1 ∙ sym (still h.0 is.0.1
-            (let two = terms_le (holding h.0) st.views id j v u apart me at_j in let one = flag_le (word_in st.words h.0) in omega (arith, two, one, o.taken h.0 is.0.1, is.0.0))))
+            (let two = terms_le (holding h.0) st.views id j v u apart me at_j in
+            let one = flag_le (word_in st.words h.0) in omega (arith, two, one, o.taken h.0 is.0.1, is.0.0))))
             u.held
             (each-both (λ h. (0 < times h.0 (map (λ h. h.0) u.held)) × (h.0 < processes_of plan.shape)) (λ h. h.1 ≡ standing_at plan.shape es h.0) u.held
-            (each-both (λ h. 0 < times h.0 (map (λ h. h.0) u.held)) (λ h. h.0 < processes_of plan.shape) u.held (each-counted u.held u.held (λ q. omega arith)) fits.inside)
+            (each-both (λ h. 0 < times h.0 (map (λ h. h.0) u.held)) (λ h. h.0 < processes_of plan.shape) u.held
+            (each-counted u.held u.held (λ q. omega arith)) fits.inside)
             fits.held);
         named = fits.named;
-        made = each-weaker (IsAnswered plan.shape es) (IsAnswered plan.shape (es ++ e ∷ [])) (λ x is. still-answered plan.shape es (e ∷ []) x is) u.made fits.made;
+        made = each-weaker (IsAnswered plan.shape es) (IsAnswered plan.shape (es ++ e ∷ []))
+            (λ x is. still-answered plan.shape es (e ∷ []) x is) u.made fits.made;
         few = fits.few;
         calls = fits.calls;
         numbers = fits.numbers;
@@ -170,7 +183,8 @@ module _ (plan : Plan) (st : St) (o : Kept plan st) (id : ℕ) (v : View) (me : 
       once = λ k.
           let more = drawn-append k v.made (record { number = length es; event = e; answer = answer_at v.shape es e } ∷ []) in
           let bits = bit-more k (length es) in
-          let all : total (λ (u : View). drawn k u.made) (set st.views id w) ≡ bit (std.nat_lt k (suc (length es))) = omega (arith, total-set (λ (u : View). drawn k u.made) st.views id v w me, o.once k, more, bits) in
+          let all : total (λ (u : View). drawn k u.made) (set st.views id w) ≡ bit (std.nat_lt k (suc (length es))) =
+          omega (arith, total-set (λ (u : View). drawn k u.made) st.views id v w me, o.once k, more, bits) in
           all ∙ ap (λ (x : ℕ). bit (std.nat_lt k x)) (sym longer);
       drawing = omega (arith, total-set (λ (u : View). length u.numbers) st.views id v w me, o.drawing, next-stays);
       owners = λ c. let same = total-set (λ (u : View). times c u.numbers) st.views id v w me in
@@ -183,12 +197,15 @@ module _ (plan : Plan) (st : St) (o : Kept plan st) (id : ℕ) (v : View) (me : 
       counts = λ q low. let word = word-stays q (λ x. omega (arith, x, low)) in let same = ap flag word in
           omega (arith, total-set (met_of q) st.views id v w me, total-set (cleared_of q) st.views id v w me, o.counts q low, word, same);
       home = λ q low zero_now. let free = sym (word-stays q (λ x. omega (arith, x, low))) ∙ zero_now in
-          o.home q low free ∙ ap (λ (z : NodeStanding). some (some (std.Some z))) (sym (still q low (let mine_too = term_le (holding q) st.views id v me in let z = ap flag free in omega (arith, mine_too, o.taken q low, z))));
+          o.home q low free ∙ ap (λ (z : NodeStanding). some (some (std.Some z)))
+          (sym (still q low (let mine_too = term_le (holding q) st.views id v me in let z = ap flag free in
+          omega (arith, mine_too, o.taken q low, z))));
       each = λ j u at_j. subst (λ (x : ℕ). Fits plan.shape (es ++ e ∷ []) x u) (sym next-stays)
           (⊎_elim (λ t. subst (Fits plan.shape (es ++ e ∷ []) (next_in plan st.words)) t.1 mine) (λ t. other j u t.0 t.1) (at_set st.views id j w u at_j));
     }
 
-pub commits : (plan : Plan) (slots id : ℕ) (m : Sat) (i : ℕ) → i ≡ history_of plan.shape → CanCommit plan m.0 → Allows (Kept plan) slots id m i (λ n. (n + 1) % 18446744073709551616) (Commits (step slots i 1 0 none) m)
+pub commits : (plan : Plan) (slots id : ℕ) (m : Sat) (i : ℕ) → i ≡ history_of plan.shape → CanCommit plan m.0
+    → Allows (Kept plan) slots id m i (λ n. (n + 1) % 18446744073709551616) (Commits (step slots i 1 0 none) m)
 commits plan slots id m i here can st o wide me low =
     let v : View = m.0 in
     let due : 0 < v.due = let d = can.due in omega (arith, d) in

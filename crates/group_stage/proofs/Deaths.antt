@@ -55,7 +55,8 @@ append-two : {X : Type 0} (xs ys zs : List X) → (xs ++ ys) ++ zs ≡ xs ++ (ys
 append-two [] ys zs = refl
 append-two (x ∷ xs) ys zs = ap (λ (l : List _). x ∷ l) (append-two xs ys zs)
 
-module _ (plan : Plan) (m w : Sat) (zs ys : List NodeStanding) (y : NodeStanding) (n : ℕ) (parts : m.0.parts ≡ 1) (few : n ≤ processes_of plan.shape) (fewer : length zs ≤ n) (last : zs ≡ ys ++ y ∷ [])
+module _ (plan : Plan) (m w : Sat) (zs ys : List NodeStanding) (y : NodeStanding) (n : ℕ) (parts : m.0.parts ≡ 1)
+    (few : n ≤ processes_of plan.shape) (fewer : length zs ≤ n) (last : zs ≡ ys ++ y ∷ [])
     (gives : GivesBack m w zs n) where
   long : length zs ≡ suc (length ys)
   long = ap length last ∙ length-append ys (y ∷ []) ∙ omega arith
@@ -78,7 +79,13 @@ module _ (plan : Plan) (m w : Sat) (zs ys : List NodeStanding) (y : NodeStanding
     seat =
         let held : hand_of zs ≡ (p, y) ∷ hand_of ys = ap hand_of last ∙ hand-more ys y ∙ ap (λ (q : ℕ). (q, y) ∷ hand_of ys) (sym here) in
         back ∙ ap (λ (z : Sat). (released z.0 p found, rest z.1)) gives.seat
-        ∙ (λ i. (record m.0 { held = held_rest (held i); cleared = (append-two m.0.cleared gives.cleared ((p, found - 1) ∷ [])) i }, rest (slots_left (held i))));
+        ∙ (λ i. (
+          record m.0 {
+            held = held_rest (held i);
+            cleared = (append-two m.0.cleared gives.cleared ((p, found - 1) ∷ [])) i;
+          },
+          rest (slots_left (held i)),
+        ));
   }
 
 pub all-back : (m w : Sat) (zs : List NodeStanding) (n : ℕ) → zs ≡ [] → GivesBack m w zs n → GaveBack m w n
@@ -89,16 +96,20 @@ all-back m w zs n none gives = record {
 }
 
 -- a further node is in hand
-pub one-more : (v : View) (ys : List NodeStanding) (y : NodeStanding) (m w : Sat) (p : ℕ) → p ≡ length ys → m ≡ sat_with v ys → (es : List Event) × InHand m.0 p m.1 y w es
+pub one-more : (v : View) (ys : List NodeStanding) (y : NodeStanding) (m w : Sat) (p : ℕ) → p ≡ length ys
+    → m ≡ sat_with v ys → (es : List Event) × InHand m.0 p m.1 y w es
     → (w ≡ sat_with v (ys ++ y ∷ [])) × ((es : List Event) × Knows es (holding_all v (ys ++ y ∷ [])))
 one-more v ys y m w p here is taken =
     let held : (p, y) ∷ hand_of ys ≡ hand_of (ys ++ y ∷ []) = ap (λ (x : ℕ). (x, y) ∷ hand_of ys) here ∙ sym (hand-more ys y) in
     let view : with_held m.0 p y ≡ holding_all v (ys ++ y ∷ []) = ap (λ (x : Sat). with_held x.0 p y) is ∙ (λ i. record v { held = held i }) in
-    let seat : w ≡ sat_with v (ys ++ y ∷ []) = taken.1.seat ∙ ap (λ (x : Sat). (with_held x.0 p y, (slot_of p, None) ∷ x.1)) is ∙ (λ i. (record v { held = held i }, slots_left (held i))) in
+    let seat : w ≡ sat_with v (ys ++ y ∷ []) = taken.1.seat
+    ∙ ap (λ (x : Sat). (with_held x.0 p y, (slot_of p, None) ∷ x.1)) is
+    ∙ (λ i. (record v { held = held i }, slots_left (held i))) in
     (seat, (taken.0, subst (Knows taken.0) view taken.1.knows))
 
 -- all are in hand: what the machine makes of the failure
-module _ (s : Dimensions) (es : List Event) (run : IsRun s es) (p : ProcessId) (pin : IsProcess s p) (keep : ℕ) (ys : List NodeStanding) (many : length ys ≡ s.k + s.m) (are : AreRun s es 0 ys) where
+module _ (s : Dimensions) (es : List Event) (run : IsRun s es) (p : ProcessId) (pin : IsProcess s p) (keep : ℕ)
+    (ys : List NodeStanding) (many : length ys ≡ s.k + s.m) (are : AreRun s es 0 ys) where
   size : length ys ≡ length (after s es).nodes
   size = many ∙ sym (many-after s es run)
 
@@ -115,9 +126,12 @@ module _ (s : Dimensions) (es : List Event) (run : IsRun s es) (p : ProcessId) (
   node-same = λ i. node_in ((sym shape) i) (nodes i) p
 
   pub named : (seat (seats_of s ys) p).process.name ≡ p
-  named = ap (λ (n : Node). n.process.name) node-same ∙ core_runs.named (after s es) (has-run s es run) p (subst (λ (t : Dimensions). IsProcess t p) (sym shape) pin)
+  named = ap (λ (n : Node). n.process.name) node-same ∙ core_runs.named (after s es) (has-run s es run) p
+      (subst (λ (t : Dimensions). IsProcess t p) (sym shape) pin)
 
-  module _ (zs : List NodeStanding) (answer : Answer) (after_seated : AreSeated s zs) (is : all_change (seat (seats_of s ys) p).dead s (nodes_of ys) p keep ≡ record { nodes = nodes_of zs; answer = answer; settled = [] }) where
+  module _ (zs : List NodeStanding) (answer : Answer) (after_seated : AreSeated s zs)
+      (is : all_change (seat (seats_of s ys) p).dead s (nodes_of ys) p keep
+      ≡ record { nodes = nodes_of zs; answer = answer; settled = [] }) where
     machine : group_step (after s es) (Fail p keep) ≡ record { nodes = nodes_of zs; answer = answer; settled = [] }
     machine = (λ i. all_change (node_in (shape i) ((sym nodes) i) p).dead (shape i) ((sym nodes) i) p keep) ∙ is
 
@@ -135,7 +149,8 @@ pub hand-run : (v : View) (ys : List NodeStanding) (es : List Event) → Knows e
 hand-run v ys es knows = (each-run v.shape es 0 ys [] knows.held).0
 
 -- with all nodes in hand the call may become the event
-pub can-commit : (plan : Plan) (v : View) (ys : List NodeStanding) (p : ProcessId) (keep : ℕ) → IsProcess plan.shape p → v.call ≡ Fail p keep → NamesAll plan v → length ys ≡ processes_of plan.shape → CanCommit plan (holding_all v ys)
+pub can-commit : (plan : Plan) (v : View) (ys : List NodeStanding) (p : ProcessId) (keep : ℕ) → IsProcess plan.shape p
+    → v.call ≡ Fail p keep → NamesAll plan v → length ys ≡ processes_of plan.shape → CanCommit plan (holding_all v ys)
 can-commit plan v ys p keep pin call all many = record {
   part = all.part;
   due = all.due;
@@ -145,7 +160,8 @@ can-commit plan v ys p keep pin call all many = record {
 }
 
 -- and afterwards all nodes stand as in the run
-pub after-commit : (plan : Plan) (v : View) (ys zs : List NodeStanding) (p : ProcessId) (keep : ℕ) (m w : Sat) (answer : Answer) → v.shape ≡ plan.shape → IsProcess plan.shape p → v.call ≡ Fail p keep → NamesAll plan v
+pub after-commit : (plan : Plan) (v : View) (ys zs : List NodeStanding) (p : ProcessId) (keep : ℕ) (m w : Sat)
+    (answer : Answer) → v.shape ≡ plan.shape → IsProcess plan.shape p → v.call ≡ Fail p keep → NamesAll plan v
     → length ys ≡ processes_of plan.shape → AreSeated plan.shape zs
     → all_change (seat (seats_of plan.shape ys) p).dead plan.shape (nodes_of ys) p keep ≡ record { nodes = nodes_of zs; answer = answer; settled = [] }
     → m ≡ sat_with v ys → (es : List Event) × Knows es m.0 × (w ≡ (committed es m.0, m.1)) → HasAll plan w zs
@@ -154,7 +170,8 @@ after-commit plan v ys zs p keep m w answer shape pin call all many after_seated
     let run : IsRun plan.shape es = subst (λ (t : Dimensions). IsRun t es) shape own.run in
     let are : AreRun plan.shape es 0 ys = subst (λ (t : Dimensions). AreRun t es 0 ys) shape (hand-run v ys es own) in
     let next : AreRun plan.shape (es ++ Fail p keep ∷ []) 0 zs = after-run plan.shape es run p pin keep ys many are zs answer after_seated is in
-    let there : AreRun v.shape (es ++ v.call ∷ []) 0 zs = subst (λ (t : Dimensions). AreRun t (es ++ v.call ∷ []) 0 zs) (sym shape) (subst (λ (e : Event). AreRun plan.shape (es ++ e ∷ []) 0 zs) (sym call) next) in
+    let there : AreRun v.shape (es ++ v.call ∷ []) 0 zs = subst (λ (t : Dimensions). AreRun t (es ++ v.call ∷ []) 0 zs)
+    (sym shape) (subst (λ (e : Event). AreRun plan.shape (es ++ e ∷ []) 0 zs) (sym call) next) in
     let long : length ys ≡ length zs = many ∙ sym after_seated.many in
     let held = run-stack v.shape (es ++ v.call ∷ []) 0 ys zs [] [] long there refl in
     let left = same-slots 0 ys zs [] [] long refl in
@@ -165,7 +182,8 @@ after-commit plan v ys zs p keep m w answer shape pin call all many after_seated
       seat = λ i. (record (committed es (holding_all v ys)) { held = held i }, left i);
     })
 
-pub all-failed : (plan : Plan) (v : View) (ys zs : List NodeStanding) (p : ProcessId) (keep n : ℕ) (m w x : Sat) (answer : Answer) → v.shape ≡ plan.shape → IsProcess plan.shape p → v.call ≡ Fail p keep
+pub all-failed : (plan : Plan) (v : View) (ys zs : List NodeStanding) (p : ProcessId) (keep n : ℕ) (m w x : Sat)
+    (answer : Answer) → v.shape ≡ plan.shape → IsProcess plan.shape p → v.call ≡ Fail p keep
     → length ys ≡ processes_of plan.shape → AreSeated plan.shape zs
     → all_change (seat (seats_of plan.shape ys) p).dead plan.shape (nodes_of ys) p keep ≡ record { nodes = nodes_of zs; answer = answer; settled = [] }
     → m ≡ sat_with v ys → (es : List Event) × Knows es m.0 × (w ≡ (committed es m.0, m.1)) → GaveBack w x n → (es : List Event) × AllFailed v answer x es
@@ -178,12 +196,15 @@ all-failed plan v ys zs p keep n m w x answer shape pin call many after_seated i
         knows = record { run = own.run; few = own.few; held = tt; asked = own.asked; seen = own.seen; made = own.made };
         said = said plan.shape es run p pin keep ys many are zs answer after_seated is ∙ (λ i. answer_at ((sym shape) i) es ((sym call) i));
         cleared = back.cleared;
-        seat = back.seat ∙ ap (λ (z : Sat). (record z.0 { held = []; cleared = z.0.cleared ++ back.cleared }, [])) (commits ∙ ap (λ (z : Sat). (committed es z.0, z.1)) had);
+        seat = back.seat ∙ ap (λ (z : Sat). (record z.0 { held = []; cleared = z.0.cleared ++ back.cleared }, []))
+            (commits ∙ ap (λ (z : Sat). (committed es z.0, z.1)) had);
       },
     )
 
 -- the word of a further process was met held
-pub one-met : (plan : Plan) (v : View) (ys : List NodeStanding) (place n : ℕ) (r : ProcessId) (m x : Sat) → v.shape ≡ plan.shape → r ≡ process_at plan.shape place → IsProcess plan.shape r → length ys ≡ place → n ≡ length ys
+pub one-met : (plan : Plan) (v : View) (ys : List NodeStanding) (place n : ℕ) (r : ProcessId) (m x : Sat)
+    → v.shape ≡ plan.shape → r ≡ process_at plan.shape place → IsProcess plan.shape r → length ys ≡ place
+    → n ≡ length ys
     → m ≡ (with_met (holding_all v ys) place, slots_left (hand_of ys)) → GaveBack m x n → OneMet v r x
 one-met plan v ys place n r m x shape named pin many size had back =
     let here : index_of v.shape r ≡ place = (λ i. index_of (shape i) (named i)) ∙ index-process_at plan.shape place in
@@ -197,7 +218,8 @@ one-met plan v ys place n r m x shape named pin many size had back =
     }
 
 -- the first node is in hand
-pub can-fail : (plan : Plan) (v : View) (p : ProcessId) (keep : ℕ) (slots : List (ℕ × Option NodeStanding)) (first : NodeStanding) (m : Sat) → IsIdle (v, slots) → v.shape ≡ plan.shape → IsProcess plan.shape p
+pub can-fail : (plan : Plan) (v : View) (p : ProcessId) (keep : ℕ) (slots : List (ℕ × Option NodeStanding))
+    (first : NodeStanding) (m : Sat) → IsIdle (v, slots) → v.shape ≡ plan.shape → IsProcess plan.shape p
     → (es : List Event) × InHand (begun (Fail p keep) v) 0 slots first m es → CanFail plan p keep m first
 can-fail plan v p keep slots first m ready shape pin taken =
     let u : View = with_held (begun (Fail p keep) v) 0 first in
@@ -229,7 +251,8 @@ tally-below p (x ∷ xs) below =
     omega (arith, rest, none, both)
 
 -- and so the call has ended
-pub failed-ended : (v : View) (p : ProcessId) (keep : ℕ) (slots : List (ℕ × Option NodeStanding)) (first : NodeStanding) (m w : Sat) (a : StageAnswer) → IsIdle (v, slots) → IsProcess v.shape p
+pub failed-ended : (v : View) (p : ProcessId) (keep : ℕ) (slots : List (ℕ × Option NodeStanding)) (first : NodeStanding)
+    (m w : Sat) (a : StageAnswer) → IsIdle (v, slots) → IsProcess v.shape p
     → (es : List Event) × InHand (begun (Fail p keep) v) 0 slots first m es → Failed m.0 a w → Ended (Fail p keep) v a w.0
 failed-ended v p keep slots first m w a ready pin taken failed = by a (subst (λ (x : Sat). Failed x.0 a w) taken.1.seat failed) where
   by : (b : StageAnswer) → Failed (with_held (begun (Fail p keep) v) 0 first) b w → Ended (Fail p keep) v b w.0
@@ -252,9 +275,11 @@ failed-ended v p keep slots first m w a ready pin taken failed = by a (subst (λ
   by (Busy q) met = subst (λ (x : View). Ended (Fail p keep) v (Busy q) x) (sym (ap (λ (z : Sat). z.0) met.seat)) (
     record { shape = refl; parts = refl; numbers = refl; calls = refl; idle = refl },
     record {
-      named = above (times-range (index_of v.shape q) 0 (processes_of v.shape) (omega arith) (let low = index-below v.shape q met.process in omega (arith, low)));
+      named = above (times-range (index_of v.shape q) 0 (processes_of v.shape) (omega arith)
+          (let low = index-below v.shape q met.process in omega (arith, low)));
       met = refl;
-      cleared = let all = tally-append (index_of v.shape q) v.cleared met.cleared in let none = tally-below (index_of v.shape q) met.cleared met.below in omega (arith, all, none);
+      cleared = let all = tally-append (index_of v.shape q) v.cleared met.cleared in let none =
+          tally-below (index_of v.shape q) met.cleared met.below in omega (arith, all, none);
       made = refl;
       seen = refl;
     },

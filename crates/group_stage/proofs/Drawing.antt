@@ -1,5 +1,6 @@
 -- A new seat draws its caller number.
-use Rattle.std.proofs.Common.{ℕ, suc, ◌≡◌, ◌≢◌, ◌<◌, ◌≤◌, ◌+◌, ◌%◌, ⊎_elim, length, get_or, set, refl, sym, ap, subst, ◌∙◌, arith, length-set, get_or-set_other, get_or-set_same}
+use Rattle.std.proofs.Common.{ℕ, suc, ◌≡◌, ◌≢◌, ◌<◌, ◌≤◌, ◌+◌, ◌%◌, ⊎_elim, length, get_or, set, refl, sym, ap, subst}
+use Rattle.std.proofs.Common.{◌∙◌, arith, length-set, get_or-set_other, get_or-set_same}
 use Rattle.std.specs.Prelude as std
 use mathlib.Core.Option.{none, some}
 use lib.ListN.{get_elem?}
@@ -24,7 +25,8 @@ next_bound plan st o =
     let low = total_le (λ (u : View). length u.numbers) (λ (u : View). u.parts) st.views (λ j u e. (o.each j u e).numbers) in
     omega (arith, low, o.parts, o.seats, o.drawing)
 
-module _ (plan : Plan) (st : St) (o : Kept plan st) (id : ℕ) (v : View) (me : get_elem? st.views id ≡ some v) (can : CanDraw v) (n m : ℕ) (found : n ≡ next_in plan st.words) (next : m ≡ n + 1) where
+module _ (plan : Plan) (st : St) (o : Kept plan st) (id : ℕ) (v : View) (me : get_elem? st.views id ≡ some v)
+    (can : CanDraw v) (n m : ℕ) (found : n ≡ next_in plan st.words) (next : m ≡ n + 1) where
   abbrev w : View
   w = numbered v n
 
@@ -73,7 +75,8 @@ module _ (plan : Plan) (st : St) (o : Kept plan st) (id : ℕ) (v : View) (me : 
         no_parts = fits.no_parts;
         seen = fits.seen;
         own = fits.own;
-        pen = λ have. absurd (let two = terms_le (λ (x : View). x.pens) st.views id j v u apart me at_j in let p = can.pen in omega (arith, two, o.pens, p, have));
+        pen = λ have. absurd (let two = terms_le (λ (x : View). x.pens) st.views id j v u apart me at_j in
+            let p = can.pen in omega (arith, two, o.pens, p, have));
       }
 
   pub draw-kept : Kept plan (stage (set st.words (drawing_of plan.shape) m) st.homes (set st.views id w))
@@ -92,11 +95,20 @@ module _ (plan : Plan) (st : St) (o : Kept plan st) (id : ℕ) (v : View) (me : 
     owners = λ c.
         let before : times c v.numbers ≡ 0 = ap (times c) can.numbers in
         let here : bit (std.nat_lt c (next_in plan st.words)) ≡ bit (std.nat_lt c n) = ap (λ (x : ℕ). bit (std.nat_lt c x)) (sym found) in
-        let all : total (λ (u : View). times c u.numbers) (set st.views id w) ≡ bit (std.nat_lt c (suc n)) = omega (arith, total-set (λ (u : View). times c u.numbers) st.views id v w me, o.owners c, before, bit-more c n, here) in
+        let all : total (λ (u : View). times c u.numbers) (set st.views id w) ≡ bit (std.nat_lt c (suc n)) =
+        omega (
+          arith,
+          total-set (λ (u : View). times c u.numbers) st.views id v w me,
+          o.owners c,
+          before,
+          bit-more c n,
+          here,
+        ) in
         let up : suc n ≡ n + 1 = omega arith in
         all ∙ ap (λ (x : ℕ). bit (std.nat_lt c x)) (up ∙ sym next-is);
     asked = λ c. omega (arith, total-set (λ (u : View). asks_by c u.made) st.views id v w me, o.asked c);
-    taken = λ q low. let same = ap flag (word-stays q (λ x. omega (arith, x, low))) in omega (arith, total-set (holding q) st.views id v w me, o.taken q low, same);
+    taken = λ q low. let same = ap flag (word-stays q (λ x. omega (arith, x, low))) in
+        omega (arith, total-set (holding q) st.views id v w me, o.taken q low, same);
     counts = λ q low. let word = word-stays q (λ x. omega (arith, x, low)) in let same = ap flag word in
         omega (arith, total-set (met_of q) st.views id v w me, total-set (cleared_of q) st.views id v w me, o.counts q low, word, same);
     home = λ q low zero_now. o.home q low (sym (word-stays q (λ x. omega (arith, x, low))) ∙ zero_now);
@@ -104,7 +116,8 @@ module _ (plan : Plan) (st : St) (o : Kept plan st) (id : ℕ) (v : View) (me : 
         (⊎_elim (λ t. subst (Fits plan.shape o.schedule (n + 1)) t.1 mine) (λ t. other j u t.0 t.1) (at_set st.views id j w u at_j));
   }
 
-pub draws : (plan : Plan) (slots id : ℕ) (m : Sat) (i : ℕ) → i ≡ drawing_of plan.shape → CanDraw m.0 → Allows (Kept plan) slots id m i (λ n. (n + 1) % 18446744073709551616) (Draws (step slots i 1 0 none) m)
+pub draws : (plan : Plan) (slots id : ℕ) (m : Sat) (i : ℕ) → i ≡ drawing_of plan.shape → CanDraw m.0
+    → Allows (Kept plan) slots id m i (λ n. (n + 1) % 18446744073709551616) (Draws (step slots i 1 0 none) m)
 draws plan slots id m i here can st o wide me low =
     let v : View = m.0 in
     let bound = next_bound plan st o in

@@ -1,5 +1,7 @@
 -- Seats are gathered into one, and nodes come out of their slots.
-use Rattle.std.proofs.Common.{ℕ, zero, suc, ◌≡◌, ◌≢◌, ◌<◌, ◌+◌, ⊎_elim, Bool, false, List, [], ◌∷◌, ◌++◌, length, map, get_or, set, refl, sym, ap, subst, ◌∙◌, arith, length-append, length-set, get_or-set_other, get_or-set_same}
+use Rattle.std.proofs.Common.{ℕ, zero, suc, ◌≡◌, ◌≢◌, ◌<◌, ◌+◌, ⊎_elim, Bool, false, List, [], ◌∷◌, ◌++◌, length, map}
+use Rattle.std.proofs.Common.{get_or, set, refl, sym, ap, subst, ◌∙◌, arith, length-append, length-set}
+use Rattle.std.proofs.Common.{get_or-set_other, get_or-set_same}
 use Rattle.std.specs.Prelude as std
 use Rattle.std.specs.Prelude.{All, option_to_list, slice_get}
 use Rattle.std.proofs.lemmas.Bool.{cases_eq}
@@ -68,28 +70,34 @@ whole-apart s es v w xs all =
       answers = (both.0, each-snoc (λ (u : View). Each (IsAnswered s es) u.made) xs w all.answers.1 both.1);
     }
 
-pub first-whole : (s : Dimensions) (all xs : List Seat) (x : Seat) → all ≡ xs ++ x ∷ [] → (es : List Event) → IsWhole s es (view_of x ∷ map view_of xs) → IsWhole s es (map view_of all)
+pub first-whole : (s : Dimensions) (all xs : List Seat) (x : Seat) → all ≡ xs ++ x ∷ [] → (es : List Event)
+    → IsWhole s es (view_of x ∷ map view_of xs) → IsWhole s es (map view_of all)
 first-whole s all xs x is es whole = subst (IsWhole s es) (sym (ap (map view_of) is ∙ views-snoc xs x)) (whole-turned s es (view_of x) (map view_of xs) whole)
 
-pub next-whole : (s : Dimensions) (v w : View) (all xs : List Seat) (x : Seat) → all ≡ xs ++ x ∷ [] → w ≡ joined v (view_of x) → (es : List Event) → IsWhole s es (w ∷ map view_of xs) → IsWhole s es (v ∷ map view_of all)
+pub next-whole : (s : Dimensions) (v w : View) (all xs : List Seat) (x : Seat) → all ≡ xs ++ x ∷ []
+    → w ≡ joined v (view_of x) → (es : List Event) → IsWhole s es (w ∷ map view_of xs)
+    → IsWhole s es (v ∷ map view_of all)
 next-whole s v w all xs x is joins es whole =
     subst (λ (us : List View). IsWhole s es (v ∷ us)) (sym (ap (map view_of) is ∙ views-snoc xs x))
     (whole-apart s es v (view_of x) (map view_of xs) (subst (λ (u : View). IsWhole s es (u ∷ map view_of xs)) joins whole))
 
 -- a slot that has a node isn't empty
-pub not-none : (xs ys : List (std.Option NodeStanding)) (slot p : ℕ) → xs ≡ ys → slot ≡ slot_of p → get_elem? xs slot ≡ some std.None → (y : NodeStanding) → get_elem? ys (slot_of p) ≡ some (std.Some y) → ⊥
+pub not-none : (xs ys : List (std.Option NodeStanding)) (slot p : ℕ) → xs ≡ ys → slot ≡ slot_of p
+    → get_elem? xs slot ≡ some std.None → (y : NodeStanding) → get_elem? ys (slot_of p) ≡ some (std.Some y) → ⊥
 not-none xs ys slot p same here none y there =
     let both : some std.None ≡ some (std.Some y) = sym none ∙ (λ i. get_elem? (same i) (here i)) ∙ there in
     let bad : std.None ≡ std.Some y = some-injective std.None (std.Some y) both in
     cc bad
 
 -- two slots more are empty
-pub taken-more : (p slot : ℕ) (fs : List Bool) → slot ≡ slot_of p → slot + 1 < length fs → AreTaken (slot_of p) fs → AreTaken (slot_of (p + 1)) (set (set fs slot false) (slot + 1) false)
+pub taken-more : (p slot : ℕ) (fs : List Bool) → slot ≡ slot_of p → slot + 1 < length fs → AreTaken (slot_of p) fs
+    → AreTaken (slot_of (p + 1)) (set (set fs slot false) (slot + 1) false)
 taken-more p slot fs here within taken =
     let long = length-set fs slot false in
     record {
       gone = λ k low. ⊎_elim
-          (λ (e : k ≡ slot + 1). ap (λ (x : ℕ). get_or (set (set fs slot false) (slot + 1) false) x false) e ∙ get_or-set_same (set fs slot false) (slot + 1) false false (omega (arith, long, within)))
+          (λ (e : k ≡ slot + 1). ap (λ (x : ℕ). get_or (set (set fs slot false) (slot + 1) false) x false) e
+          ∙ get_or-set_same (set fs slot false) (slot + 1) false false (omega (arith, long, within)))
           (λ (n : k ≢ slot + 1). get_or-set_other (set fs slot false) (slot + 1) k false false n ∙ ⊎_elim
           (λ (e : k ≡ slot). ap (λ (x : ℕ). get_or (set fs slot false) x false) e ∙ get_or-set_same fs slot false false (omega (arith, within)))
           (λ (m : k ≢ slot). get_or-set_other fs slot k false false m ∙ taken.gone k (omega (arith, low, here, n, m)))
@@ -97,12 +105,14 @@ taken-more p slot fs here within taken =
           (cases_eq k (slot + 1));
       left = λ k high below.
           let long2 = length-set (set fs slot false) (slot + 1) false in
-          get_or-set_other (set fs slot false) (slot + 1) k false false (λ e. omega (arith, e, here, high)) ∙ get_or-set_other fs slot k false false (λ e. omega (arith, e, here, high))
+          get_or-set_other (set fs slot false) (slot + 1) k false false (λ e. omega (arith, e, here, high))
+          ∙ get_or-set_other fs slot k false false (λ e. omega (arith, e, here, high))
           ∙ taken.left k (omega (arith, high)) (omega (arith, below, long, long2));
     }
 
 -- one node more came out
-pub nodes-more : (xs : List (std.Option NodeStanding)) (slot p : ℕ) (nodes : List NodeStanding) (y : NodeStanding) → slot ≡ slot_of p → length nodes ≡ p → get_elem? xs slot ≡ some (std.Some y)
+pub nodes-more : (xs : List (std.Option NodeStanding)) (slot p : ℕ) (nodes : List NodeStanding) (y : NodeStanding)
+    → slot ≡ slot_of p → length nodes ≡ p → get_elem? xs slot ≡ some (std.Some y)
     → ((q : ℕ) (z : NodeStanding) → q < p → get_elem? xs (slot_of q) ≡ some (std.Some z) → slice_get nodes q ≡ std.Some z)
     → (q : ℕ) (z : NodeStanding) → q < p + 1 → get_elem? xs (slot_of q) ≡ some (std.Some z) → slice_get (nodes ++ y ∷ []) q ≡ std.Some z
 nodes-more xs slot p nodes y here many there all q z low is = ⊎_elim
@@ -114,7 +124,9 @@ nodes-more xs slot p nodes y here many there all q z low is = ⊎_elim
     (cases_eq q p)
 
 -- nodes that stand as in the run are the run's
-nodes-match : (s : Dimensions) (xs : List NodeStanding) (ns : List Node) (d : ℕ → Node) → length xs ≡ length ns → ((p : ℕ) → p < length xs → slice_get xs p ≡ std.Some (record { shape = s; node = at (d p) ns p })) → nodes_of xs ≡ ns
+nodes-match : (s : Dimensions) (xs : List NodeStanding) (ns : List Node) (d : ℕ → Node) → length xs ≡ length ns
+    → ((p : ℕ) → p < length xs → slice_get xs p ≡ std.Some (record { shape = s; node = at (d p) ns p }))
+    → nodes_of xs ≡ ns
 nodes-match s [] [] d many is = refl
 nodes-match s [] (n ∷ ns) d many is = absurd (omega (arith, many))
 nodes-match s (x ∷ xs) [] d many is = absurd (omega (arith, many))
@@ -124,7 +136,9 @@ nodes-match s (x ∷ xs) (n ∷ ns) d many is =
     let rest = nodes-match s xs ns (λ p. d (suc p)) (omega (arith, many)) (λ p low. is (suc p) (omega (arith, low))) in
     (λ i. node i ∷ rest i)
 
-shapes-match : (s : Dimensions) (xs : List NodeStanding) (f : ℕ → Node) → ((p : ℕ) → p < length xs → slice_get xs p ≡ std.Some (record { shape = s; node = f p })) → All (λ (x : NodeStanding). x.shape ≡ s) xs
+shapes-match : (s : Dimensions) (xs : List NodeStanding) (f : ℕ → Node)
+    → ((p : ℕ) → p < length xs → slice_get xs p ≡ std.Some (record { shape = s; node = f p }))
+    → All (λ (x : NodeStanding). x.shape ≡ s) xs
 shapes-match s [] f is k d low = absurd (omega (arith, low))
 shapes-match s (x ∷ xs) f is zero d low =
     let first : std.Some x ≡ std.Some (record { shape = s; node = f 0 }) = is 0 low in
@@ -132,7 +146,8 @@ shapes-match s (x ∷ xs) f is zero d low =
 shapes-match s (x ∷ xs) f is (suc k) d low = shapes-match s xs (λ p. f (suc p)) (λ p below. is (suc p) (omega (arith, below))) k d (omega (arith, low))
 
 -- what came out are the nodes of the schedule of all seats
-module _ (plan : Plan) (st : St) (o : Kept plan st) (id : ℕ) (v : View) (me : get_elem? st.views id ≡ some v) (all : v.parts ≡ plan.callers) (idle : v.held ≡ []) (xs : List (std.Option NodeStanding))
+module _ (plan : Plan) (st : St) (o : Kept plan st) (id : ℕ) (v : View) (me : get_elem? st.views id ≡ some v)
+    (all : v.parts ≡ plan.callers) (idle : v.held ≡ []) (xs : List (std.Option NodeStanding))
     (homes : (k : ℕ) (y : std.Option NodeStanding) → get_elem? st.homes k ≡ some (some y) → get_elem? xs k ≡ some y) where
   pub there : (p : ℕ) → p < processes_of plan.shape → get_elem? xs (slot_of p) ≡ some (std.Some (standing_at plan.shape o.schedule p))
   there p low = homes (slot_of p) _ (at-home plan st o id v me all idle p low)
@@ -143,7 +158,8 @@ module _ (plan : Plan) (st : St) (o : Kept plan st) (id : ℕ) (v : View) (me : 
   has-closed seats nodes many out gathered =
       let s = plan.shape in
       let es = o.schedule in
-      let each : (p : ℕ) → p < length nodes → slice_get nodes p ≡ std.Some (standing_at s es p) = λ p low. out p _ (omega (arith, low, many)) (there p (omega (arith, low, many))) in
+      let each : (p : ℕ) → p < length nodes → slice_get nodes p ≡ std.Some (standing_at s es p) =
+      λ p low. out p _ (omega (arith, low, many)) (there p (omega (arith, low, many))) in
       record {
         schedule = es;
         run = o.run;
@@ -157,6 +173,7 @@ pub of-stage-more : (stage : Stage) (xs all : List Seat) (x : Seat) → all ≡ 
 of-stage-more stage xs all x is of_stage last = subst (AreOf stage) (sym is) (each-snoc (IsOf stage) xs x of_stage last)
 
 -- and one fewer
-pub of-stage-fewer : (stage : Stage) (all xs : List Seat) (r : std.Option Seat) → all ≡ xs ++ option_to_list r → AreOf stage all → AreOf stage xs × std.IfSome r (IsOf stage)
+pub of-stage-fewer : (stage : Stage) (all xs : List Seat) (r : std.Option Seat) → all ≡ xs ++ option_to_list r
+    → AreOf stage all → AreOf stage xs × std.IfSome r (IsOf stage)
 of-stage-fewer stage all xs std.None is of_stage = ((each-split (IsOf stage) xs [] (subst (AreOf stage) is of_stage)).0, tt)
 of-stage-fewer stage all xs (std.Some x) is of_stage = front-of stage all xs x is of_stage

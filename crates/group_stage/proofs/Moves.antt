@@ -39,11 +39,13 @@ abbrev pub next_in : Plan → List ℕ → ℕ
 next_in plan ws = std.slice_index ws (drawing_of plan.shape)
 
 -- whose calls are few enough for every word
-pub calls_bound : (plan : Plan) (st : St) → Kept plan st → (f : View → ℕ) → ((j : ℕ) (v : View) → get_elem? st.views j ≡ some v → f v ≤ v.calls) → total f st.views ≤ 4611686018427387904
+pub calls_bound : (plan : Plan) (st : St) → Kept plan st → (f : View → ℕ)
+    → ((j : ℕ) (v : View) → get_elem? st.views j ≡ some v → f v ≤ v.calls) → total f st.views ≤ 4611686018427387904
 calls_bound plan st o f low =
     let sum : total f st.views ≤ total (λ (v : View). v.parts * most_calls) st.views
     = total_le f (λ (v : View). v.parts * most_calls) st.views (λ j v e. let a = low j v e in let b = (o.each j v e).calls in omega (arith, a, b)) in
-    let scaled : total (λ (v : View). v.parts * most_calls) st.views ≡ total (λ (v : View). v.parts) st.views * most_calls = total_scaled (λ (v : View). v.parts) most_calls st.views in
+    let scaled : total (λ (v : View). v.parts * most_calls) st.views ≡ total (λ (v : View). v.parts)
+    st.views * most_calls = total_scaled (λ (v : View). v.parts) most_calls st.views in
     omega (arith, sum, scaled, o.parts, o.seats)
 
 pub word_bound : (plan : Plan) (st : St) → Kept plan st → (p : ℕ) → p < processes_of plan.shape → word_in st.words p ≤ 4611686018427387905
@@ -53,7 +55,8 @@ word_bound plan st o p within =
     omega (arith, o.counts p within, low, one)
 
 -- while a call is due, the schedule isn't at its bound
-pub few_events : (plan : Plan) (st : St) → (o : Kept plan st) → (id : ℕ) (v : View) → get_elem? st.views id ≡ some v → 0 < v.due → length o.schedule < 4611686018427387904
+pub few_events : (plan : Plan) (st : St) → (o : Kept plan st) → (id : ℕ) (v : View) → get_elem? st.views id ≡ some v
+    → 0 < v.due → length o.schedule < 4611686018427387904
 few_events plan st o id v me due =
     let low = calls_bound plan st o (λ (u : View). length u.made + u.due) (λ j u e. let few = (o.each j u e).few in omega (arith, few)) in
     let both = total_both (λ (u : View). length u.made) (λ (u : View). u.due) st.views in
@@ -61,7 +64,8 @@ few_events plan st o id v me due =
     omega (arith, o.many, low, both, mine, due)
 
 -- whoever owns a caller number made all its asks
-pub owned_asks : (plan : Plan) (st : St) → (o : Kept plan st) → (id : ℕ) (v : View) → get_elem? st.views id ≡ some v → (c : ℕ) → 0 < times c v.numbers → asked_at plan.shape o.schedule c ≡ asks_by c v.made
+pub owned_asks : (plan : Plan) (st : St) → (o : Kept plan st) → (id : ℕ) (v : View) → get_elem? st.views id ≡ some v
+    → (c : ℕ) → 0 < times c v.numbers → asked_at plan.shape o.schedule c ≡ asks_by c v.made
 owned_asks plan st o id v me c own =
     o.asked c ∙ only_one (λ (u : View). times c u.numbers) (λ (u : View). asks_by c u.made) st.views id v me
     (let one = bit_le (std.nat_lt c (next_in plan st.words)) in omega (arith, o.owners c, one, own)) (λ j u e z. (o.each j u e).own c z)
@@ -89,13 +93,15 @@ abbrev pub Keeps : (plan : Plan) (st : St) → Kept plan st → St → Type 0
 Keeps plan st o after = (k : Kept plan after) × (k.schedule ≡ o.schedule)
 
 -- a step that makes no event and draws no number
-pub changed : (plan : Plan) (st : St) (o : Kept plan st) (id : ℕ) (v : View) (call : Event) (calls due : ℕ) (held : List (ℕ × NodeStanding)) (met : List ℕ) (cleared : List (ℕ × ℕ)) (ws : List ℕ) (hs : Homes)
+pub changed : (plan : Plan) (st : St) (o : Kept plan st) (id : ℕ) (v : View) (call : Event) (calls due : ℕ)
+    (held : List (ℕ × NodeStanding)) (met : List ℕ) (cleared : List (ℕ × ℕ)) (ws : List ℕ) (hs : Homes)
     → get_elem? st.views id ≡ some v
     → length ws ≡ length st.words → length hs ≡ length st.homes
     → std.slice_index ws (history_of plan.shape) ≡ std.slice_index st.words (history_of plan.shape)
     → next_in plan ws ≡ next_in plan st.words
     → ((q : ℕ) → q < processes_of plan.shape → times q (map (λ h. h.0) held) + flag (word_in st.words q) ≡ holding q v + flag (word_in ws q))
-    → ((q : ℕ) → q < processes_of plan.shape → times q met + flag (word_in ws q) + cleared_of q v + word_in st.words q ≡ met_of q v + flag (word_in st.words q) + tally q cleared + word_in ws q)
+    → ((q : ℕ) → q < processes_of plan.shape → times q met + flag (word_in ws q) + cleared_of q v + word_in st.words q
+    ≡ met_of q v + flag (word_in st.words q) + tally q cleared + word_in ws q)
     → ((q : ℕ) → q < processes_of plan.shape → word_in ws q ≡ 0 → get_elem? hs (slot_of q) ≡ some (some (std.Some (standing_at plan.shape o.schedule q))))
     → Fits plan.shape o.schedule (next_in plan st.words) (again v call calls due held met cleared)
     → Keeps plan st o (stage ws hs (set st.views id (again v call calls due held met cleared)))

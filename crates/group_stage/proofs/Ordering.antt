@@ -56,7 +56,8 @@ none-taken v w result same = record { words = []; cleared = same ∙ sym (append
   by (Err e) = tt
 
 -- both were taken
-pub two-taken : (v w : View) (result : Result StageAnswer AllocError) (p q f g : ℕ) → p < q → w.cleared ≡ (v.cleared ++ (q, f) ∷ []) ++ (p, g) ∷ [] → ComeBefore v.shape ((q, f) ∷ (p, g) ∷ []) result
+pub two-taken : (v w : View) (result : Result StageAnswer AllocError) (p q f g : ℕ) → p < q
+    → w.cleared ≡ (v.cleared ++ (q, f) ∷ []) ++ (p, g) ∷ [] → ComeBefore v.shape ((q, f) ∷ (p, g) ∷ []) result
     → TookInOrder v result w
 two-taken v w result p q f g low same before = record {
   words = (q, f) ∷ (p, g) ∷ [];
@@ -65,8 +66,10 @@ two-taken v w result p q f g low same before = record {
   before = before;
 }
 
-module _ (plan : Plan) (v : View) (f : Event) (up : Bool) (from to one other : ProcessId) (p q : ℕ) (slots : List (ℕ × Option NodeStanding)) (y : NodeStanding) (m : Sat)
-    (ready : IsIdle (v, slots)) (shape : v.shape ≡ plan.shape) (event : f ≡ Deliver from to) (from_in : IsProcess plan.shape from) (to_in : IsProcess plan.shape to) (apart : from ≢ to)
+module _ (plan : Plan) (v : View) (f : Event) (up : Bool) (from to one other : ProcessId) (p q : ℕ)
+    (slots : List (ℕ × Option NodeStanding)) (y : NodeStanding) (m : Sat)
+    (ready : IsIdle (v, slots)) (shape : v.shape ≡ plan.shape) (event : f ≡ Deliver from to)
+    (from_in : IsProcess plan.shape from) (to_in : IsProcess plan.shape to) (apart : from ≢ to)
     (one-is : one ≡ one_of up from to) (other-is : other ≡ other_of up from to) (low : p ≡ index_of plan.shape one) (high : q ≡ index_of plan.shape other)
     (is : IsTrue up ↔ (index_of plan.shape from < index_of plan.shape to)) (took : (es : List Event) × InHand (begun f v) p slots y m es) where
   there : q ≡ index_of plan.shape (other_of up from to)
@@ -85,7 +88,8 @@ module _ (plan : Plan) (v : View) (f : Event) (up : Bool) (from to one other : P
   may-take = subst (λ (x : Sat). CanTake plan x.0 q) (sym took.1.seat) (record {
     part = ready.part;
     due = refl;
-    within = let below = index-below plan.shape (other_of up from to) (other-in plan.shape up from to from_in to_in) in let second = there in omega (arith, below, second);
+    within = let below = index-below plan.shape (other_of up from to) (other-in plan.shape up from to from_in to_in) in
+        let second = there in omega (arith, below, second);
     named = subst (λ (e : Event). 0 < times q (names plan.shape e)) (sym event) (named-other plan.shape up from to q there);
     order = (ahead, subst (Each (λ (h : ℕ × NodeStanding). h.0 < q)) (sym ready.idle) tt);
   })
@@ -94,9 +98,14 @@ module _ (plan : Plan) (v : View) (f : Event) (up : Bool) (from to one other : P
   pub met-second : (m' w : Sat) → m' ≡ (with_met m.0 q, m.1) → (found : ℕ) × (w.0 ≡ released m'.0 p found) → TookInOrder v (Ok (Busy other)) w.0
   met-second m' w met back = record {
     words = (p, back.0 - 1) ∷ [];
-    cleared = ap (λ (u : View). u.cleared) back.1 ∙ ap (λ (x : Sat). x.0.cleared ++ (p, back.0 - 1) ∷ []) met ∙ ap (λ (x : Sat). x.0.cleared ++ (p, back.0 - 1) ∷ []) took.1.seat;
+    cleared = ap (λ (u : View). u.cleared) back.1 ∙ ap (λ (x : Sat). x.0.cleared ++ (p, back.0 - 1) ∷ []) met
+        ∙ ap (λ (x : Sat). x.0.cleared ++ (p, back.0 - 1) ∷ []) took.1.seat;
     falls = (tt, tt);
-    before = ((let less = ahead in let same : q ≡ index_of v.shape other = high ∙ ap (λ (s : Dimensions). index_of s other) (sym shape) in omega (arith, less, same)), tt);
+    before = (
+      (let less = ahead in let same : q ≡ index_of v.shape other = high
+          ∙ ap (λ (s : Dimensions). index_of s other) (sym shape) in omega (arith, less, same)),
+      tt,
+    );
   }
 
   -- both nodes went back, the second first

@@ -55,7 +55,8 @@ abbrev pub TreatsTwo : View → Event → ℕ → NodeStanding → ℕ → NodeS
 TreatsTwo v e p y q z first second a = (es : List Event) → Knows es (two_held v e p y q z)
     → (first ≡ standing_at v.shape (es ++ e ∷ []) p) × (second ≡ standing_at v.shape (es ++ e ∷ []) q) × (a ≡ answer_at v.shape es e)
 
-module _ (s : Dimensions) (es : List Event) (run : IsRun s es) (from to : ProcessId) (fin : IsProcess s from) (tin : IsProcess s to) (apart : from ≢ to) (t : DeliveryStep)
+module _ (s : Dimensions) (es : List Event) (run : IsRun s es) (from to : ProcessId) (fin : IsProcess s from)
+    (tin : IsProcess s to) (apart : from ≢ to) (t : DeliveryStep)
     (is : group_step (after s es) (Deliver from to) ≡ two_change (after s es) from to t) where
   w : World
   w = after s es
@@ -63,14 +64,18 @@ module _ (s : Dimensions) (es : List Event) (run : IsRun s es) (from to : Proces
   put_from : List Node
   put_from = put (opening_node s from) (after s es).nodes (index_of s from) t.sender
 
-  nodes-are : (after s (es ++ Deliver from to ∷ [])).nodes ≡ put (opening_node s to) (put (opening_node s from) (after s es).nodes (index_of s from) t.sender) (index_of s to) t.receiver.node
+  nodes-are : (after s (es ++ Deliver from to ∷ [])).nodes ≡ put (opening_node s to)
+      (put (opening_node s from) (after s es).nodes (index_of s from) t.sender) (index_of s to) t.receiver.node
   nodes-are =
       let shape = shape-is s es in
       ap (λ (v : World). v.nodes) (after-more (opening s) es (Deliver from to)) ∙ ap (λ (g : GroupStep). g.nodes) is
-      ∙ (λ i. put (opening_node (shape i) to) (put (opening_node (shape i) from) (after s es).nodes (index_of (shape i) from) t.sender) (index_of (shape i) to) t.receiver.node)
+      ∙ (λ i. put (opening_node (shape i) to)
+      (put (opening_node (shape i) from) (after s es).nodes (index_of (shape i) from) t.sender)
+      (index_of (shape i) to) t.receiver.node)
 
   many : length (put (opening_node s from) (after s es).nodes (index_of s from) t.sender) ≡ s.k + s.m
-  many = let low = index-below s from fin in let size = many-after s es run in length-put (opening_node s from) (after s es).nodes (index_of s from) t.sender (omega (arith, low, size)) ∙ size
+  many = let low = index-below s from fin in let size = many-after s es run in
+      length-put (opening_node s from) (after s es).nodes (index_of s from) t.sender (omega (arith, low, size)) ∙ size
 
   other : index_of s from ≢ index_of s to
   other same = apart (index-one s from to fin tin same)
@@ -81,7 +86,8 @@ module _ (s : Dimensions) (es : List Event) (run : IsRun s es) (from to : Proces
       let d : Node = opening_node s (process_at s x) in
       ap (λ (n : Node). record { shape = s; node = n })
       (ap (λ (ns : List Node). at d ns x) nodes-are
-      ∙ at-put-within d (opening_node s to) (put (opening_node s from) (after s es).nodes x t.sender) (index_of s to) x t.receiver.node other (let low = index-below s from fin in let size = many in omega (arith, low, size))
+      ∙ at-put-within d (opening_node s to) (put (opening_node s from) (after s es).nodes x t.sender) (index_of s to) x
+      t.receiver.node other (let low = index-below s from fin in let size = many in omega (arith, low, size))
       ∙ at-put d (opening_node s from) (after s es).nodes x t.sender)
 
   pub receiver-stands : standing_at s (es ++ Deliver from to ∷ []) (index_of s to) ≡ record { shape = s; node = t.receiver.node }
@@ -89,13 +95,16 @@ module _ (s : Dimensions) (es : List Event) (run : IsRun s es) (from to : Proces
       let x : ℕ = index_of s to in
       let d : Node = opening_node s (process_at s x) in
       ap (λ (n : Node). record { shape = s; node = n })
-      (ap (λ (ns : List Node). at d ns x) nodes-are ∙ at-put d (opening_node s to) (put (opening_node s from) (after s es).nodes (index_of s from) t.sender) x t.receiver.node)
+      (ap (λ (ns : List Node). at d ns x) nodes-are
+      ∙ at-put d (opening_node s to) (put (opening_node s from) (after s es).nodes (index_of s from) t.sender) x
+      t.receiver.node)
 
   pub delivery-answer : answer_at s es (Deliver from to) ≡ t.receiver.answer
   delivery-answer = ap (λ (g : GroupStep). g.answer) is
 
 -- what is in hand stands as in the run, sender and receiver
-module _ (s : Dimensions) (es : List Event) (run : IsRun s es) (from to : ProcessId) (fin : IsProcess s from) (tin : IsProcess s to) (apart : from ≢ to) (sender receiver : NodeStanding)
+module _ (s : Dimensions) (es : List Event) (run : IsRun s es) (from to : ProcessId) (fin : IsProcess s from)
+    (tin : IsProcess s to) (apart : from ≢ to) (sender receiver : NodeStanding)
     (sent : sender ≡ standing_at s es (index_of s from)) (received : receiver ≡ standing_at s es (index_of s to)) where
   has : HasRun (after s es)
   has = has-run s es run
@@ -128,14 +137,20 @@ module _ (s : Dimensions) (es : List Event) (run : IsRun s es) (from to : Proces
   same-shapes = ap (λ (z : NodeStanding). z.shape) sent ∙ sym (ap (λ (z : NodeStanding). z.shape) received)
 
   comes : receiver.node.down ≡ false → receiver.node.dead ≡ false → (m : Message) (rest : List Message)
-      → at [] sender.node.links (index_of receiver.shape receiver.node.process.name) ≡ m ∷ rest → Comes receiver.shape sender.node.process.name m receiver.node.process
+      → at [] sender.node.links (index_of receiver.shape receiver.node.process.name) ≡ m ∷ rest
+      → Comes receiver.shape sender.node.process.name m receiver.node.process
   comes up lives m rest first =
       let named = core_runs.named (after s es) has to tin' in
       let link : at [] (node_of (after s es) from).links (index_of (after s es).shape to) ≡ m ∷ rest
       = (λ i. at [] ((sym sender-node) i).links (index_of ((sym receiver-shape) i) ((sym receiver-name) i))) ∙ first in
-      let all = first-comes (after s es) has from to m rest fin' tin' apart named (ap (λ (n : Node). n.down) (sym receiver-node) ∙ up) (ap (λ (n : Node). n.dead) (sym receiver-node) ∙ lives) link in
-      let at_shape : Comes receiver.shape from m (node_of (after s es) to).process = subst (λ (t : Dimensions). Comes t from m (node_of (after s es) to).process) (sym receiver-shape) all in
-      let by_name : Comes receiver.shape sender.node.process.name m (node_of (after s es) to).process = subst (λ (x : ProcessId). Comes receiver.shape x m (node_of (after s es) to).process) (sym sender-name) at_shape in
+      let all = first-comes (after s es) has from to m rest fin' tin' apart named
+      (ap (λ (n : Node). n.down) (sym receiver-node) ∙ up) (ap (λ (n : Node). n.dead) (sym receiver-node) ∙ lives)
+      link in
+      let at_shape : Comes receiver.shape from m (node_of (after s es) to).process =
+      subst (λ (t : Dimensions). Comes t from m (node_of (after s es) to).process) (sym receiver-shape) all in
+      let by_name : Comes receiver.shape sender.node.process.name m (node_of (after s es) to).process =
+      subst (λ (x : ProcessId). Comes receiver.shape x m (node_of (after s es) to).process) (sym sender-name)
+      at_shape in
       subst (λ (x : Process). Comes receiver.shape sender.node.process.name m x) (sym (ap (λ (n : Node). n.process) receiver-node)) by_name
 
   -- what comes may come
@@ -149,9 +164,12 @@ module _ (s : Dimensions) (es : List Event) (run : IsRun s es) (from to : Proces
       ((λ i. deliver_nodes ((sym receiver-shape) i) ((sym sender-name) i) ((sym receiver-name) i) ((sym sender-node) i) ((sym receiver-node) i)) ∙ is)
 
 -- the two nodes after a delivery, the sender's and the receiver's
-pub delivery-treats : (s : Dimensions) (es : List Event) (run : IsRun s es) (from to : ProcessId) → IsProcess s from → IsProcess s to → from ≢ to → (sender receiver sender' receiver' : NodeStanding) (out : NodeOut)
+pub delivery-treats : (s : Dimensions) (es : List Event) (run : IsRun s es) (from to : ProcessId) → IsProcess s from
+    → IsProcess s to → from ≢ to → (sender receiver sender' receiver' : NodeStanding) (out : NodeOut)
     → sender ≡ standing_at s es (index_of s from) → receiver ≡ standing_at s es (index_of s to) → Delivered sender receiver sender' receiver' out
-    → (sender' ≡ standing_at s (es ++ Deliver from to ∷ []) (index_of s from)) × (receiver' ≡ standing_at s (es ++ Deliver from to ∷ []) (index_of s to)) × (out.answer ≡ answer_at s es (Deliver from to))
+    → (sender' ≡ standing_at s (es ++ Deliver from to ∷ []) (index_of s from))
+    × (receiver' ≡ standing_at s (es ++ Deliver from to ∷ []) (index_of s to))
+    × (out.answer ≡ answer_at s es (Deliver from to))
 delivery-treats s es run from to fin tin apart sender receiver sender' receiver' out sent received is =
     let t : DeliveryStep = record { sender = sender'.node; receiver = made receiver'.node out } in
     let step = delivered-as s es run from to fin tin apart sender receiver sent received t is.step in
@@ -163,13 +181,16 @@ delivery-treats s es run from to fin tin apart sender receiver sender' receiver'
     )
 
 -- what is in hand can be finished
-pub can-finish-two : (plan : Plan) (v : View) (e : Event) (p q : ℕ) (y z first second : NodeStanding) (a : Answer) (m m' : Sat) (slots : List (ℕ × Option NodeStanding)) → IsIdle (v, slots) → v.shape ≡ plan.shape
-    → p < processes_of plan.shape → q < processes_of plan.shape → IsTwo v.shape v e p q → (fs : List Event) × InHand (begun e v) p slots y m fs → (es : List Event) × InHand m.0 q m.1 z m' es
+pub can-finish-two : (plan : Plan) (v : View) (e : Event) (p q : ℕ) (y z first second : NodeStanding) (a : Answer)
+    (m m' : Sat) (slots : List (ℕ × Option NodeStanding)) → IsIdle (v, slots) → v.shape ≡ plan.shape
+    → p < processes_of plan.shape → q < processes_of plan.shape → IsTwo v.shape v e p q → (fs : List Event)
+    × InHand (begun e v) p slots y m fs → (es : List Event) × InHand m.0 q m.1 z m' es
     → TreatsTwo v e p y q z first second a → CanFinishTwo plan m' p q first second
 can-finish-two plan v e p q y z first second a m m' slots ready shape low high two took taken treats =
     let ones : IsTwo plan.shape v e p q = subst (λ (s : Dimensions). IsTwo s v e p q) shape two in
     let u : View = two_held v e p y q z in
-    let before : m ≡ (with_held (begun e v) p y, (slot_of p, None) ∷ []) = took.1.seat ∙ (λ i. (with_held (begun e v) p y, (slot_of p, None) ∷ ready.slots i)) in
+    let before : m ≡ (with_held (begun e v) p y, (slot_of p, None) ∷ []) = took.1.seat
+    ∙ (λ i. (with_held (begun e v) p y, (slot_of p, None) ∷ ready.slots i)) in
     let seat : m' ≡ (u, (slot_of q, None) ∷ (slot_of p, None) ∷ []) = taken.1.seat ∙ ap (λ (x : Sat). (with_held x.0 q z, (slot_of q, None) ∷ x.1)) before in
     subst (λ (x : Sat). CanFinishTwo plan x p q first second) (sym seat) (record {
       old = y;
@@ -181,7 +202,8 @@ can-finish-two plan v e p q y z first second a m m' slots ready shape low high t
         due = refl;
         holds = λ x below named.
             let none_else : map (λ (h : ℕ × NodeStanding). h.0) v.held ≡ [] = ap (map (λ (h : ℕ × NodeStanding). h.0)) ready.idle in
-            let all : times x (q ∷ p ∷ map (λ (h : ℕ × NodeStanding). h.0) v.held) ≡ times x (q ∷ p ∷ []) = ap (λ (l : List ℕ). times x (q ∷ p ∷ l)) none_else in
+            let all : times x (q ∷ p ∷ map (λ (h : ℕ × NodeStanding). h.0) v.held) ≡ times x (q ∷ p ∷ []) =
+            ap (λ (l : List ℕ). times x (q ∷ p ∷ l)) none_else in
             let same = ones.named x in
             omega (arith, named, same, all);
         own = ones.own;
@@ -194,7 +216,8 @@ can-finish-two plan v e p q y z first second a m m' slots ready shape low high t
     })
 
 -- and is the event then
-pub made-ended-two : (v : View) (e : Event) (p q : ℕ) (y z first second : NodeStanding) (a : Answer) (m m' w : Sat) (slots : List (ℕ × Option NodeStanding)) → IsIdle (v, slots) → IsTwo v.shape v e p q
+pub made-ended-two : (v : View) (e : Event) (p q : ℕ) (y z first second : NodeStanding) (a : Answer) (m m' w : Sat)
+    (slots : List (ℕ × Option NodeStanding)) → IsIdle (v, slots) → IsTwo v.shape v e p q
     → (fs : List Event) × InHand (begun e v) p slots y m fs → (es : List Event) × InHand m.0 q m.1 z m' es → TreatsTwo v e p y q z first second a
     → (es : List Event) × Knows es m'.0 × ((f : ℕ) × (g : ℕ) × (w ≡ (released (released (committed es m'.0) q f) p g, []))) → Ended e v (Made a) w.0
 made-ended-two v e p q y z first second a m m' w slots ready two took taken treats fin =
@@ -204,7 +227,8 @@ made-ended-two v e p q y z first second a m m' w slots ready two took taken trea
     let knows : Knows es u = subst (Knows es) view fin.1 in
     let f : ℕ = fin.2.0 in
     let g : ℕ = fin.2.1 in
-    let after_all : w.0 ≡ released (released (committed es u) q f) p g = ap (λ (x : Sat). x.0) fin.2.2 ∙ ap (λ (x : View). released (released (committed es x) q f) p g) view in
+    let after_all : w.0 ≡ released (released (committed es u) q f) p g = ap (λ (x : Sat). x.0) fin.2.2
+    ∙ ap (λ (x : View). released (released (committed es x) q f) p g) view in
     let answer : a ≡ answer_at v.shape es e = (treats es knows).2 in
     subst (λ (x : View). Ended e v (Made a) x) (sym after_all) (
       record {
@@ -229,14 +253,22 @@ made-ended-two v e p q y z first second a m m' w slots ready two took taken trea
       ),
     )
 
-pub deliver-may : (s : Dimensions) (from to : ProcessId) → IsProcess s from → IsProcess s to → from ≢ to → (w : World) → w.shape ≡ s → MayCome w (Deliver from to)
-deliver-may s from to fin tin apart w shape = (subst (λ (t : Dimensions). IsProcess t from) (sym shape) fin, subst (λ (t : Dimensions). IsProcess t to) (sym shape) tin, apart)
+pub deliver-may : (s : Dimensions) (from to : ProcessId) → IsProcess s from → IsProcess s to → from ≢ to → (w : World)
+    → w.shape ≡ s → MayCome w (Deliver from to)
+deliver-may s from to fin tin apart w shape = (
+  subst (λ (t : Dimensions). IsProcess t from) (sym shape) fin,
+  subst (λ (t : Dimensions). IsProcess t to)
+      (sym shape) tin,
+  apart,
+)
 
 -- from a node to one behind it, or turned
-pub is-two : (up : Bool) (v : View) (from to : ProcessId) (p q : ℕ) → IsProcess v.shape from → IsProcess v.shape to → from ≢ to → p ≡ index_of v.shape (one_of up from to) → q ≡ index_of v.shape (other_of up from to)
+pub is-two : (up : Bool) (v : View) (from to : ProcessId) (p q : ℕ) → IsProcess v.shape from → IsProcess v.shape to
+    → from ≢ to → p ≡ index_of v.shape (one_of up from to) → q ≡ index_of v.shape (other_of up from to)
     → IsTwo v.shape v (Deliver from to) p q
 is-two true v from to p q fin tin apart a b = record {
-  named = λ x. let same : times x (index_of v.shape from ∷ index_of v.shape to ∷ []) ≡ times x (p ∷ q ∷ []) = λ i. times x ((sym a) i ∷ (sym b) i ∷ []) in omega (arith, same);
+  named = λ x. let same : times x (index_of v.shape from ∷ index_of v.shape to ∷ []) ≡ times x (p ∷ q ∷ []) =
+      λ i. times x ((sym a) i ∷ (sym b) i ∷ []) in omega (arith, same);
   own = λ c no. refl;
   may = λ w shape known. deliver-may v.shape from to fin tin apart w shape;
 }
@@ -246,8 +278,10 @@ is-two false v from to p q fin tin apart a b = record {
   may = λ w shape known. deliver-may v.shape from to fin tin apart w shape;
 }
 
-pub treats-two : (up : Bool) (v : View) (from to : ProcessId) (p q : ℕ) (y z first second : NodeStanding) (out : NodeOut) → IsProcess v.shape from → IsProcess v.shape to → from ≢ to
-    → p ≡ index_of v.shape (one_of up from to) → q ≡ index_of v.shape (other_of up from to) → Delivered (one_of up y z) (other_of up y z) (one_of up first second) (other_of up first second) out
+pub treats-two : (up : Bool) (v : View) (from to : ProcessId) (p q : ℕ) (y z first second : NodeStanding)
+    (out : NodeOut) → IsProcess v.shape from → IsProcess v.shape to → from ≢ to
+    → p ≡ index_of v.shape (one_of up from to) → q ≡ index_of v.shape (other_of up from to)
+    → Delivered (one_of up y z) (other_of up y z) (one_of up first second) (other_of up first second) out
     → TreatsTwo v (Deliver from to) p y q z first second out.answer
 treats-two true v from to p q y z first second out fin tin apart a b is es knows =
     let s = v.shape in
@@ -263,18 +297,23 @@ treats-two false v from to p q y z first second out fin tin apart a b is es know
     (all.1 ∙ ap (standing_at s (es ++ Deliver from to ∷ [])) (sym a), all.0 ∙ ap (standing_at s (es ++ Deliver from to ∷ [])) (sym b), all.2)
 
 -- the processes are two
-apart-of : (up : Bool) (s : Dimensions) (from to : ProcessId) (p q : ℕ) → IsProcess s from → IsProcess s to → from ≢ to → p ≡ index_of s (one_of up from to) → q ≡ index_of s (other_of up from to) → p ≢ q
+apart-of : (up : Bool) (s : Dimensions) (from to : ProcessId) (p q : ℕ) → IsProcess s from → IsProcess s to → from ≢ to
+    → p ≡ index_of s (one_of up from to) → q ≡ index_of s (other_of up from to) → p ≢ q
 apart-of true s from to p q fin tin apart a b = λ same. apart (index-one s from to fin tin (sym a ∙ same ∙ b))
 apart-of false s from to p q fin tin apart a b = λ same. apart (index-one s from to fin tin (sym b ∙ sym same ∙ a))
 
 -- what is in hand in this order, sender and receiver or turned, can be delivered
-deliver-of : (up : Bool) (s : Dimensions) (es : List Event) → IsRun s es → (from to : ProcessId) → IsProcess s from → IsProcess s to → from ≢ to → (y z : NodeStanding)
-    → y ≡ standing_at s es (index_of s (one_of up from to)) → z ≡ standing_at s es (index_of s (other_of up from to)) → CanDeliver (one_of up y z) (other_of up y z)
+deliver-of : (up : Bool) (s : Dimensions) (es : List Event) → IsRun s es → (from to : ProcessId) → IsProcess s from
+    → IsProcess s to → from ≢ to → (y z : NodeStanding)
+    → y ≡ standing_at s es (index_of s (one_of up from to)) → z ≡ standing_at s es (index_of s (other_of up from to))
+    → CanDeliver (one_of up y z) (other_of up y z)
 deliver-of true s es run from to fin tin apart y z a b = can-deliver s es run from to fin tin apart y z a b
 deliver-of false s es run from to fin tin apart y z a b = can-deliver s es run from to fin tin apart z y b a
 
 -- the second word was met held, and the first node went back
-pub busy-second : (v : View) (e : Event) (p q : ℕ) (r : ProcessId) (y : NodeStanding) (m m' w : Sat) (slots : List (ℕ × Option NodeStanding)) → IsIdle (v, slots) → IsTwo v.shape v e p q → q ≡ index_of v.shape r → p ≢ q
+pub busy-second : (v : View) (e : Event) (p q : ℕ) (r : ProcessId) (y : NodeStanding) (m m' w : Sat)
+    (slots : List (ℕ × Option NodeStanding)) → IsIdle (v, slots) → IsTwo v.shape v e p q → q ≡ index_of v.shape r
+    → p ≢ q
     → (fs : List Event) × InHand (begun e v) p slots y m fs → m' ≡ (with_met m.0 q, m.1) → (found : ℕ) × (w.0 ≡ released m'.0 p found) → Ended e v (Busy r) w.0
 busy-second v e p q r y m m' w slots ready two here apart took met back =
     let found : ℕ = back.0 in
@@ -283,17 +322,23 @@ busy-second v e p q r y m m' w slots ready two here apart took met back =
     subst (λ (x : View). Ended e v (Busy r) x) (sym after_all) (
       record { shape = refl; parts = refl; numbers = refl; calls = refl; idle = ready.idle },
       record {
-        named = let one = two.named (index_of v.shape r) in let same = ap (λ (x : ℕ). times (index_of v.shape r) (x ∷ p ∷ [])) here in let more = times-here (index_of v.shape r) (p ∷ []) in omega (arith, one, same, more);
+        named = let one = two.named (index_of v.shape r) in let same =
+            ap (λ (x : ℕ). times (index_of v.shape r) (x ∷ p ∷ [])) here in let more =
+            times-here (index_of v.shape r) (p ∷ []) in omega (arith, one, same, more);
         met = ap (λ (x : ℕ). v.met ++ x ∷ []) here;
-        cleared = let more = tally-append (index_of v.shape r) v.cleared ((p, found - 1) ∷ []) in let none_here = tally-else (index_of v.shape r) p (found - 1) (λ same. apart (same ∙ sym here)) in omega (arith, more, none_here);
+        cleared = let more = tally-append (index_of v.shape r) v.cleared ((p, found - 1) ∷ []) in let none_here =
+            tally-else (index_of v.shape r) p (found - 1) (λ same. apart (same ∙ sym here)) in
+            omega (arith, more, none_here);
         made = refl;
         seen = refl;
       },
     )
 
 -- both nodes of a delivery are in hand, in the order of processes
-module _ (plan : Plan) (v : View) (f : Event) (up : Bool) (from to one other : ProcessId) (p q : ℕ) (slots : List (ℕ × Option NodeStanding)) (y : NodeStanding) (m : Sat)
-    (ready : IsIdle (v, slots)) (shape : v.shape ≡ plan.shape) (event : f ≡ Deliver from to) (from_in : IsProcess plan.shape from) (to_in : IsProcess plan.shape to) (apart : from ≢ to)
+module _ (plan : Plan) (v : View) (f : Event) (up : Bool) (from to one other : ProcessId) (p q : ℕ)
+    (slots : List (ℕ × Option NodeStanding)) (y : NodeStanding) (m : Sat)
+    (ready : IsIdle (v, slots)) (shape : v.shape ≡ plan.shape) (event : f ≡ Deliver from to)
+    (from_in : IsProcess plan.shape from) (to_in : IsProcess plan.shape to) (apart : from ≢ to)
     (one-is : one ≡ one_of up from to) (other-is : other ≡ other_of up from to) (low : p ≡ index_of plan.shape one) (high : q ≡ index_of plan.shape other)
     (took : (es : List Event) × InHand (begun f v) p slots y m es) where
   fin : IsProcess v.shape from
@@ -316,7 +361,9 @@ module _ (plan : Plan) (v : View) (f : Event) (up : Bool) (from to one other : P
 
   -- the second word was met held
   pub second-busy : (m' w : Sat) → m' ≡ (with_met m.0 q, m.1) → (found : ℕ) × (w.0 ≡ released m'.0 p found) → Ended (Deliver from to) v (Busy other) w.0
-  second-busy m' w met back = busy-second v (Deliver from to) p q other y m m' w slots ready two (high ∙ ap (λ (s : Dimensions). index_of s other) (sym shape)) (apart-of up v.shape from to p q fin tin apart here there) first_in met back
+  second-busy m' w met back = busy-second v (Deliver from to) p q other y m m' w slots ready two
+      (high ∙ ap (λ (s : Dimensions). index_of s other) (sym shape))
+      (apart-of up v.shape from to p q fin tin apart here there) first_in met back
 
   module _ (z : NodeStanding) (m' : Sat) (taken : (es : List Event) × InHand m.0 q m.1 z m' es) where
     knows-two : Knows taken.0 (two_held v (Deliver from to) p y q z)
@@ -334,12 +381,15 @@ module _ (plan : Plan) (v : View) (f : Event) (up : Bool) (from to one other : P
     -- the receiver was up
     pub receiver-up : (other_of up y z).node.down ≡ false → (other_of up y z).node.dead ≡ false → WasUp v to
     receiver-up = by up first-stands second-stands where
-      by : (b : Bool) → y ≡ standing_at v.shape taken.0 (index_of v.shape (one_of b from to)) → z ≡ standing_at v.shape taken.0 (index_of v.shape (other_of b from to))
+      by : (b : Bool) → y ≡ standing_at v.shape taken.0 (index_of v.shape (one_of b from to))
+          → z ≡ standing_at v.shape taken.0 (index_of v.shape (other_of b from to))
           → (other_of b y z).node.down ≡ false → (other_of b y z).node.dead ≡ false → WasUp v to
       by true a b up lives = up-at v (two_held v (Deliver from to) p y q z) to (index_of v.shape to) z taken.0 refl refl refl knows-two refl b up lives
       by false a b up lives = up-at v (two_held v (Deliver from to) p y q z) to (index_of v.shape to) y taken.0 refl refl refl knows-two refl a up lives
 
-    module _ (first second : NodeStanding) (out : NodeOut) (delivered : Delivered (one_of up y z) (other_of up y z) (one_of up first second) (other_of up first second) out) where
+    module _ (first second : NodeStanding) (out : NodeOut)
+        (delivered : Delivered (one_of up y z) (other_of up y z) (one_of up first second) (other_of up first second)
+        out) where
       treats : TreatsTwo v (Deliver from to) p y q z first second out.answer
       treats = treats-two up v from to p q y z first second out fin tin apart here there delivered
 
@@ -352,7 +402,10 @@ module _ (plan : Plan) (v : View) (f : Event) (up : Bool) (from to one other : P
 
       pub can-end : CanFinishTwo plan m' p q first second
       can-end = can-finish-two plan v (Deliver from to) p q y z first second out.answer m m' slots ready shape
-          (within p one low (subst (IsProcess plan.shape) (sym one-is) (inside up).0)) (within q other high (subst (IsProcess plan.shape) (sym other-is) (inside up).1)) two first_in taken treats
+          (within p one low (subst (IsProcess plan.shape) (sym one-is) (inside up).0))
+          (within q other high (subst (IsProcess plan.shape) (sym other-is) (inside up).1)) two first_in taken treats
 
-      pub ends : (w : Sat) → (es : List Event) × Knows es m'.0 × ((g : ℕ) × (h : ℕ) × (w ≡ (released (released (committed es m'.0) q g) p h, []))) → Ended (Deliver from to) v (Made out.answer) w.0
+      pub ends : (w : Sat) → (es : List Event) × Knows es m'.0
+          × ((g : ℕ) × (h : ℕ) × (w ≡ (released (released (committed es m'.0) q g) p h, [])))
+          → Ended (Deliver from to) v (Made out.answer) w.0
       ends w fin = made-ended-two v (Deliver from to) p q y z first second out.answer m m' w slots ready two first_in taken treats fin

@@ -1,5 +1,6 @@
 -- A seat is cut in two, and two are joined.
-use Rattle.std.proofs.Common.{ℕ, ◌≡◌, ◌≢◌, ◌<◌, ◌+◌, ◌⊎◌, ⊎_elim, inl, inr, List, [], ◌∷◌, ◌++◌, length, map, set, refl, sym, ap, subst, ◌∙◌, arith, eqb, eq-eqb, ne_eqb, length-append}
+use Rattle.std.proofs.Common.{ℕ, ◌≡◌, ◌≢◌, ◌<◌, ◌+◌, ◌⊎◌, ⊎_elim, inl, inr, List, [], ◌∷◌, ◌++◌, length, map, set, refl}
+use Rattle.std.proofs.Common.{sym, ap, subst, ◌∙◌, arith, eqb, eq-eqb, ne_eqb, length-append}
 use Rattle.std.specs.Prelude as std
 use Rattle.std.proofs.lemmas.Bool.{cases_eq}
 use mathlib.Core.Option.{some}
@@ -31,7 +32,8 @@ module _ (plan : Plan) (st : St) (o : Kept plan st) (id : ℕ) (v : View) (me : 
 
   -- a sum that the two have as the one
   cut : (f : View → ℕ) → f (kept_part v) + f (new_part v) ≡ f v → total f (set st.views id (kept_part v) ++ new_part v ∷ []) ≡ total f st.views
-  cut f same = let more = total-append f (set st.views id (kept_part v)) (new_part v ∷ []) in let one = total-set f st.views id v (kept_part v) me in omega (arith, more, one, same)
+  cut f same = let more = total-append f (set st.views id (kept_part v)) (new_part v ∷ []) in let one =
+      total-set f st.views id v (kept_part v) me in omega (arith, more, one, same)
 
   left : Fits plan.shape o.schedule (next_in plan st.words) (kept_part v)
   left =
@@ -88,14 +90,16 @@ module _ (plan : Plan) (st : St) (o : Kept plan st) (id : ℕ) (v : View) (me : 
     counts = λ q low. let a = cut (met_of q) (omega arith) in let b = cut (cleared_of q) (omega arith) in omega (arith, a, b, o.counts q low);
     home = o.home;
     each = λ j u at_j. ⊎_elim
-        (λ inside. ⊎_elim (λ t. subst (Fits plan.shape o.schedule (next_in plan st.words)) t.1 left) (λ t. o.each j u t.1) (at_set st.views id j (kept_part v) u inside))
+        (λ inside. ⊎_elim (λ t. subst (Fits plan.shape o.schedule (next_in plan st.words)) t.1 left)
+        (λ t. o.each j u t.1) (at_set st.views id j (kept_part v) u inside))
         (λ last. subst (Fits plan.shape o.schedule (next_in plan st.words)) last right) (at_snoc (set st.views id (kept_part v)) (new_part v) u j at_j);
   }
 
 pub parts : (plan : Plan) (id : ℕ) (v : View) → CanPart v → Splits (Kept plan) id v (kept_part v) (new_part v)
 parts plan id v can st o me = part-kept plan st o id v me can
 
-module _ (plan : Plan) (st : St) (o : Kept plan st) (id other : ℕ) (v w : View) (me : get_elem? st.views id ≡ some v) (apart : ¬ (other ≡ id)) (it : get_elem? (set st.views id (joined v w)) other ≡ some w) (can : CanJoin v w) where
+module _ (plan : Plan) (st : St) (o : Kept plan st) (id other : ℕ) (v w : View) (me : get_elem? st.views id ≡ some v)
+    (apart : ¬ (other ≡ id)) (it : get_elem? (set st.views id (joined v w)) other ≡ some w) (can : CanJoin v w) where
   abbrev both : View
   both = joined v w
 
@@ -104,7 +108,8 @@ module _ (plan : Plan) (st : St) (o : Kept plan st) (id other : ℕ) (v w : View
 
   -- a sum that the one has as the two
   pub together : (f : View → ℕ) → f nobody ≡ 0 → f (joined v w) ≡ f v + f w → total f (set (set st.views id (joined v w)) other nobody) ≡ total f st.views
-  together f none_left same = let one = total-set f st.views id v (joined v w) me in let two = total-set f (set st.views id (joined v w)) other w nobody it in omega (arith, one, two, none_left, same)
+  together f none_left same = let one = total-set f st.views id v (joined v w) me in let two =
+      total-set f (set st.views id (joined v w)) other w nobody it in omega (arith, one, two, none_left, same)
 
   held-none : v.held ++ w.held ≡ []
   held-none = ap (λ (hs : List (ℕ × NodeStanding)). hs ++ w.held) can.idle ∙ can.other_idle
@@ -117,7 +122,8 @@ module _ (plan : Plan) (st : St) (o : Kept plan st) (id other : ℕ) (v w : View
       omega (arith, a, b, c)
 
   next-of : (v.pens ≡ 0) ⊎ (v.pens ≢ 0) → 0 < v.pens + w.pens → std.cond (eqb v.pens 0) w.next v.next ≡ next_in plan st.words
-  next-of (inl none_here) have = ap (λ (z : std.Bool). std.cond z w.next v.next) (eq-eqb v.pens 0 none_here) ∙ (o.each other w its).pen (omega (arith, none_here, have))
+  next-of (inl none_here) have = ap (λ (z : std.Bool). std.cond z w.next v.next) (eq-eqb v.pens 0 none_here)
+      ∙ (o.each other w its).pen (omega (arith, none_here, have))
   next-of (inr some_here) have = ap (λ (z : std.Bool). std.cond z w.next v.next) (ne_eqb v.pens 0 some_here) ∙ (o.each id v me).pen (omega (arith, some_here))
 
   fits-both : Fits plan.shape o.schedule (next_in plan st.words) (joined v w)
@@ -172,10 +178,12 @@ module _ (plan : Plan) (st : St) (o : Kept plan st) (id other : ℕ) (v w : View
     owners = λ c. together (λ (u : View). times c u.numbers) refl (times-append c v.numbers w.numbers) ∙ o.owners c;
     asked = λ c. o.asked c ∙ sym (together (λ (u : View). asks_by c u.made) refl (asks-append c v.made w.made));
     taken = λ q low. together (holding q) refl (no-holding q) ∙ o.taken q low;
-    counts = λ q low. let a = together (met_of q) refl (times-append q v.met w.met) in let b = together (cleared_of q) refl (tally-append q v.cleared w.cleared) in omega (arith, a, b, o.counts q low);
+    counts = λ q low. let a = together (met_of q) refl (times-append q v.met w.met) in let b =
+        together (cleared_of q) refl (tally-append q v.cleared w.cleared) in omega (arith, a, b, o.counts q low);
     home = o.home;
     each = λ j u at_j. ⊎_elim (λ t. subst (Fits plan.shape o.schedule (next_in plan st.words)) t.1 fits-nobody)
-        (λ t. ⊎_elim (λ t. subst (Fits plan.shape o.schedule (next_in plan st.words)) t.1 fits-both) (λ t. o.each j u t.1) (at_set st.views id j (joined v w) u t.1))
+        (λ t. ⊎_elim (λ t. subst (Fits plan.shape o.schedule (next_in plan st.words)) t.1 fits-both)
+        (λ t. o.each j u t.1) (at_set st.views id j (joined v w) u t.1))
         (at_set (set st.views id (joined v w)) other j nobody u at_j);
   }
 

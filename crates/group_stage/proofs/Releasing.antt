@@ -1,5 +1,6 @@
 -- A node is given back, and its word released.
-use Rattle.std.proofs.Common.{ℕ, zero, suc, ◌≡◌, ◌≢◌, ◌<◌, ◌+◌, ◌-◌, ⊎_elim, List, [], ◌∷◌, ◌++◌, map, set, refl, sym, ap, subst, ◌∙◌, arith, length-set, eq-eqb, ne_eqb}
+use Rattle.std.proofs.Common.{ℕ, zero, suc, ◌≡◌, ◌≢◌, ◌<◌, ◌+◌, ◌-◌, ⊎_elim, List, [], ◌∷◌, ◌++◌, map, set, refl, sym}
+use Rattle.std.proofs.Common.{ap, subst, ◌∙◌, arith, length-set, eq-eqb, ne_eqb}
 use Rattle.std.specs.Prelude as std
 use Rattle.std.proofs.lemmas.Bool.{cases_eq}
 use mathlib.Core.Option.{none, some}
@@ -45,7 +46,8 @@ flag-one : (n : ℕ) → 0 < n → flag n ≡ 1
 flag-one zero low = absurd (omega (arith, low))
 flag-one (suc n) low = refl
 
-module _ (plan : Plan) (st : St) (o : Kept plan st) (id : ℕ) (v : View) (me : get_elem? st.views id ≡ some v) (p : ℕ) (y : NodeStanding) (part : v.parts ≡ 1) (within : p < processes_of plan.shape)
+module _ (plan : Plan) (st : St) (o : Kept plan st) (id : ℕ) (v : View) (me : get_elem? st.views id ≡ some v) (p : ℕ)
+    (y : NodeStanding) (part : v.parts ≡ 1) (within : p < processes_of plan.shape)
     (last : v.held ≡ (p, y) ∷ held_rest v.held) where
   others : List ℕ
   others = map (λ h. h.0) (held_rest v.held)
@@ -62,7 +64,8 @@ module _ (plan : Plan) (st : St) (o : Kept plan st) (id : ℕ) (v : View) (me : 
   node-is : y ≡ standing_at plan.shape o.schedule p
   node-is = (subst (Each (λ h. h.1 ≡ standing_at plan.shape o.schedule h.0)) last (o.each id v me).held).0
 
-  pub released-kept : Keeps plan st o (stage (set st.words (word_of p) 0) (set st.homes (slot_of p) (some (std.Some y))) (set st.views id (released v p (word_in st.words p))))
+  pub released-kept : Keeps plan st o (stage (set st.words (word_of p) 0) (set st.homes (slot_of p) (some (std.Some y)))
+      (set st.views id (released v p (word_in st.words p))))
   released-kept =
       let fits = o.each id v me in
       let here = word-here plan st.words o.wide p 0 within in
@@ -70,20 +73,29 @@ module _ (plan : Plan) (st : St) (o : Kept plan st) (id : ℕ) (v : View) (me : 
       let high = above in
       let up = flag-one (word_in st.words p) high in
       let w : ℕ = word_in st.words p in
-      changed plan st o id v v.call v.calls v.due (held_rest v.held) v.met (v.cleared ++ (p, word_in st.words p - 1) ∷ []) (set st.words (word_of p) 0) (set st.homes (slot_of p) (some (std.Some y))) me
-      (length-set st.words (word_of p) 0) (length-set st.homes (slot_of p) (some (std.Some y))) (history-else plan st.words o.wide p 0 within) (drawing-else plan st.words o.wide p 0 within)
+      changed plan st o id v v.call v.calls v.due (held_rest v.held) v.met (v.cleared ++ (p, word_in st.words p - 1)
+      ∷ []) (set st.words (word_of p) 0) (set st.homes (slot_of p) (some (std.Some y))) me
+      (length-set st.words (word_of p) 0) (length-set st.homes (slot_of p) (some (std.Some y)))
+      (history-else plan st.words o.wide p 0 within) (drawing-else plan st.words o.wide p 0 within)
       (λ q low. ⊎_elim
-      (λ (e : q ≡ p). subst (λ (x : ℕ). times x (map (λ h. h.0) (held_rest v.held)) + flag (word_in st.words x) ≡ holding x v + flag (word_in (set st.words (word_of p) 0) x)) (sym e)
+      (λ (e : q ≡ p). subst (λ (x : ℕ). times x (map (λ h. h.0) (held_rest v.held)) + flag (word_in st.words x)
+      ≡ holding x v + flag (word_in (set st.words (word_of p) 0) x)) (sym e)
       (let a = times-here p (map (λ h. h.0) (held_rest v.held)) in let b = holding-is p in let c = ap flag here in omega (arith, a, b, c, up)))
-      (λ (ne : q ≢ p). let a = times-else q p (map (λ h. h.0) (held_rest v.held)) (λ e. ne (sym e)) in let b = holding-is q in let c = ap flag (else q ne) in omega (arith, a, b, c))
+      (λ (ne : q ≢ p). let a = times-else q p (map (λ h. h.0) (held_rest v.held)) (λ e. ne (sym e)) in
+      let b = holding-is q in let c = ap flag (else q ne) in omega (arith, a, b, c))
       (cases_eq q p))
       (λ q low. let more = tally-append q v.cleared ((p, word_in st.words p - 1) ∷ []) in ⊎_elim
-      (λ (e : q ≡ p). subst (λ (x : ℕ). met_of x v + flag (word_in (set st.words (word_of p) 0) x) + cleared_of x v + word_in st.words x ≡ met_of x v + flag (word_in st.words x) + tally x (v.cleared ++ (p, word_in st.words p - 1) ∷ []) + word_in (set st.words (word_of p) 0) x) (sym e)
-      (let a = tally-append p v.cleared ((p, word_in st.words p - 1) ∷ []) in let b = tally-here p (word_in st.words p - 1) in let c = ap flag here in omega (arith, a, b, c, up, here, high)))
+      (λ (e : q ≡ p). subst (λ (x : ℕ). met_of x v + flag (word_in (set st.words (word_of p) 0) x) + cleared_of x
+      v + word_in st.words x ≡ met_of x v + flag (word_in st.words x) + tally x
+      (v.cleared ++ (p, word_in st.words p - 1) ∷ []) + word_in (set st.words (word_of p) 0) x) (sym e)
+      (let a = tally-append p v.cleared ((p, word_in st.words p - 1) ∷ []) in
+      let b = tally-here p (word_in st.words p - 1) in let c = ap flag here in
+      omega (arith, a, b, c, up, here, high)))
       (λ (ne : q ≢ p). let b = tally-else q p (word_in st.words p - 1) (λ e. ne (sym e)) in let c = ap flag (else q ne) in omega (arith, more, b, c, else q ne))
       (cases_eq q p))
       (λ q low zero_now. ⊎_elim
-      (λ (e : q ≡ p). subst (λ (x : ℕ). get_elem? (set st.homes (slot_of p) (some (std.Some y))) (slot_of x) ≡ some (some (std.Some (standing_at plan.shape o.schedule x)))) (sym e)
+      (λ (e : q ≡ p). subst (λ (x : ℕ). get_elem? (set st.homes (slot_of p) (some (std.Some y))) (slot_of x)
+      ≡ some (some (std.Some (standing_at plan.shape o.schedule x)))) (sym e)
       (set_here st.homes (slot_of p) (some (std.Some y)) (omega (arith, o.long, within)) ∙ ap (λ (z : NodeStanding). some (some (std.Some z))) node-is))
       (λ (ne : q ≢ p). set_else st.homes (slot_of p) (slot_of q) (some (std.Some y)) (λ e. ne (omega (arith, e))) ∙ o.home q low (sym (else q ne) ∙ zero_now))
       (cases_eq q p))
@@ -102,7 +114,8 @@ module _ (plan : Plan) (st : St) (o : Kept plan st) (id : ℕ) (v : View) (me : 
         pen = fits.pen;
       })
 
-pub releases : (plan : Plan) (slots id : ℕ) (m : Sat) (p i : ℕ) (y : NodeStanding) → i ≡ word_of p → HasLast plan m p y (std.Some y) → Allows (Kept plan) slots id m i (λ _. 0) (Releases (step slots i 0 0 none) m)
+pub releases : (plan : Plan) (slots id : ℕ) (m : Sat) (p i : ℕ) (y : NodeStanding) → i ≡ word_of p
+    → HasLast plan m p y (std.Some y) → Allows (Kept plan) slots id m i (λ _. 0) (Releases (step slots i 0 0 none) m)
 releases plan slots id m p i y here last st o wide me low =
     let v : View = m.0 in
     let kept = released-kept plan st o id v me p y last.part last.within last.held in

@@ -1,5 +1,6 @@
 -- What one event more makes of the run of a schedule.
-use Rattle.std.proofs.Common.{ℕ, zero, suc, ◌≡◌, ◌≢◌, ◌<◌, ◌+◌, ⊎_elim, Bool, eqb, eq-eqb, ne_eqb, cond, List, [], ◌∷◌, ◌++◌, length, take, refl, sym, ap, ◌∙◌, arith}
+use Rattle.std.proofs.Common.{ℕ, zero, suc, ◌≡◌, ◌≢◌, ◌<◌, ◌+◌, ⊎_elim, Bool, eqb, eq-eqb, ne_eqb, cond, List, [], ◌∷◌}
+use Rattle.std.proofs.Common.{◌++◌, length, take, refl, sym, ap, ◌∙◌, arith}
 use Rattle.std.specs.Prelude.{slice_get, Some, None}
 use Rattle.std.proofs.lemmas.Bool.{cases_eq}
 use Rattle.group_types.specs.Dimensions.{Dimensions}
@@ -32,7 +33,8 @@ pub events-after : (s : Dimensions) (es : List Event) → (after s es).events �
 events-after s es = let all = events-from (opening s) es in omega (arith, all)
 
 -- a node that the event doesn't name stands as it stood
-pub stands : (s : Dimensions) (es : List Event) (e : Event) (x : ℕ) → IsRun s es → x < s.k + s.m → times x (names s e) ≡ 0 → standing_at s (es ++ e ∷ []) x ≡ standing_at s es x
+pub stands : (s : Dimensions) (es : List Event) (e : Event) (x : ℕ) → IsRun s es → x < s.k + s.m
+    → times x (names s e) ≡ 0 → standing_at s (es ++ e ∷ []) x ≡ standing_at s es x
 stands s es e x run within none = ap (λ (n : Node). record { shape = s; node = n }) (stays s es e x run within none)
 
 abbrev one_if : Bool → ℕ
@@ -86,7 +88,8 @@ still-answered s es ms x is = record {
   answer = is.answer ∙ ap (λ (fs : List Event). answer_at s fs x.event) (sym (take-more es ms x.number x.event is.event));
 }
 
-pub last-answered : (s : Dimensions) (es : List Event) (e : Event) → IsAnswered s (es ++ e ∷ []) (record { number = length es; event = e; answer = answer_at s es e })
+pub last-answered : (s : Dimensions) (es : List Event) (e : Event)
+    → IsAnswered s (es ++ e ∷ []) (record { number = length es; event = e; answer = answer_at s es e })
 last-answered s es e = record {
   event = get-last es e;
   answer = ap (λ (fs : List Event). answer_at s fs e) (sym (take-whole es (e ∷ [])));

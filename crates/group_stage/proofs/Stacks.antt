@@ -19,7 +19,8 @@ use Rattle.group_stage.specs.Views.{held_at}
 use Rattle.group_stage.proofs.Sums.{times-here}
 
 -- one node more, behind the others
-pub stacked-more : (x : ℕ) (ys : List NodeStanding) (y : NodeStanding) (below : List (ℕ × NodeStanding)) → stacked x (ys ++ y ∷ []) below ≡ (x + length ys, y) ∷ stacked x ys below
+pub stacked-more : (x : ℕ) (ys : List NodeStanding) (y : NodeStanding) (below : List (ℕ × NodeStanding))
+    → stacked x (ys ++ y ∷ []) below ≡ (x + length ys, y) ∷ stacked x ys below
 stacked-more x [] y below = let here : x ≡ x + 0 = omega arith in ap (λ (n : ℕ). (n, y) ∷ below) here
 stacked-more x (z ∷ zs) y below =
     let place : suc x + length zs ≡ x + suc (length zs) = omega arith in
@@ -32,7 +33,8 @@ pub slots-more : (ys : List NodeStanding) (y : NodeStanding) → slots_left (han
 slots-more ys y = ap slots_left (hand-more ys y)
 
 -- the processes of a stack come before the next
-pub stacked-before : (n x : ℕ) (ys : List NodeStanding) (below : List (ℕ × NodeStanding)) → x + length ys ≤ n → Each (λ h. h.0 < n) below → Each (λ h. h.0 < n) (stacked x ys below)
+pub stacked-before : (n x : ℕ) (ys : List NodeStanding) (below : List (ℕ × NodeStanding)) → x + length ys ≤ n
+    → Each (λ h. h.0 < n) below → Each (λ h. h.0 < n) (stacked x ys below)
 stacked-before n x [] below within each = each
 stacked-before n x (y ∷ ys) below within each = stacked-before n (suc x) ys ((x, y) ∷ below) (omega (arith, within)) (omega (arith, within), each)
 
@@ -40,14 +42,17 @@ pub hand-before : (n : ℕ) (ys : List NodeStanding) → length ys ≡ n → Eac
 hand-before n ys many = stacked-before n 0 ys [] (omega (arith, many)) tt
 
 -- what is under the stack stays in it, and each process of the stack is in it
-under-stack : (q x : ℕ) (ys : List NodeStanding) (below : List (ℕ × NodeStanding)) → times q (map (λ (h : ℕ × NodeStanding). h.0) below) ≤ times q (map (λ (h : ℕ × NodeStanding). h.0) (stacked x ys below))
+under-stack : (q x : ℕ) (ys : List NodeStanding) (below : List (ℕ × NodeStanding))
+    → times q (map (λ (h : ℕ × NodeStanding). h.0) below)
+    ≤ times q (map (λ (h : ℕ × NodeStanding). h.0) (stacked x ys below))
 under-stack q x [] below = omega arith
 under-stack q x (y ∷ ys) below =
     let rest = under-stack q (suc x) ys ((x, y) ∷ below) in
     let more : times q (map (λ (h : ℕ × NodeStanding). h.0) below) ≤ times q (x ∷ map (λ (h : ℕ × NodeStanding). h.0) below) = omega arith in
     omega (arith, rest, more)
 
-pub in-stack : (q x : ℕ) (ys : List NodeStanding) (below : List (ℕ × NodeStanding)) → x ≤ q → q < x + length ys → 0 < times q (map (λ (h : ℕ × NodeStanding). h.0) (stacked x ys below))
+pub in-stack : (q x : ℕ) (ys : List NodeStanding) (below : List (ℕ × NodeStanding)) → x ≤ q → q < x + length ys
+    → 0 < times q (map (λ (h : ℕ × NodeStanding). h.0) (stacked x ys below))
 in-stack q x [] below low high = absurd (omega (arith, low, high))
 in-stack q x (y ∷ ys) below low high = by (cases_eq q x) (in-stack q (suc x) ys ((x, y) ∷ below)) (under-stack q (suc x) ys ((x, y) ∷ below)) where
   by : (q ≡ x) ⊎ (q ≢ x) → (suc x ≤ q → q < suc x + length ys → 0 < times q (map (λ (h : ℕ × NodeStanding). h.0) (stacked (suc x) ys ((x, y) ∷ below))))
@@ -64,7 +69,8 @@ abbrev pub AreRun : Dimensions → List Event → ℕ → List NodeStanding → 
 AreRun s es x [] = Unit {0}
 AreRun s es x (y ∷ ys) = (y ≡ standing_at s es x) × AreRun s es (suc x) ys
 
-pub each-run : (s : Dimensions) (es : List Event) (x : ℕ) (ys : List NodeStanding) (below : List (ℕ × NodeStanding)) → Each (λ h. h.1 ≡ standing_at s es h.0) (stacked x ys below)
+pub each-run : (s : Dimensions) (es : List Event) (x : ℕ) (ys : List NodeStanding) (below : List (ℕ × NodeStanding))
+    → Each (λ h. h.1 ≡ standing_at s es h.0) (stacked x ys below)
     → AreRun s es x ys × Each (λ h. h.1 ≡ standing_at s es h.0) below
 each-run s es x [] below all = (tt, all)
 each-run s es x (y ∷ ys) below all =
@@ -72,7 +78,8 @@ each-run s es x (y ∷ ys) below all =
     ((rest.1.0, rest.0), rest.1.1)
 
 -- what nodes of a run become
-pub run-stack : (s : Dimensions) (es : List Event) (x : ℕ) (ys zs : List NodeStanding) (below next : List (ℕ × NodeStanding)) → length ys ≡ length zs → AreRun s es x zs → held_at s es below ≡ next
+pub run-stack : (s : Dimensions) (es : List Event) (x : ℕ) (ys zs : List NodeStanding)
+    (below next : List (ℕ × NodeStanding)) → length ys ≡ length zs → AreRun s es x zs → held_at s es below ≡ next
     → held_at s es (stacked x ys below) ≡ stacked x zs next
 run-stack s es x [] [] below next long run is = is
 run-stack s es x [] (z ∷ zs) below next long run is = absurd (omega (arith, long))
@@ -82,7 +89,8 @@ run-stack s es x (y ∷ ys) (z ∷ zs) below next long run is =
     run-stack s es (suc x) ys zs ((x, y) ∷ below) ((x, z) ∷ next) rest run.1 (λ i. (x, (sym run.0) i) ∷ is i)
 
 -- and their slots stay
-pub same-slots : (x : ℕ) (ys zs : List NodeStanding) (below next : List (ℕ × NodeStanding)) → length ys ≡ length zs → slots_left below ≡ slots_left next → slots_left (stacked x ys below) ≡ slots_left (stacked x zs next)
+pub same-slots : (x : ℕ) (ys zs : List NodeStanding) (below next : List (ℕ × NodeStanding)) → length ys ≡ length zs
+    → slots_left below ≡ slots_left next → slots_left (stacked x ys below) ≡ slots_left (stacked x zs next)
 same-slots x [] [] below next long is = is
 same-slots x [] (z ∷ zs) below next long is = absurd (omega (arith, long))
 same-slots x (y ∷ ys) [] below next long is = absurd (omega (arith, long))
@@ -102,22 +110,27 @@ drop-all (n ∷ ns) zero low = absurd (omega (arith, low))
 drop-all (n ∷ ns) (suc x) low = drop-all ns x (omega (arith, low))
 
 -- nodes of the run of all processes are its nodes
-run-nodes : (s : Dimensions) (es : List Event) (x : ℕ) (ys : List NodeStanding) → x + length ys ≡ length (after s es).nodes → AreRun s es x ys → nodes_of ys ≡ drop x (after s es).nodes
+run-nodes : (s : Dimensions) (es : List Event) (x : ℕ) (ys : List NodeStanding)
+    → x + length ys ≡ length (after s es).nodes → AreRun s es x ys → nodes_of ys ≡ drop x (after s es).nodes
 run-nodes s es x [] long run = sym (drop-all (after s es).nodes x (omega (arith, long)))
 run-nodes s es x (y ∷ ys) long run =
     let rest : suc x + length ys ≡ length (after s es).nodes = omega (arith, long) in
     (λ i. (run.0 i).node ∷ run-nodes s es (suc x) ys rest run.1 i)
     ∙ sym (drop-at (opening_node s (process_at s x)) (after s es).nodes x (omega (arith, long)))
 
-pub all-nodes : (s : Dimensions) (es : List Event) (ys : List NodeStanding) → length ys ≡ length (after s es).nodes → AreRun s es 0 ys → nodes_of ys ≡ (after s es).nodes
+pub all-nodes : (s : Dimensions) (es : List Event) (ys : List NodeStanding) → length ys ≡ length (after s es).nodes
+    → AreRun s es 0 ys → nodes_of ys ≡ (after s es).nodes
 all-nodes s es ys long run = run-nodes s es 0 ys (omega (arith, long)) run
 
 -- and the other way
-nodes-run : (s : Dimensions) (es : List Event) (x : ℕ) (ys : List NodeStanding) → x + length ys ≡ length (after s es).nodes → AreOf s ys → nodes_of ys ≡ drop x (after s es).nodes → AreRun s es x ys
+nodes-run : (s : Dimensions) (es : List Event) (x : ℕ) (ys : List NodeStanding)
+    → x + length ys ≡ length (after s es).nodes → AreOf s ys → nodes_of ys ≡ drop x (after s es).nodes
+    → AreRun s es x ys
 nodes-run s es x [] long shapes is = tt
 nodes-run s es x (y ∷ ys) long shapes is =
     let d : Node = opening_node s (process_at s x) in
-    let split : y.node ∷ nodes_of ys ≡ at d (after s es).nodes x ∷ drop (suc x) (after s es).nodes = is ∙ drop-at d (after s es).nodes x (omega (arith, long)) in
+    let split : y.node ∷ nodes_of ys ≡ at d (after s es).nodes x ∷ drop (suc x) (after s es).nodes =
+    is ∙ drop-at d (after s es).nodes x (omega (arith, long)) in
     let first : y.node ≡ at d (after s es).nodes x = cc split in
     let rest : nodes_of ys ≡ drop (suc x) (after s es).nodes = cc split in
     let longer : suc x + length ys ≡ length (after s es).nodes = omega (arith, long) in
@@ -130,7 +143,8 @@ nodes-run s es x (y ∷ ys) long shapes is =
     All-rest : (y : NodeStanding) (ys : List NodeStanding) → AreOf s (y ∷ ys) → AreOf s ys
     All-rest y ys all k d low = all (suc k) d (omega (arith, low))
 
-pub all-run : (s : Dimensions) (es : List Event) (ys : List NodeStanding) → length ys ≡ length (after s es).nodes → AreOf s ys → nodes_of ys ≡ (after s es).nodes → AreRun s es 0 ys
+pub all-run : (s : Dimensions) (es : List Event) (ys : List NodeStanding) → length ys ≡ length (after s es).nodes
+    → AreOf s ys → nodes_of ys ≡ (after s es).nodes → AreRun s es 0 ys
 all-run s es ys long shapes is = nodes-run s es 0 ys (omega (arith, long)) shapes is
 
 -- their shapes

@@ -40,7 +40,8 @@ length-zeros : (n : ℕ) → length (zeros_of n) ≡ n
 length-zeros zero = refl
 length-zeros (suc n) = ap suc (length-zeros n)
 
-pub opens : (plan : Plan) (ws : List ℕ) (xs : List (std.Option NodeStanding)) → IsAtStart plan ws xs → Kept plan (opening ws xs (blank plan.shape plan.callers 1 0))
+pub opens : (plan : Plan) (ws : List ℕ) (xs : List (std.Option NodeStanding)) → IsAtStart plan ws xs
+    → Kept plan (opening ws xs (blank plan.shape plan.callers 1 0))
 opens plan ws xs start =
     let zeros : (i : ℕ) → get_or ws i 0 ≡ 0 = λ i. ap (λ (l : List ℕ). get_or l i 0) start.words ∙ word-zero (word_of (processes_of plan.shape + 2)) i in
     let first : Fits plan.shape [] (next_in plan ws) (blank plan.shape plan.callers 1 0) = record {
@@ -77,7 +78,9 @@ opens plan ws xs start =
       each = λ j u e. at-first j u e first;
     }
   where
-    at-first : (j : ℕ) (u : View) → get_elem? (blank plan.shape plan.callers 1 0 ∷ []) j ≡ some u → Fits plan.shape [] (next_in plan ws) (blank plan.shape plan.callers 1 0) → Fits plan.shape [] (next_in plan ws) u
+    at-first : (j : ℕ) (u : View) → get_elem? (blank plan.shape plan.callers 1 0 ∷ []) j ≡ some u
+        → Fits plan.shape [] (next_in plan ws) (blank plan.shape plan.callers 1 0)
+        → Fits plan.shape [] (next_in plan ws) u
     at-first zero u e first = subst (Fits plan.shape [] (next_in plan ws)) (some-injective _ u e) first
     at-first (suc j) u e first = absurd (some-ne-none u (sym e))
 
@@ -90,14 +93,16 @@ module _ (plan : Plan) (st : St) (o : Kept plan st) (id : ℕ) (v : View) (me : 
   pub whole : IsWhole plan.shape o.schedule (v ∷ [])
   whole = record {
     many = let here = all-here (λ (u : View). length u.made) (λ u is. ap length is.made) in omega (arith, here, o.many);
-    once = λ k. let here = all-here (λ (u : View). drawn k u.made) (λ u is. ap (drawn k) is.made) in let sum = o.once k in sum-one (drawn k v.made) (total (λ (u : View). drawn k u.made) st.views) _ here sum;
+    once = λ k. let here = all-here (λ (u : View). drawn k u.made) (λ u is. ap (drawn k) is.made) in let sum =
+        o.once k in sum-one (drawn k v.made) (total (λ (u : View). drawn k u.made) st.views) _ here sum;
     answers = ((o.each id v me).made, tt);
   }
     where
       sum-one : (a b c : ℕ) → b ≡ a → b ≡ c → a + 0 ≡ c
       sum-one a b c x y = omega (arith, x, y)
 
-  pub at-home : v.held ≡ [] → (p : ℕ) → p < processes_of plan.shape → get_elem? st.homes (slot_of p) ≡ some (some (std.Some (standing_at plan.shape o.schedule p)))
+  pub at-home : v.held ≡ [] → (p : ℕ) → p < processes_of plan.shape → get_elem? st.homes (slot_of p)
+      ≡ some (some (std.Some (standing_at plan.shape o.schedule p)))
   at-home idle p low =
       let none_held : holding p v ≡ 0 = ap (λ (hs : List (ℕ × NodeStanding)). times p (map (λ h. h.0) hs)) idle in
       let here = all-here (holding p) (λ u is. ap (λ (hs : List (ℕ × NodeStanding)). times p (map (λ h. h.0) hs)) is.held) in

@@ -1,5 +1,7 @@
 -- Sums over the views of all seats, of which one changes.
-use Rattle.std.proofs.Common.{◌≡◌, ℕ, zero, suc, ◌+◌, ◌*◌, ◌<◌, ◌≤◌, ◌≢◌, List, [], ◌∷◌, ◌++◌, length, set, sym, refl, ap, ◌∙◌, ⊎_elim, arith, nat_lt, eqb, lt-ltb, le-ltb, eq-eqb, ne_eqb, Bool, true, false, cond}
+use Rattle.std.proofs.Common.{◌≡◌, ℕ, zero, suc, ◌+◌, ◌*◌, ◌<◌, ◌≤◌, ◌≢◌, List, [], ◌∷◌, ◌++◌, length, set, sym, refl}
+use Rattle.std.proofs.Common.{ap, ◌∙◌, ⊎_elim, arith, nat_lt, eqb, lt-ltb, le-ltb, eq-eqb, ne_eqb, Bool, true, false}
+use Rattle.std.proofs.Common.{cond}
 use Rattle.std.proofs.lemmas.Bool.{cases_eq, cases_lt}
 use mathlib.Core.Option.{some, some-injective, some-ne-none}
 use lib.ListN.{get_elem?}
@@ -47,19 +49,23 @@ module _ {A : Type 0} where
 
   pub total_scaled : (f : A → ℕ) (n : ℕ) (l : List A) → total (λ u. f u * n) l ≡ total f l * n
   total_scaled f n [] = omega arith
-  total_scaled f n (x ∷ xs) = let r : total (λ u. f u * n) xs ≡ total f xs * n = total_scaled f n xs in ap (λ (y : ℕ). f x * n + y) r ∙ spread (f x) (total f xs) n where
-    spread : (a b n : ℕ) → a * n + b * n ≡ (a + b) * n
-    spread a b n = grind arith
+  total_scaled f n (x ∷ xs) = let r : total (λ u. f u * n) xs ≡ total f xs * n = total_scaled f n xs in
+      ap (λ (y : ℕ). f x * n + y) r ∙ spread (f x) (total f xs) n where
+        spread : (a b n : ℕ) → a * n + b * n ≡ (a + b) * n
+        spread a b n = grind arith
 
   -- where all of f is in one place, and nothing of g is without f, all of g is there
   none_else : (f g : A → ℕ) (l : List A) → total f l ≡ 0 → ((k : ℕ) (u : A) → get_elem? l k ≡ some u → f u ≡ 0 → g u ≡ 0) → total g l ≡ 0
   none_else f g [] z h = refl
   none_else f g (x ∷ xs) z h = omega (arith, h zero x refl (omega arith), none_else f g xs (omega arith) (λ k u e. h (suc k) u e))
 
-  pub only_one : (f g : A → ℕ) (l : List A) (j : ℕ) (v : A) → get_elem? l j ≡ some v → total f l ≤ f v → ((k : ℕ) (u : A) → get_elem? l k ≡ some u → f u ≡ 0 → g u ≡ 0) → total g l ≡ g v
+  pub only_one : (f g : A → ℕ) (l : List A) (j : ℕ) (v : A) → get_elem? l j ≡ some v → total f l ≤ f v
+      → ((k : ℕ) (u : A) → get_elem? l k ≡ some u → f u ≡ 0 → g u ≡ 0) → total g l ≡ g v
   only_one f g [] j v e le h = absurd (some-ne-none v (sym e))
-  only_one f g (x ∷ xs) zero v e le h = let same = ap f (some-injective x v e) in omega (arith, ap g (some-injective x v e), none_else f g xs (omega arith) (λ k u e. h (suc k) u e))
-  only_one f g (x ∷ xs) (suc j) v e le h = let part = term_le f xs j v e in omega (arith, h zero x refl (omega arith), only_one f g xs j v e (omega arith) (λ k u e. h (suc k) u e))
+  only_one f g (x ∷ xs) zero v e le h = let same = ap f (some-injective x v e) in
+      omega (arith, ap g (some-injective x v e), none_else f g xs (omega arith) (λ k u e. h (suc k) u e))
+  only_one f g (x ∷ xs) (suc j) v e le h = let part = term_le f xs j v e in
+      omega (arith, h zero x refl (omega arith), only_one f g xs j v e (omega arith) (λ k u e. h (suc k) u e))
 
   pub each-snoc : (P : A → Type 0) (l : List A) (x : A) → Each P l → P x → Each P (l ++ x ∷ [])
   each-snoc P l x all last = each-append P l (x ∷ []) all (last, tt)
@@ -92,7 +98,8 @@ bit-no a b less = ap bit (le-ltb a b less)
 pub bit-more : (k n : ℕ) → bit (nat_lt k (suc n)) ≡ bit (nat_lt k n) + times k (n ∷ [])
 bit-more k n = ⊎_elim (λ (h : k < n). omega (arith, bit-yes k n h, bit-yes k (suc n) (omega arith), times-else k n [] (λ e. omega arith)))
     (λ (h : n ≤ k). ⊎_elim
-    (λ (e : n ≡ k). let here : times k (n ∷ []) ≡ 1 = ap (λ (x : ℕ). times k (x ∷ [])) e ∙ times-here k [] in omega (arith, bit-no k n h, bit-yes k (suc n) (omega arith), here))
+    (λ (e : n ≡ k). let here : times k (n ∷ []) ≡ 1 = ap (λ (x : ℕ). times k (x ∷ [])) e ∙ times-here k [] in
+    omega (arith, bit-no k n h, bit-yes k (suc n) (omega arith), here))
     (λ (ne : n ≢ k). let gone : times k (n ∷ []) ≡ 0 = times-else k n [] ne in omega (arith, bit-no k n h, bit-no k (suc n) (omega arith), gone))
     (cases_eq n k))
     (cases_lt k n)

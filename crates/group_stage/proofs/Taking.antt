@@ -1,5 +1,7 @@
 -- A call takes a word, or meets it held, and gives a word back.
-use Rattle.std.proofs.Common.{ℕ, zero, suc, ◌≡◌, ◌≢◌, ◌<◌, ◌+◌, ◌%◌, ⊎_elim, List, [], ◌∷◌, ◌++◌, length, map, get_or, set, refl, sym, ap, subst, ◌∙◌, arith, length-set, get_or-set_other, get_or-set_same, length-append}
+use Rattle.std.proofs.Common.{ℕ, zero, suc, ◌≡◌, ◌≢◌, ◌<◌, ◌+◌, ◌%◌, ⊎_elim, List, [], ◌∷◌, ◌++◌, length, map, get_or}
+use Rattle.std.proofs.Common.{set, refl, sym, ap, subst, ◌∙◌, arith, length-set, get_or-set_other, get_or-set_same}
+use Rattle.std.proofs.Common.{length-append}
 use Rattle.std.specs.Prelude as std
 use Rattle.std.proofs.lemmas.Bool.{cases_eq}
 use mathlib.Core.Option.{none, some}
@@ -26,7 +28,8 @@ use Rattle.group_stage.proofs.Moves.{Keeps, St, again, changed, knows, next_in, 
 
 -- what a step on a process's word may come to
 abbrev pub Goes : Plan → St → ℕ → ℕ → Sat → (ℕ → Sat → Type 0) → ℕ → Type 0
-Goes plan st i id m then n = (w : View) × (a : Act (std.Option NodeStanding)) × Valid st.homes m.1 a × Kept plan (stepped st i n id m.1 w a) × then (get_or st.words i 0) (w, carried_after m.1 a)
+Goes plan st i id m then n = (w : View) × (a : Act (std.Option NodeStanding)) × Valid st.homes m.1 a
+    × Kept plan (stepped st i n id m.1 w a) × then (get_or st.words i 0) (w, carried_after m.1 a)
 
 -- the words where one process's is changed
 module _ (plan : Plan) (ws : List ℕ) (wide : length ws ≡ word_of (processes_of plan.shape + 2)) (p n : ℕ) (within : p < processes_of plan.shape) where
@@ -64,14 +67,18 @@ module _ (plan : Plan) (st : St) (o : Kept plan st) (id : ℕ) (v : View) (me : 
       let here = word-here plan st.words o.wide p 1 within in
       let else = word-else plan st.words o.wide p 1 within in
       changed plan st o id v call calls due ((p, y) ∷ v.held) v.met v.cleared (set st.words (word_of p) 1) (set st.homes (slot_of p) none) me
-      (length-set st.words (word_of p) 1) (length-set st.homes (slot_of p) none) (history-else plan st.words o.wide p 1 within) (drawing-else plan st.words o.wide p 1 within)
+      (length-set st.words (word_of p) 1) (length-set st.homes (slot_of p) none)
+      (history-else plan st.words o.wide p 1 within) (drawing-else plan st.words o.wide p 1 within)
       (λ q low. ⊎_elim
-      (λ (e : q ≡ p). subst (λ (x : ℕ). times x (p ∷ map (λ h. h.0) v.held) + flag (word_in st.words x) ≡ holding x v + flag (word_in (set st.words (word_of p) 1) x)) (sym e)
+      (λ (e : q ≡ p). subst (λ (x : ℕ). times x (p ∷ map (λ h. h.0) v.held) + flag (word_in st.words x)
+      ≡ holding x v + flag (word_in (set st.words (word_of p) 1) x)) (sym e)
       (let a = times-here p (map (λ h. h.0) v.held) in let b = ap flag free in let c = ap flag here in omega (arith, a, b, c)))
       (λ (ne : q ≢ p). let a = times-else q p (map (λ h. h.0) v.held) (λ e. ne (sym e)) in let b = ap flag (else q ne) in omega (arith, a, b))
       (cases_eq q p))
       (λ q low. ⊎_elim
-      (λ (e : q ≡ p). subst (λ (x : ℕ). met_of x v + flag (word_in (set st.words (word_of p) 1) x) + cleared_of x v + word_in st.words x ≡ met_of x v + flag (word_in st.words x) + cleared_of x v + word_in (set st.words (word_of p) 1) x) (sym e)
+      (λ (e : q ≡ p). subst (λ (x : ℕ). met_of x v + flag (word_in (set st.words (word_of p) 1) x) + cleared_of x
+      v + word_in st.words x ≡ met_of x v + flag (word_in st.words x) + cleared_of x v + word_in
+      (set st.words (word_of p) 1) x) (sym e)
       (let b = ap flag free in let c = ap flag here in omega (arith, b, c, free, here)))
       (λ (ne : q ≢ p). let b = ap flag (else q ne) in omega (arith, b, else q ne))
       (cases_eq q p))
@@ -100,16 +107,23 @@ module _ (plan : Plan) (st : St) (o : Kept plan st) (id : ℕ) (v : View) (me : 
       let else = word-else plan st.words o.wide p (suc k + 1) within in
       let up : flag (suc k + 1) ≡ 1 = flag-up (suc k + 1) (omega arith) in
       changed plan st o id v call calls 0 v.held (v.met ++ p ∷ []) v.cleared (set st.words (word_of p) (suc k + 1)) st.homes me
-      (length-set st.words (word_of p) (suc k + 1)) refl (history-else plan st.words o.wide p (suc k + 1) within) (drawing-else plan st.words o.wide p (suc k + 1) within)
+      (length-set st.words (word_of p) (suc k + 1)) refl (history-else plan st.words o.wide p (suc k + 1) within)
+      (drawing-else plan st.words o.wide p (suc k + 1) within)
       (λ q low. ⊎_elim
       (λ (e : q ≡ p). subst (λ (x : ℕ). holding x v + flag (word_in st.words x) ≡ holding x v + flag (word_in (set st.words (word_of p) (suc k + 1)) x)) (sym e)
       (let b = ap flag is in let c = ap flag here in omega (arith, b, c, up)))
       (λ (ne : q ≢ p). let b = ap flag (else q ne) in omega (arith, b))
       (cases_eq q p))
       (λ q low. ⊎_elim
-      (λ (e : q ≡ p). subst (λ (x : ℕ). times x (v.met ++ p ∷ []) + flag (word_in (set st.words (word_of p) (suc k + 1)) x) + cleared_of x v + word_in st.words x ≡ met_of x v + flag (word_in st.words x) + cleared_of x v + word_in (set st.words (word_of p) (suc k + 1)) x) (sym e)
-      (let a = times-append p v.met (p ∷ []) in let t = times-here p [] in let b = ap flag is in let c = ap flag here in omega (arith, a, t, b, c, up, is, here)))
-      (λ (ne : q ≢ p). let a = times-append q v.met (p ∷ []) in let t = times-else q p [] (λ e. ne (sym e)) in let b = ap flag (else q ne) in omega (arith, a, t, b, else q ne))
+      (λ (e : q ≡ p).
+      subst (λ (x : ℕ). times x (v.met ++ p ∷ []) + flag
+      (word_in (set st.words (word_of p) (suc k + 1)) x) + cleared_of x v + word_in st.words x
+      ≡ met_of x v + flag (word_in st.words x) + cleared_of x v + word_in (set st.words (word_of p) (suc k + 1)) x)
+      (sym e)
+      (let a = times-append p v.met (p ∷ []) in let t = times-here p [] in let b = ap flag is in let c = ap flag here in
+      omega (arith, a, t, b, c, up, is, here)))
+      (λ (ne : q ≢ p). let a = times-append q v.met (p ∷ []) in let t = times-else q p [] (λ e. ne (sym e)) in
+      let b = ap flag (else q ne) in omega (arith, a, t, b, else q ne))
       (cases_eq q p))
       (λ q low zero_now. ⊎_elim
       (λ (e : q ≡ p). absurd (let one = ap (word_in (set st.words (word_of p) (suc k + 1))) e in omega (arith, one, here, zero_now)))
@@ -134,7 +148,8 @@ module _ (plan : Plan) (st : St) (o : Kept plan st) (id : ℕ) (v : View) (me : 
       flag-up zero low = absurd (omega (arith, low))
       flag-up (suc n) low = refl
 
-  goes : (slots : List (ℕ × std.Option NodeStanding)) (n : ℕ) → word_in st.words p ≡ n → Goes plan st (word_of p) id (v, slots) (Takes u p slots) ((word_in st.words p + 1) % 18446744073709551616)
+  goes : (slots : List (ℕ × std.Option NodeStanding)) (n : ℕ) → word_in st.words p ≡ n
+      → Goes plan st (word_of p) id (v, slots) (Takes u p slots) ((word_in st.words p + 1) % 18446744073709551616)
   goes slots zero is =
       let kept = free-kept is in
       let shape : v.shape ≡ plan.shape = fit.shape parts in
@@ -146,10 +161,14 @@ module _ (plan : Plan) (st : St) (o : Kept plan st) (id : ℕ) (v : View) (me : 
         o.home p within is,
         subst (λ (n : ℕ). Kept plan (stage (set st.words (word_of p) n) (set st.homes (slot_of p) none) (set st.views id w))) (sym one) kept.0,
         subst (λ (n : ℕ). Takes u p slots n (w, (slot_of p, std.Some y) ∷ slots)) (sym is)
-            (shaped slots shape (subst (λ (es : List Event). Knows es w) kept.1 (knows plan (stage (set st.words (word_of p) 1) (set st.homes (slot_of p) none) (set st.views id w)) kept.0 id w there parts is_due))),
+            (shaped slots shape
+            (subst (λ (es : List Event). Knows es w) kept.1
+            (knows plan (stage (set st.words (word_of p) 1) (set st.homes (slot_of p) none) (set st.views id w))
+            kept.0 id w there parts is_due))),
       )
     where
-      shaped : (slots : List (ℕ × std.Option NodeStanding)) → v.shape ≡ plan.shape → Knows o.schedule (with_held u p y) → (es : List Event) × IsTaken u p slots (with_held u p y, (slot_of p, std.Some y) ∷ slots) es
+      shaped : (slots : List (ℕ × std.Option NodeStanding)) → v.shape ≡ plan.shape → Knows o.schedule (with_held u p y)
+          → (es : List Event) × IsTaken u p slots (with_held u p y, (slot_of p, std.Some y) ∷ slots) es
       shaped slots shape k = (
         o.schedule,
         record {
@@ -186,18 +205,22 @@ module _ (plan : Plan) (slots id : ℕ) (m : Sat) (p i : ℕ) (here : i ≡ word
         own = fits.own;
         pen = fits.pen;
       } in
-      let found = goes plan st o id v me e (v.calls + 1) 1 p fit (omega arith) (let part = can.part in omega (arith, part)) can.within can.named m.1 (word_in st.words p) refl in
+      let found = goes plan st o id v me e (v.calls + 1) 1 p fit (omega arith) (let part = can.part in
+      omega (arith, part)) can.within can.named m.1 (word_in st.words p) refl in
       at-word found
     where
       at-word : Goes plan st (word_of p) id (m.0, m.1) (Takes (begun e m.0) p m.1) ((word_in st.words p + 1) % 18446744073709551616)
           → Goes plan st i id m (Begins e (step slots i 1 0 none) m) ((get_or st.words i 0 + 1) % 18446744073709551616)
       at-word found = subst (λ (j : ℕ). Goes plan st j id m (Begins e (step slots j 1 0 none) m) ((get_or st.words j 0 + 1) % 18446744073709551616)) (sym here)
-          (subst (λ (q : ℕ). Goes plan st (word_of p) id m (Takes (begun e m.0) q m.1) ((word_in st.words p + 1) % 18446744073709551616)) (sym (place-is p)) found)
+          (subst (λ (q : ℕ). Goes plan st (word_of p) id m (Takes (begun e m.0) q m.1)
+          ((word_in st.words p + 1) % 18446744073709551616)) (sym (place-is p)) found)
 
   pub takes-next : CanTake plan m.0 p → Allows (Kept plan) slots id m i (λ n. (n + 1) % 18446744073709551616) (TakesNext (step slots i 1 0 none) m)
   takes-next can st o wide me low =
       let v : View = m.0 in
-      let found = goes plan st o id v me v.call v.calls v.due p (o.each id v me) (let due = can.due in omega (arith, due)) (let part = can.part in omega (arith, part)) can.within can.named m.1 (word_in st.words p) refl in
+      let found = goes plan st o id v me v.call v.calls v.due p (o.each id v me) (let due = can.due in
+      omega (arith, due)) (let part = can.part in omega (arith, part)) can.within can.named m.1 (word_in st.words p)
+      refl in
       at-word found
     where
       at-word : Goes plan st (word_of p) id (m.0, m.1) (Takes m.0 p m.1) ((word_in st.words p + 1) % 18446744073709551616)

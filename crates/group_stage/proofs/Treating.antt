@@ -21,7 +21,9 @@ use Rattle.group_run.specs.Process.{Node}
 use Rattle.group_run.specs.Replica.{last_of}
 use Rattle.law_answers.specs.Numbers.{NumbersAreLow}
 use Rattle.law_answers.proofs.Numbers.{numbers_low_always}
-use Rattle.group_run.specs.World.{GroupStep, NodeStep, World, after, ask_node, collect_node, flush_node, group_step, names, next_name, node_of, one_changes, opening, opening_node, step, trace_node, unchanged}
+use Rattle.group_run.specs.World.{GroupStep, NodeStep, World, after, ask_node, collect_node, flush_node, group_step}
+use Rattle.group_run.specs.World.{names, next_name, node_of, one_changes, opening, opening_node, step, trace_node}
+use Rattle.group_run.specs.World.{unchanged}
 use Rattle.group_node.specs.Standing.{NodeStanding}
 use Rattle.group_node.specs.Steps.{made}
 use Rattle.group_node.specs.declared.node.NodeOut.{NodeOut}
@@ -51,7 +53,8 @@ pub record IsOne (s : Dimensions) (v : View) (e : Event) (p : ProcessId) : Type 
 abbrev pub Treats : View → Event → ℕ → NodeStanding → NodeStanding → Answer → Type 0
 Treats v e p y new a = (es : List Event) → Knows es (with_held (begun e v) p y) → (new ≡ standing_at v.shape (es ++ e ∷ []) p) × (a ≡ answer_at v.shape es e)
 
-pub one-treated : (s : Dimensions) (es : List Event) (e : Event) (p : ProcessId) (t : NodeStep) → IsProcess s p → group_step (after s es) e ≡ one_changes (after s es) p t
+pub one-treated : (s : Dimensions) (es : List Event) (e : Event) (p : ProcessId) (t : NodeStep) → IsProcess s p
+    → group_step (after s es) e ≡ one_changes (after s es) p t
     → (standing_at s (es ++ e ∷ []) (index_of s p) ≡ record { shape = s; node = t.node }) × (answer_at s es e ≡ t.answer)
 one-treated s es e p t pin is =
     let w : World = after s es in
@@ -75,7 +78,8 @@ module _ (v : View) (e : Event) (p : ℕ) (q : ProcessId) (y : NodeStanding) (pi
   own-shape es knows = ap (λ (z : NodeStanding). z.shape) (held-is es knows) ∙ sym (shape-is v.shape es)
 
   -- a step of the node by its shape, its node and the world
-  pub treats : (new : NodeStanding) (a : Answer) (f : World → Dimensions → Node → NodeStep) (t : NodeStep) → ((w : World) → group_step w e ≡ one_changes w q (f w w.shape (node_of w q)))
+  pub treats : (new : NodeStanding) (a : Answer) (f : World → Dimensions → Node → NodeStep) (t : NodeStep)
+      → ((w : World) → group_step w e ≡ one_changes w q (f w w.shape (node_of w q)))
       → new.shape ≡ y.shape → new.node ≡ t.node → a ≡ t.answer
       → ((es : List Event) → Knows es (with_held (begun e v) p y) → f (after v.shape es) y.shape y.node ≡ t) → Treats v e p y new a
   treats new a f t step same node answer is es knows =
@@ -87,7 +91,8 @@ module _ (v : View) (e : Event) (p : ℕ) (q : ProcessId) (y : NodeStanding) (pi
       (stand ∙ sym both.0 ∙ ap (standing_at v.shape (es ++ e ∷ [])) (sym here), answer ∙ sym both.1)
 
 -- what is in hand can be finished
-pub can-finish : (plan : Plan) (v : View) (e : Event) (p : ℕ) (q : ProcessId) (slots : List (ℕ × Option NodeStanding)) (y new : NodeStanding) (a : Answer) (m : Sat) → IsIdle (v, slots) → v.shape ≡ plan.shape
+pub can-finish : (plan : Plan) (v : View) (e : Event) (p : ℕ) (q : ProcessId) (slots : List (ℕ × Option NodeStanding))
+    (y new : NodeStanding) (a : Answer) (m : Sat) → IsIdle (v, slots) → v.shape ≡ plan.shape
     → Holds v e q p slots y m → IsOne v.shape v e q → Treats v e p y new a → CanFinish plan m p new
 can-finish plan v e p q slots y new a m ready shape held one treats =
     let is = held.taken.1 in
@@ -116,7 +121,8 @@ can-finish plan v e p q slots y new a m ready shape held one treats =
     })
 
 -- and is the event then
-pub made-ended : (v : View) (e : Event) (p : ℕ) (q : ProcessId) (slots : List (ℕ × Option NodeStanding)) (y new : NodeStanding) (a : Answer) (m w : Sat) → IsIdle (v, slots) → Holds v e q p slots y m
+pub made-ended : (v : View) (e : Event) (p : ℕ) (q : ProcessId) (slots : List (ℕ × Option NodeStanding))
+    (y new : NodeStanding) (a : Answer) (m w : Sat) → IsIdle (v, slots) → Holds v e q p slots y m
     → IsOne v.shape v e q → Treats v e p y new a
     → (fs : List Event) × Knows fs m.0 × ((found : ℕ) × (w ≡ (released (committed fs m.0) p found, []))) → Ended e v (Made a) w.0
 made-ended v e p q slots y new a m w ready held one treats fin =
@@ -154,56 +160,78 @@ made-ended v e p q slots y new a m w ready held one treats fin =
 pub flush-one : (s : Dimensions) (v : View) (p : ProcessId) → IsProcess s p → IsOne s v (Flush p) p
 flush-one s v p pin = record { named = refl; own = λ c no. refl; may = λ w shape asked. subst (λ (t : Dimensions). IsProcess t p) (sym shape) pin }
 
-pub flush-treats : (v : View) (p : ℕ) (q : ProcessId) (y new : NodeStanding) (out : NodeOut) → IsProcess v.shape q → p ≡ index_of v.shape q → new.shape ≡ y.shape
+pub flush-treats : (v : View) (p : ℕ) (q : ProcessId) (y new : NodeStanding) (out : NodeOut) → IsProcess v.shape q
+    → p ≡ index_of v.shape q → new.shape ≡ y.shape
     → flush_node y.shape y.node ≡ made new.node out → Treats v (Flush q) p y new out.answer
-flush-treats v p q y new out pin here shape is = treats v (Flush q) p q y pin here new out.answer (λ w s n. flush_node s n) (made new.node out) (λ w. refl) shape refl refl (λ es knows. is)
+flush-treats v p q y new out pin here shape is = treats v (Flush q) p q y pin here new out.answer
+    (λ w s n. flush_node s n) (made new.node out) (λ w. refl) shape refl refl (λ es knows. is)
 
 pub collect-one : (s : Dimensions) (v : View) (caller call : ℕ) (p : ProcessId) → caller < callers → IsProcess s p → IsOne s v (Collect caller call p) p
-collect-one s v caller call p low pin = record { named = refl; own = λ c no. refl; may = λ w shape asked. (low, subst (λ (t : Dimensions). IsProcess t p) (sym shape) pin) }
+collect-one s v caller call p low pin =
+    record {
+      named = refl;
+      own = λ c no. refl;
+      may = λ w shape asked. (low, subst (λ (t : Dimensions). IsProcess t p) (sym shape) pin);
+    }
 
-pub collect-treats : (v : View) (p caller call : ℕ) (q : ProcessId) (y new : NodeStanding) (a : Answer) → IsProcess v.shape q → p ≡ index_of v.shape q → new.shape ≡ y.shape
+pub collect-treats : (v : View) (p caller call : ℕ) (q : ProcessId) (y new : NodeStanding) (a : Answer)
+    → IsProcess v.shape q → p ≡ index_of v.shape q → new.shape ≡ y.shape
     → collect_node y.shape caller call y.node ≡ unchanged a new.node → Treats v (Collect caller call q) p y new a
 collect-treats v p caller call q y new a pin here shape is =
-    treats v (Collect caller call q) p q y pin here new a (λ w s n. collect_node s caller call n) (unchanged a new.node) (λ w. refl) shape refl refl (λ es knows. is)
+    treats v (Collect caller call q) p q y pin here new a (λ w s n. collect_node s caller call n) (unchanged a new.node)
+    (λ w. refl) shape refl refl (λ es knows. is)
 
 -- a caller's own number
 own-times : (v : View) (caller : ℕ) → v.numbers ≡ caller ∷ [] → 0 < times caller v.numbers
 own-times v caller own = let one = times-here caller [] in let same = ap (times caller) own in omega (arith, one, same)
 
-pub trace-one : (s : Dimensions) (v : View) (caller call : ℕ) (d : Partition) (p : ProcessId) → caller < callers → v.numbers ≡ caller ∷ [] → call < asks_by caller v.made → d.0 < s.k → IsProcess s p
+pub trace-one : (s : Dimensions) (v : View) (caller call : ℕ) (d : Partition) (p : ProcessId) → caller < callers
+    → v.numbers ≡ caller ∷ [] → call < asks_by caller v.made → d.0 < s.k → IsProcess s p
     → IsOne s v (Trace caller call d p) p
 trace-one s v caller call d p low own asked within pin = record {
   named = refl;
   own = λ c no. refl;
-  may = λ w shape known. (low, (let same = known caller (own-times v caller own) in omega (arith, same, asked)), subst (λ (t : Dimensions). d.0 < t.k) (sym shape) within, subst (λ (t : Dimensions). IsProcess t p) (sym shape) pin);
+  may = λ w shape known. (
+    low,
+    (let same = known caller (own-times v caller own) in omega (arith, same, asked)),
+    subst (λ (t : Dimensions). d.0 < t.k) (sym shape) within,
+    subst (λ (t : Dimensions). IsProcess t p) (sym shape)
+        pin,
+  );
 }
 
 pub trace-treats : (v : View) (p caller call : ℕ) (d : Partition) (q : ProcessId) (y : NodeStanding) (a : Answer) → IsProcess v.shape q → p ≡ index_of v.shape q
     → trace_node y.shape caller call d.0 y.node ≡ unchanged a y.node → Treats v (Trace caller call d q) p y y a
 trace-treats v p caller call d q y a pin here is =
-    treats v (Trace caller call d q) p q y pin here y a (λ w s n. trace_node s caller call d.0 n) (unchanged a y.node) (λ w. refl) refl refl refl (λ es knows. is)
+    treats v (Trace caller call d q) p q y pin here y a (λ w s n. trace_node s caller call d.0 n) (unchanged a y.node)
+    (λ w. refl) refl refl refl (λ es knows. is)
 
-pub ask-one : (s : Dimensions) (v : View) (caller : ℕ) (op : Asked) (p : ProcessId) → caller < callers → v.numbers ≡ caller ∷ [] → All (λ b. b < 256) (value_of op.act) → IsProcess s p → IsOne s v (Ask caller op p) p
+pub ask-one : (s : Dimensions) (v : View) (caller : ℕ) (op : Asked) (p : ProcessId) → caller < callers
+    → v.numbers ≡ caller ∷ [] → All (λ b. b < 256) (value_of op.act) → IsProcess s p → IsOne s v (Ask caller op p) p
 ask-one s v caller op p low own bytes pin = record {
   named = refl;
   own = λ c no. let same = ap (times c) own in omega (arith, same, no);
   may = λ w shape asked. (low, subst (λ (t : Dimensions). IsProcess t p) (sym shape) pin, bytes);
 }
 
-pub ask-treats : (v : View) (p caller call : ℕ) (op : Asked) (q : ProcessId) (y new : NodeStanding) (out : NodeOut) → v.numbers ≡ caller ∷ [] → call ≡ asks_by caller v.made → IsProcess v.shape q → p ≡ index_of v.shape q
-    → new.shape ≡ y.shape → ask_node y.shape (record { caller = caller; call = call }) op y.node ≡ made new.node out → Treats v (Ask caller op q) p y new out.answer
+pub ask-treats : (v : View) (p caller call : ℕ) (op : Asked) (q : ProcessId) (y new : NodeStanding) (out : NodeOut)
+    → v.numbers ≡ caller ∷ [] → call ≡ asks_by caller v.made → IsProcess v.shape q → p ≡ index_of v.shape q
+    → new.shape ≡ y.shape → ask_node y.shape (record { caller = caller; call = call }) op y.node ≡ made new.node out
+    → Treats v (Ask caller op q) p y new out.answer
 ask-treats v p caller call op q y new out own asked pin here shape is =
     treats v (Ask caller op q) p q y pin here new out.answer (λ w s n. ask_node s (next_name w caller) op n) (made new.node out) (λ w. refl) shape refl refl
     (λ es knows. let same : asked_at v.shape es caller ≡ call = knows.asked caller (own-times v caller own) ∙ sym asked in
     ap (λ (n : ℕ). ask_node y.shape (record { caller = caller; call = n }) op y.node) same ∙ is)
 
 -- the numbers at the node in hand can rise
-module _ (v : View) (e : Event) (p : ℕ) (q : ProcessId) (slots : List (ℕ × Option NodeStanding)) (y : NodeStanding) (m : Sat) (held : Holds v e q p slots y m) where
+module _ (v : View) (e : Event) (p : ℕ) (q : ProcessId) (slots : List (ℕ × Option NodeStanding)) (y : NodeStanding)
+    (m : Sat) (held : Holds v e q p slots y m) where
   low-is : NumbersAreLow (after v.shape held.taken.0)
   low-is = numbers_low_always v.shape held.taken.0 held.taken.1.knows.run
 
   node-same : y.node ≡ node_of (after v.shape held.taken.0) q
-  node-same = ap (λ (z : NodeStanding). z.node) (held.taken.1.node ∙ ap (standing_at v.shape held.taken.0) held.here) ∙ node-is v.shape held.taken.0 q held.inside
+  node-same = ap (λ (z : NodeStanding). z.node) (held.taken.1.node ∙ ap (standing_at v.shape held.taken.0) held.here)
+      ∙ node-is v.shape held.taken.0 q held.inside
 
   few : (after v.shape held.taken.0).events < 4611686018427387904
   few = let many = events-after v.shape held.taken.0 in let low = held.taken.1.knows.few in omega (arith, many, low)
@@ -213,7 +241,9 @@ module _ (v : View) (e : Event) (p : ℕ) (q : ProcessId) (slots : List (ℕ × 
 
   pub low-updates : y.node.dead ≡ false → All (λ r. last_of r < 4611686018427387904) y.node.process.replicas
   low-updates dead = subst (λ (n : Node). All (λ r. last_of r < 4611686018427387904) n.process.replicas) (sym node-same)
-      (All-weaker (λ r. last_of r ≤ (after v.shape held.taken.0).events) (λ r. last_of r < 4611686018427387904) (λ r low. let f = few in omega (arith, low, f)) _ (low-is.updates q (lives dead)))
+      (All-weaker (λ r. last_of r ≤ (after v.shape held.taken.0).events) (λ r. last_of r < 4611686018427387904)
+      (λ r low. let f = few in omega (arith, low, f)) _ (low-is.updates q (lives dead)))
 
   pub low-sessions : y.node.dead ≡ false → y.node.process.as_leader.last_session < 4611686018427387904
-  low-sessions dead = let low = low-is.sessions q (lives dead) in let f = few in let same = ap (λ (n : Node). n.process.as_leader.last_session) node-same in omega (arith, low, f, same)
+  low-sessions dead = let low = low-is.sessions q (lives dead) in let f = few in let same =
+      ap (λ (n : Node). n.process.as_leader.last_session) node-same in omega (arith, low, f, same)

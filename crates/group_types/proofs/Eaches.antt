@@ -44,7 +44,8 @@ each-middle P [] y ys a = a.0
 each-middle P (x ∷ xs) y ys a = each-middle P xs y ys a.1
 
 -- what is said of each for every y, is said for every y of each
-pub each-every : {X Y : Type 0} (Q : Y → Type 0) (P : X → Y → Type 0) (xs : List X) → ((y : Y) → Q y → Each (λ x. P x y) xs) → Each (λ x. (y : Y) → Q y → P x y) xs
+pub each-every : {X Y : Type 0} (Q : Y → Type 0) (P : X → Y → Type 0) (xs : List X)
+    → ((y : Y) → Q y → Each (λ x. P x y) xs) → Each (λ x. (y : Y) → Q y → P x y) xs
 each-every Q P [] every = tt
 each-every Q P (x ∷ xs) every = ((λ y q. (every y q).0), each-every Q P xs (λ y q. (every y q).1))
 

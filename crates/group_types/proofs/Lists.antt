@@ -103,10 +103,13 @@ map-put f d e (x ∷ xs) zero y within same = ap (λ (first : _). first ∷ map 
 map-put f d e (x ∷ xs) (suc i) y within same = ap (λ (rest : List _). f x ∷ rest) (map-put f d e xs i y (omega arith) same)
 
 -- what is read of each entry, index by index
-pub map-indices : {X Y : Type 0} (f : X → Y) (d : X) (g : ℕ → Y) (xs : List X) (a : ℕ) → ((i : ℕ) → i < length xs → f (at d xs i) ≡ g (a + i)) → map f xs ≡ map g (range_with_len a (length xs))
+pub map-indices : {X Y : Type 0} (f : X → Y) (d : X) (g : ℕ → Y) (xs : List X) (a : ℕ)
+    → ((i : ℕ) → i < length xs → f (at d xs i) ≡ g (a + i)) → map f xs ≡ map g (range_with_len a (length xs))
 map-indices f d g [] a same = refl
 map-indices f d g (x ∷ xs) a same =
     let here : a + 0 ≡ a = omega arith in
     let first : f x ≡ g a = same 0 (omega arith) ∙ ap g here in
-    let rest : map f xs ≡ map g (range_with_len (a + 1) (length xs)) = map-indices f d g xs (a + 1) (λ i within. let there : a + suc i ≡ a + 1 + i = omega arith in same (suc i) (omega arith) ∙ ap g there) in
+    let rest : map f xs ≡ map g (range_with_len (a + 1) (length xs)) =
+    map-indices f d g xs (a + 1) (λ i within. let there : a + suc i ≡ a + 1 + i = omega arith in
+    same (suc i) (omega arith) ∙ ap g there) in
     λ j. first j ∷ rest j

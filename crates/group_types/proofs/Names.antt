@@ -1,4 +1,5 @@
-use Rattle.std.proofs.Common.{ℕ, zero, suc, ◌≡◌, ◌≢◌, ◌<◌, ◌≤◌, ◌+◌, ◌-◌, ◌==◌, nat_lt, Bool, true, false, if◌then◌else◌, ◌⊎◌, inl, inr, refl, sym, ap, ◌∙◌, arith}
+use Rattle.std.proofs.Common.{ℕ, zero, suc, ◌≡◌, ◌≢◌, ◌<◌, ◌≤◌, ◌+◌, ◌-◌, ◌==◌, nat_lt, Bool, true, false}
+use Rattle.std.proofs.Common.{if◌then◌else◌, ◌⊎◌, inl, inr, refl, sym, ap, ◌∙◌, arith}
 use Rattle.std.proofs.lemmas.Grind.{common_steps}
 use Rattle.group_types.specs.Dimensions.{Dimensions}
 use Rattle.group_types.specs.Names.{IsProcess, index_of, process_at, same_process}
@@ -7,7 +8,8 @@ use Rattle.group_types.specs.declared.process.ProcessId.TheVariants.{DataNode, P
 
 -- the process at its index is it
 pub process_at-index : (s : Dimensions) (p : ProcessId) → IsProcess s p → process_at s (index_of s p) ≡ p
-process_at-index s (DataNode d) within = let low : nat_lt d s.k ≡ true = grind (arith, common_steps) in ap (λ (b : Bool). if b then DataNode d else ParityNode (d - s.k)) low
+process_at-index s (DataNode d) within = let low : nat_lt d s.k ≡ true = grind (arith, common_steps) in
+    ap (λ (b : Bool). if b then DataNode d else ParityNode (d - s.k)) low
 process_at-index s (ParityNode i) within =
     let high : nat_lt (s.k + i) s.k ≡ false = grind (arith, common_steps) in
     ap (λ (b : Bool). if b then DataNode (s.k + i) else ParityNode (s.k + i - s.k)) high ∙ ap ParityNode (omega arith)

@@ -2,7 +2,8 @@
 use Rattle.std.proofs.Common.{◌≡◌, ◌≢◌, ℕ, ◌+◌, ◌<◌, ◌≤◌, ◌==◌, List, [], ◌++◌, length, take, get_or, set, Contains, below_more, inl, inr, sym, ap, ◌∙◌, arith}
 use Rattle.std.specs.List.{position_or_len}
 use Rattle.std.proofs.lemmas.Bool.{eq-eqb, ne_eqb, eqb-true, cases_lt, true≢false}
-use Rattle.std.proofs.lemmas.List.{length-map, get_or-map, map-set, get_or-set_same, get_or-set_other, set-get_or, get_or_default, take_all, drop_all, append-nil}
+use Rattle.std.proofs.lemmas.List.{length-map, get_or-map, map-set, get_or-set_same, get_or-set_other, set-get_or}
+use Rattle.std.proofs.lemmas.List.{get_or_default, take_all, drop_all, append-nil}
 use Rattle.std.proofs.lemmas.List.Sums.{position_or_len_is, fails_before_first, passes_at_first}
 use Rattle.group_types.specs.Pieces.{numbers_of, place_of, piece_of, bytes_of, overwritten, with_bytes}
 use Rattle.group_types.specs.declared.piece_list.Piece.{Piece}
@@ -14,10 +15,13 @@ IsMissing pieces number n = (k : ℕ) → k < n → get_or (numbers_of pieces) k
 pub number_at : (pieces : List Piece) (i : ℕ) (d : Piece) → i < length pieces → get_or (numbers_of pieces) i 0 ≡ (get_or pieces i d).number
 number_at pieces i d within = get_or-map (λ p. p.number) pieces i d 0 within
 
-pub missing_more : (pieces : List Piece) (number i : ℕ) (d : Piece) → i < length pieces → (get_or pieces i d).number ≢ number → IsMissing pieces number i → IsMissing pieces number (i + 1)
-missing_more pieces number i d within other missing = below_more (λ k. get_or (numbers_of pieces) k 0 ≢ number) i missing (λ same. other (sym (number_at pieces i d within) ∙ same))
+pub missing_more : (pieces : List Piece) (number i : ℕ) (d : Piece) → i < length pieces → (get_or pieces i d).number
+    ≢ number → IsMissing pieces number i → IsMissing pieces number (i + 1)
+missing_more pieces number i d within other missing = below_more (λ k. get_or (numbers_of pieces) k 0 ≢ number) i
+    missing (λ same. other (sym (number_at pieces i d within) ∙ same))
 
-pub place_found : (pieces : List Piece) (number i : ℕ) (d : Piece) → i < length pieces → (get_or pieces i d).number ≡ number → IsMissing pieces number i → i ≡ place_of pieces number
+pub place_found : (pieces : List Piece) (number i : ℕ) (d : Piece) → i < length pieces → (get_or pieces i d).number
+    ≡ number → IsMissing pieces number i → i ≡ place_of pieces number
 place_found pieces number i d within here missing =
     let long = length-map pieces (λ p. p.number) in
     sym (position_or_len_is (λ n. n == number) (numbers_of pieces) i 0 (omega (arith, long)) (λ k below. ne_eqb _ number (missing k below))
@@ -45,7 +49,8 @@ number_found pieces number found =
     ∙ eqb-true _ number (passes_at_first (λ n. n == number) (numbers_of pieces) 0 (omega (arith, long, within)))
 
 -- where two numbers have one place, that place's number is both
-other_number : (pieces : List Piece) (number other : ℕ) → Contains (numbers_of pieces) number → place_of pieces other ≡ place_of pieces number → (piece_of pieces number).number ≡ other
+other_number : (pieces : List Piece) (number other : ℕ) → Contains (numbers_of pieces) number
+    → place_of pieces other ≡ place_of pieces number → (piece_of pieces number).number ≡ other
 other_number pieces number other found same =
     let within = place_within pieces number found in
     let long = length-map pieces (λ p. p.number) in
@@ -54,7 +59,8 @@ other_number pieces number other found same =
     ∙ eqb-true _ other (passes_at_first (λ n. n == other) (numbers_of pieces) 0 (omega (arith, long, within, same))))
 
 -- writing into a piece leaves the numbers
-pub numbers_kept : (pieces : List Piece) (number : ℕ) (bytes : List ℕ) → Contains (numbers_of pieces) number → numbers_of (with_bytes pieces number bytes) ≡ numbers_of pieces
+pub numbers_kept : (pieces : List Piece) (number : ℕ) (bytes : List ℕ) → Contains (numbers_of pieces) number
+    → numbers_of (with_bytes pieces number bytes) ≡ numbers_of pieces
 numbers_kept pieces number bytes found =
     let within = place_within pieces number found in
     let at = place_of pieces number in
@@ -67,20 +73,24 @@ overwritten_whole bytes others same =
     ∙ take_all (length bytes) others (omega (arith, same))
 
 -- it changes that piece's bytes
-pub bytes_written : (pieces : List Piece) (number : ℕ) (bytes : List ℕ) → Contains (numbers_of pieces) number → length bytes ≡ length (bytes_of pieces number) → bytes_of (with_bytes pieces number bytes) number ≡ bytes
+pub bytes_written : (pieces : List Piece) (number : ℕ) (bytes : List ℕ) → Contains (numbers_of pieces) number
+    → length bytes ≡ length (bytes_of pieces number) → bytes_of (with_bytes pieces number bytes) number ≡ bytes
 bytes_written pieces number bytes found same =
     let within = place_within pieces number found in
     let at = place_of pieces number in
     let new : Piece = record (piece_of pieces number) { bytes = overwritten (bytes_of pieces number) bytes } in
-    ap (λ ns. (get_or (set pieces at new) (position_or_len (λ n. n == number) ns) (record { number = number; bytes = [] })).bytes) (numbers_kept pieces number bytes found)
+    ap (λ ns. (get_or (set pieces at new) (position_or_len (λ n. n == number) ns)
+    (record { number = number; bytes = [] })).bytes) (numbers_kept pieces number bytes found)
     ∙ (ap (λ (p : Piece). p.bytes) (get_or-set_same pieces at new (record { number = number; bytes = [] }) within)
     ∙ overwritten_whole (bytes_of pieces number) bytes same)
 
 -- and no other's
-pub bytes_kept : (pieces : List Piece) (number : ℕ) (bytes : List ℕ) (other : ℕ) → Contains (numbers_of pieces) number → other ≢ number → bytes_of (with_bytes pieces number bytes) other ≡ bytes_of pieces other
+pub bytes_kept : (pieces : List Piece) (number : ℕ) (bytes : List ℕ) (other : ℕ) → Contains (numbers_of pieces) number
+    → other ≢ number → bytes_of (with_bytes pieces number bytes) other ≡ bytes_of pieces other
 bytes_kept pieces number bytes other found differ =
     let at = place_of pieces number in
     let new : Piece = record (piece_of pieces number) { bytes = overwritten (bytes_of pieces number) bytes } in
     let apart : place_of pieces other ≢ at = λ same. differ (sym (other_number pieces number other found same) ∙ number_found pieces number found) in
-    ap (λ ns. (get_or (set pieces at new) (position_or_len (λ n. n == other) ns) (record { number = other; bytes = [] })).bytes) (numbers_kept pieces number bytes found)
+    ap (λ ns. (get_or (set pieces at new) (position_or_len (λ n. n == other) ns)
+    (record { number = other; bytes = [] })).bytes) (numbers_kept pieces number bytes found)
     ∙ ap (λ (p : Piece). p.bytes) (get_or-set_other pieces at (place_of pieces other) new (record { number = other; bytes = [] }) apart)

@@ -6,13 +6,15 @@ use Rattle.group_types.specs.Dimensions.{Dimensions}
 use Rattle.group_types.specs.Names.{IsProcess}
 use Rattle.group_types.specs.declared.process.ProcessId.{ProcessId}
 use Rattle.group_types.proofs.Names.{same-cases}
-use Rattle.group_wire.specs.Actions.{Action, Begin, Send, Read, Treat, Collect, Flush, Learn, Receive, GiveUp, Cut, Say, Hear, Permit, Take, Ping, Pong, Count, Show, LetGo, Stop}
+use Rattle.group_wire.specs.Actions.{Action, Begin, Send, Read, Treat, Collect, Flush, Learn, Receive, GiveUp, Cut, Say}
+use Rattle.group_wire.specs.Actions.{Hear, Permit, Take, Ping, Pong, Count, Show, LetGo, Stop}
 use Rattle.group_wire.specs.Composed.{Composed, failed_after}
 use Rattle.group_wire.specs.May.{MayAct}
 use Rattle.group_wire.specs.Sets.{IsWithin, Processes, changed, either, nobody, one_or, size_of, with_one}
 use Rattle.group_wire.specs.State.{Words, opening_group}
 use Rattle.group_wire.specs.Sending.{heard_first, words_after}
-use Rattle.group_wire.proofs.Changes.{changed-each, changed-here, changed-other, changed-pairs, either-left, either-right, either-which, either-not, grown-set, size-within, size-nobody}
+use Rattle.group_wire.proofs.Changes.{changed-each, changed-here, changed-other, changed-pairs, either-left}
+use Rattle.group_wire.proofs.Changes.{either-right, either-which, either-not, grown-set, size-within, size-nobody}
 
 -- r has said to p that it has cut x, which p has heard or which is on the wire
 abbrev pub told : Words → ProcessId → ProcessId → Processes
@@ -41,7 +43,8 @@ pub record Barred (s : Dimensions) (w : Words) (failed : Processes) : Type 0 whe
   pub lost : size_of s failed ≤ s.m
   pub deposed : ((x : ProcessId) → failed x ≡ false) ⊎ Deposed s w failed
 
-pub any-push : (f : Processes → Bool) (sets : List Processes) (set : Processes) → list_any f (sets ++ set ∷ []) ≡ true → (list_any f sets ≡ true) ⊎ (f set ≡ true)
+pub any-push : (f : Processes → Bool) (sets : List Processes) (set : Processes) → list_any f (sets ++ set ∷ []) ≡ true
+    → (list_any f sets ≡ true) ⊎ (f set ≡ true)
 any-push f [] set some = by (f set) some where
   by : (b : Bool) → (b || false) ≡ true → (false ≡ true) ⊎ (b ≡ true)
   by true is = inr refl
@@ -79,12 +82,14 @@ told-said w p r q x is = changed-each
       last (inl some) = inl (or-right (w.heard q p x) (list_any (λ set. set x) (w.said p q)) some)
       last (inr cut) = inr (refl, uncut, cut)
 
-      which : (w.heard q p x ≡ true) ⊎ (list_any (λ set. set x) (w.said p q ++ w.cut p ∷ []) ≡ true) → (told w p q x ≡ true) ⊎ ((p ≡ p) × (w.cut p q ≡ false) × (w.cut p x ≡ true))
+      which : (w.heard q p x ≡ true) ⊎ (list_any (λ set. set x) (w.said p q ++ w.cut p ∷ []) ≡ true)
+          → (told w p q x ≡ true) ⊎ ((p ≡ p) × (w.cut p q ≡ false) × (w.cut p x ≡ true))
       which (inl heard) = inl (or-left (w.heard q p x) (list_any (λ set. set x) (w.said p q)) heard)
       which (inr some) = last (any-push (λ set. set x) (w.said p q) (w.cut p) some)
 
 -- what was told after a set was heard is what was told before
-told-heard : (w : Words) (y p : ProcessId) (sets : List Processes) → w.said y p ≡ sets → (r q x : ProcessId) → told (heard_first y p sets w) r q x ≡ true → told w r q x ≡ true
+told-heard : (w : Words) (y p : ProcessId) (sets : List Processes) → w.said y p ≡ sets → (r q x : ProcessId)
+    → told (heard_first y p sets w) r q x ≡ true → told w r q x ≡ true
 told-heard w y p [] is r q x some = some
 told-heard w y p (set ∷ rest) is r q x some = by (same-cases r y) (same-cases q p) some where
   after : Words
@@ -144,7 +149,8 @@ told-heard w y p (set ∷ rest) is r q x some = by (same-cases r y) (same-cases 
 pub heard-grows : (w : Words) (y p : ProcessId) (sets : List Processes) (q r : ProcessId) → IsWithin (w.heard q r) ((heard_first y p sets w).heard q r)
 heard-grows w y p [] q r x some = some
 heard-grows w y p (set ∷ rest) q r x some =
-    changed-pairs (λ q r now. w.heard q r x ≡ true → now x ≡ true) w.heard p y (either (w.heard p y) set) (λ old. either-left (w.heard p y) set x old) (λ a b old. old) q r some
+    changed-pairs (λ q r now. w.heard q r x ≡ true → now x ≡ true) w.heard p y (either (w.heard p y) set)
+    (λ old. either-left (w.heard p y) set x old) (λ a b old. old) q r some
 
 -- where words and who has failed stay, all holds; the moves that change them keep it
 module _ (s : Dimensions) (w : Words) (failed : Processes) (b : Barred s w failed) where
@@ -231,7 +237,8 @@ module _ (s : Dimensions) (w : Words) (failed : Processes) (b : Barred s w faile
     before : (r q x : ProcessId) → told (heard_first y p (set ∷ rest) w) r q x ≡ true → told w r q x ≡ true
     before = told-heard w y p (set ∷ rest) is
 
-    depose : ((x : ProcessId) → failed x ≡ false) ⊎ Deposed s w failed → ((x : ProcessId) → failed x ≡ false) ⊎ Deposed s (heard_first y p (set ∷ rest) w) failed
+    depose : ((x : ProcessId) → failed x ≡ false) ⊎ Deposed s w failed → ((x : ProcessId) → failed x ≡ false)
+        ⊎ Deposed s (heard_first y p (set ∷ rest) w) failed
     depose (inl none) = inl none
     depose (inr d) = inr (record {
       by = d.by;
@@ -289,7 +296,8 @@ module _ (s : Dimensions) (w : Words) (failed : Processes) (b : Barred s w faile
       taken = taken_now;
       few = b.few;
       cut = b.cut;
-      permits = changed-each (λ q set. IsProcess s q → failed q ≡ false → IsWithin set failed) w.permitted p (w.cut p) (λ qin lives. cc (lives, ghost)) (λ q _. b.permits q);
+      permits = changed-each (λ q set. IsProcess s q → failed q ≡ false → IsWithin set failed) w.permitted p (w.cut p)
+          (λ qin lives. cc (lives, ghost)) (λ q _. b.permits q);
       lost = b.lost;
       deposed = depose b.deposed;
     } where
@@ -298,7 +306,8 @@ module _ (s : Dimensions) (w : Words) (failed : Processes) (b : Barred s w faile
       depose (inr d) = inr (record {
         by = d.by;
         member = d.member;
-        permitted = changed-each (λ q set. IsWithin failed (w.permitted q) → IsWithin failed set) w.permitted p (w.cut p) (λ old x fails. b.permitted p x (old x fails)) (λ q _ old. old) d.by d.permitted;
+        permitted = changed-each (λ q set. IsWithin failed (w.permitted q) → IsWithin failed set) w.permitted p
+            (w.cut p) (λ old x fails. b.permitted p x (old x fails)) (λ q _ old. old) d.by d.permitted;
         told_them = d.told_them;
         heard = d.heard;
       })
@@ -366,7 +375,8 @@ barred-opening s = record {
 }
 
 -- every action that may come keeps it
-pub barred-step : (c : Composed) (a : Action) → MayAct c.group a → Barred c.group.shape c.group.words c.failed → Barred c.group.shape (words_after c.group.words a) (failed_after c a)
+pub barred-step : (c : Composed) (a : Action) → MayAct c.group a → Barred c.group.shape c.group.words c.failed
+    → Barred c.group.shape (words_after c.group.words a) (failed_after c a)
 barred-step c (Begin caller op) may b = b
 barred-step c (Send caller x) may b = b
 barred-step c (Read x p) may b = b

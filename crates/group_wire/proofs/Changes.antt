@@ -1,5 +1,6 @@
 -- What is read of functions of processes that are changed at one place, and of sets.
-use Rattle.std.proofs.Common.{ℕ, ◌≡◌, ◌≢◌, ◌≤◌, ◌+◌, ◌==◌, ◌||◌, ◌⊎◌, inl, inr, Bool, true, false, List, [], ◌∷◌, map, refl, sym, ap, subst, ◌∙◌, if◌then◌else◌, arith}
+use Rattle.std.proofs.Common.{ℕ, ◌≡◌, ◌≢◌, ◌≤◌, ◌+◌, ◌==◌, ◌||◌, ◌⊎◌, inl, inr, Bool, true, false, List, [], ◌∷◌, map}
+use Rattle.std.proofs.Common.{refl, sym, ap, subst, ◌∙◌, if◌then◌else◌, arith}
 use Rattle.std.proofs.lemmas.Bool.{cases_eq, eq-eqb, ne_eqb}
 use Rattle.std.specs.List.{range_with_len}
 use Rattle.group_types.specs.Dimensions.{Dimensions}
@@ -16,7 +17,8 @@ pub changed-other : {X : Type 0} (f : ProcessId → X) (p q : ProcessId) (x : X)
 changed-other f p q x other = ap (λ (b : Bool). one_or b x (f q)) (same-ne q p other)
 
 -- what holds of the value at p, and of the others where they were, holds everywhere
-pub changed-each : {X : Type 0} (P : ProcessId → X → Type 0) (f : ProcessId → X) (p : ProcessId) (x : X) → P p x → ((q : ProcessId) → q ≢ p → P q (f q)) → (q : ProcessId) → P q (changed f p x q)
+pub changed-each : {X : Type 0} (P : ProcessId → X → Type 0) (f : ProcessId → X) (p : ProcessId) (x : X) → P p x
+    → ((q : ProcessId) → q ≢ p → P q (f q)) → (q : ProcessId) → P q (changed f p x q)
 changed-each P f p x here others q = by (same_process q p) refl where
   by : (b : Bool) → same_process q p ≡ b → P q (one_or b x (f q))
   by true is = subst (λ (y : ProcessId). P y x) (sym (same-eq q p is)) here
@@ -70,7 +72,8 @@ either-not a b p out = by (a p) out where
   by false out = (refl, out)
 
 -- a set within another has no more members
-count-within : (a b : Processes) (s : Dimensions) (xs : List ℕ) → IsWithin a b → count_dead (map (λ x. a (process_at s x)) xs) ≤ count_dead (map (λ x. b (process_at s x)) xs)
+count-within : (a b : Processes) (s : Dimensions) (xs : List ℕ) → IsWithin a b
+    → count_dead (map (λ x. a (process_at s x)) xs) ≤ count_dead (map (λ x. b (process_at s x)) xs)
 count-within a b s [] within = omega arith
 count-within a b s (x ∷ xs) within = by (a (process_at s x)) (b (process_at s x)) (within (process_at s x)) (count-within a b s xs within) where
   by : (c d : Bool) → (c ≡ true → d ≡ true) → count_dead (map (λ x. a (process_at s x)) xs) ≤ count_dead (map (λ x. b (process_at s x)) xs)

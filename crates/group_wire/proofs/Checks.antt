@@ -1,5 +1,6 @@
 -- Whether actions may come, one after the other, by computation.
-use Rattle.std.proofs.Common.{ℕ, zero, suc, ◌≡◌, ◌≢◌, ◌<◌, ◌≤◌, ◌+◌, ◌⊎◌, inl, inr, nat_le, nat_lt, not, ◌&&◌, ◌||◌, Bool, true, false, List, [], ◌∷◌, Option, Some, None, refl, sym, ap, ◌∙◌, arith, All}
+use Rattle.std.proofs.Common.{ℕ, zero, suc, ◌≡◌, ◌≢◌, ◌<◌, ◌≤◌, ◌+◌, ◌⊎◌, inl, inr, nat_le, nat_lt, not, ◌&&◌, ◌||◌}
+use Rattle.std.proofs.Common.{Bool, true, false, List, [], ◌∷◌, Option, Some, None, refl, sym, ap, ◌∙◌, arith, All}
 use Rattle.std.proofs.lemmas.Bool.{cases_eq}
 use Rattle.std.proofs.lemmas.Grind.{common_steps}
 use Rattle.std.proofs.lemmas.List.Sums.{AllPass-from_list_all}
@@ -11,9 +12,11 @@ use Rattle.group_types.specs.declared.process.ProcessId.{ProcessId}
 use Rattle.group_types.specs.declared.process.ProcessId.TheVariants.{DataNode, ParityNode}
 use Rattle.group_types.proofs.Names.{index-below, process_at-index, same-ne, same-refl}
 use Rattle.memc_table.specs.Act.{value_of}
-use Rattle.group_wire.specs.Actions.{Action, Begin, Send, Read, Treat, Collect, Flush, Learn, Receive, GiveUp, Cut, Say, Hear, Permit, Take, Ping, Pong, Count, Show, LetGo, Stop}
+use Rattle.group_wire.specs.Actions.{Action, Begin, Send, Read, Treat, Collect, Flush, Learn, Receive, GiveUp, Cut, Say}
+use Rattle.group_wire.specs.Actions.{Hear, Permit, Take, Ping, Pong, Count, Show, LetGo, Stop}
 use Rattle.group_wire.specs.Composed.{AreActions, AreActionsFrom, Composed, composed_with, opening_composed}
-use Rattle.group_wire.specs.May.{AllHaveSaid, CallIsTold, IsCaller, IsHere, IsToldBefore, MayAct, MayRead, MayReadOther, MayShow, WaitsForDead, answerers, call_waits_for}
+use Rattle.group_wire.specs.May.{AllHaveSaid, CallIsTold, IsCaller, IsHere, IsToldBefore, MayAct, MayRead, MayReadOther}
+use Rattle.group_wire.specs.May.{MayShow, WaitsForDead, answerers, call_waits_for}
 use Rattle.group_wire.specs.Rows.{small}
 use Rattle.group_wire.specs.Sets.{Processes, size_of, with_one}
 use Rattle.group_wire.specs.State.{Group, OpenCall, Stage, Unasked, AskedOf, Unknown, TracedAt, Answered, Words, gateway_of}
@@ -40,10 +43,12 @@ le-is a b is = grind (arith, common_steps)
 
 all-below : (f : ℕ → Bool) (n a i : ℕ) → list_all f (range_with_len a n) ≡ true → a ≤ i → i < a + n → f i ≡ true
 all-below f zero a i all low high = absurd (omega (arith, low, high))
-all-below f (suc n) a i all low high = by (cases_eq i a) (λ above. all-below f n (a + 1) i (both (f a) (list_all f (range_with_len (a + 1) n)) all).1 above (omega (arith, high))) where
-  by : (i ≡ a) ⊎ (i ≢ a) → (a + 1 ≤ i → f i ≡ true) → f i ≡ true
-  by (inl same) later = ap f same ∙ (both (f a) (list_all f (range_with_len (a + 1) n)) all).0
-  by (inr other) later = later (omega (arith, low, other))
+all-below f (suc n) a i all low high =
+    by (cases_eq i a) (λ above. all-below f n (a + 1) i (both (f a) (list_all f (range_with_len (a + 1) n)) all).1 above
+    (omega (arith, high))) where
+      by : (i ≡ a) ⊎ (i ≢ a) → (a + 1 ≤ i → f i ≡ true) → f i ≡ true
+      by (inl same) later = ap f same ∙ (both (f a) (list_all f (range_with_len (a + 1) n)) all).0
+      by (inr other) later = later (omega (arith, low, other))
 
 -- a test of all processes of a group
 abbrev all_processes : Dimensions → (ProcessId → Bool) → Bool
@@ -51,7 +56,8 @@ all_processes s f = list_all (λ i. f (process_at s i)) (range_with_len 0 (s.k +
 
 all-processes : (s : Dimensions) (f : ProcessId → Bool) → all_processes s f ≡ true → (r : ProcessId) → IsProcess s r → f r ≡ true
 all-processes s f all r rin =
-    ap f (sym (process_at-index s r rin)) ∙ all-below (λ i. f (process_at s i)) (s.k + s.m) 0 (index_of s r) all (omega arith) (let low = index-below s r rin in omega (arith, low))
+    ap f (sym (process_at-index s r rin)) ∙ all-below (λ i. f (process_at s i)) (s.k + s.m) 0 (index_of s r) all
+    (omega arith) (let low = index-below s r rin in omega (arith, low))
 
 abbrev is_process : Dimensions → ProcessId → Bool
 is_process s (DataNode d) = nat_lt d s.k
@@ -77,7 +83,8 @@ module _ (g : Group) where
   is_here p = is_process g.shape p && not (g.gone p)
 
   here-is : (p : ProcessId) → is_here p ≡ true → IsHere g p
-  here-is p is = let parts = both (is_process g.shape p) (not (g.gone p)) is in record { member = process-is g.shape p parts.0; runs = not-is (g.gone p) parts.1 }
+  here-is p is = let parts = both (is_process g.shape p) (not (g.gone p)) is in
+      record { member = process-is g.shape p parts.0; runs = not-is (g.gone p) parts.1 }
 
   abbrev may_read : ProcessId → ProcessId → Bool
   may_read x p = is_here p && (is_process g.shape x && not (g.words.cut p x))
@@ -106,7 +113,8 @@ module _ (g : Group) where
   is_taken p None = false
   is_taken p (Some x) = g.words.taken p x
 
-  waits-is : (caller : ℕ) (x : Option ProcessId) → call_waits_for (g.gateways.call caller) ≡ x → is_taken (gateway_of g.shape caller) x ≡ true → WaitsForDead g caller
+  waits-is : (caller : ℕ) (x : Option ProcessId) → call_waits_for (g.gateways.call caller) ≡ x
+      → is_taken (gateway_of g.shape caller) x ≡ true → WaitsForDead g caller
   waits-is caller None call is = cc is
   waits-is caller (Some x) call is = record { member = x; waits = call; taken = is }
 
@@ -121,7 +129,8 @@ module _ (g : Group) where
   said-is p inside is r rin other uncut x cut =
       let here = all-processes g.shape (λ r. same_process r p || (g.words.cut p r || has_said p r)) is r rin in
       let said = or-other (g.words.cut p r) (has_said p r) (or-other (same_process r p) (g.words.cut p r || has_said p r) here (same-ne r p other)) uncut in
-      or-other (not (g.words.cut p x)) (g.words.heard p r x) (all-processes g.shape (λ x. not (g.words.cut p x) || g.words.heard p r x) said x (inside x cut)) (ap not cut)
+      or-other (not (g.words.cut p x)) (g.words.heard p r x)
+      (all-processes g.shape (λ x. not (g.words.cut p x) || g.words.heard p r x) said x (inside x cut)) (ap not cut)
 
   abbrev is_told : Stage → ℕ → Bool
   is_told (Answered t pinged) ping = nat_le pinged ping
@@ -143,7 +152,9 @@ module _ (g : Group) where
   call-told-is (Some opened) ping is = told-is opened.stage ping is
 
   abbrev are_enough : ℕ → ℕ → Bool
-  are_enough caller ping = nat_le g.shape.m (size_of g.shape (answerers g (gateway_of g.shape caller) ping) + size_of g.shape (g.words.taken (gateway_of g.shape caller)))
+  are_enough caller ping =
+      nat_le g.shape.m (size_of g.shape (answerers g (gateway_of g.shape caller) ping) + size_of g.shape
+      (g.words.taken (gateway_of g.shape caller)))
 
   abbrev may_show : ℕ → ℕ → Bool
   may_show caller ping = call_is_told (g.gateways.call caller) ping && (nat_lt ping (g.signs.pinged (gateway_of g.shape caller)) && are_enough caller ping)
@@ -155,7 +166,8 @@ module _ (g : Group) where
       record {
         told = call-told-is (g.gateways.call caller) ping parts.0;
         sent = lt-is ping (g.signs.pinged (gateway_of g.shape caller)) rest.0;
-        enough = le-is g.shape.m (size_of g.shape (answerers g (gateway_of g.shape caller) ping) + size_of g.shape (g.words.taken (gateway_of g.shape caller))) rest.1;
+        enough = le-is g.shape.m (size_of g.shape (answerers g (gateway_of g.shape caller) ping) + size_of g.shape
+            (g.words.taken (gateway_of g.shape caller))) rest.1;
       }
 
   abbrev are_bytes : List ℕ → Bool
@@ -218,7 +230,9 @@ module _ (g : Group) where
   may-is (Pong x p) inside is = read-other-is x p is
   may-is (Count x p) inside is = read-other-is x p is
   may-is (Show caller ping) inside is = let parts = both (is_caller caller) (may_show caller ping) is in (caller-is caller parts.0, show-is caller ping parts.1)
-  may-is (LetGo caller) inside is = let parts = both (is_caller caller) (is_none (call_waits_for (g.gateways.call caller))) is in (caller-is caller parts.0, none-is (call_waits_for (g.gateways.call caller)) parts.1)
+  may-is (LetGo caller) inside is = let parts =
+      both (is_caller caller) (is_none (call_waits_for (g.gateways.call caller))) is in
+      (caller-is caller parts.0, none-is (call_waits_for (g.gateways.call caller)) parts.1)
   may-is (Stop p) inside is = process-is g.shape p is
 
 -- members cut members

@@ -51,15 +51,21 @@ module _ (c : Composed) (h : Whole c) where
         let past : c.group.shape.m < dead_nodes (machine c).nodes = subst (λ (t : Dimensions). t.m < dead_nodes (machine c).nodes) shape down in
         absurd (omega (arith, most, past));
     processes = λ p pl. process-same p ∙ h.composes.mirrors.process p (pl.member, pl.lives);
-    links = λ p q pl ql other. subst (λ (l : List Message). Carried (c.group.words.cut p q) l (c.group.works.messages p q)) (sym (link-same p q)) (h.composes.mirrors.links p q (pl.member, pl.lives) (ql.member, ql.lives) other);
+    links = λ p q pl ql other.
+        subst (λ (l : List Message). Carried (c.group.words.cut p q) l (c.group.works.messages p q))
+        (sym (link-same p q)) (h.composes.mirrors.links p q (pl.member, pl.lives) (ql.member, ql.lives) other);
     notices = λ x p xin fails pl. link-same x p ∙ h.composes.mirrors.notices x p xin fails (pl.member, pl.lives);
     gone = λ p x pl xin takes.
         let fails : c.failed x ≡ true = h.barred.permits p pl.member pl.lives x (h.barred.taken p x takes) in
         let other : x ≢ p = λ same. cc (fails, pl.lives, ap c.failed same) in
         let lives : (node_in c.group.shape (machine c).nodes p).dead ≡ false = h.composes.mirrors.dead p pl.member ∙ pl.lives in
-        let none : link_in c.group.shape (machine c).nodes x p ≡ [] = h.composes.mirrors.notices x p xin fails (pl.member, pl.lives) ∙ ap (λ (b : Bool). one_or b [] (tells.Notice x ∷ [])) takes in
-        let knows : knows_dead (node_in c.group.shape (machine c).nodes p).process.known x ≡ true = nothing-known x (node_in c.group.shape (machine c).nodes x).dead (knows_dead (node_in c.group.shape (machine c).nodes p).process.known x)
-        (link_in c.group.shape (machine c).nodes x p) (stands-after c.group.shape (events_of c) h.composes.makes.run x p xin pl.member other lives) (h.composes.mirrors.dead x xin ∙ fails) none in
+        let none : link_in c.group.shape (machine c).nodes x p ≡ [] = h.composes.mirrors.notices x p xin fails
+        (pl.member, pl.lives) ∙ ap (λ (b : Bool). one_or b [] (tells.Notice x ∷ [])) takes in
+        let knows : knows_dead (node_in c.group.shape (machine c).nodes p).process.known x ≡ true =
+        nothing-known x (node_in c.group.shape (machine c).nodes x).dead
+        (knows_dead (node_in c.group.shape (machine c).nodes p).process.known x)
+        (link_in c.group.shape (machine c).nodes x p) (stands-after c.group.shape (events_of c) h.composes.makes.run x p
+        xin pl.member other lives) (h.composes.mirrors.dead x xin ∙ fails) none in
         link-same p x ∙ emptied-after c.group.shape (events_of c) h.composes.makes.run p x pl.member xin other lives knows;
     headline = headline_always c.group.shape (events_of c) h.composes.makes.run;
   }
@@ -68,31 +74,43 @@ module _ (c : Composed) (h : Whole c) where
   pub is-positioned : (caller : ℕ) → c.failed (gateway_of c.group.shape caller) ≡ false → IsPositioned c caller
   is-positioned caller lives = by (c.group.gateways.call caller) refl (h.positioned.calls caller lives) where
     staged : (o : OpenCall) (stage : Stage) → c.group.gateways.call caller ≡ Some o → o.stage ≡ stage
-        → StageFits c.group.shape c.failed (waits c.group.shape c.group.words.cut c.group.gateways.requests c.group.gateways.parked caller) (asked_in c caller) (c.group.gateways.next caller) o.position stage → IsPositioned c caller
+        → StageFits c.group.shape c.failed (waits c.group.shape c.group.words.cut c.group.gateways.requests
+        c.group.gateways.parked caller) (asked_in c caller) (c.group.gateways.next caller) o.position stage
+        → IsPositioned c caller
     staged o Unasked call is f = inl f.0
     staged o Unknown call is f = inl f.0
     staged o (TracedAt x) call is f = inl f.0
     staged o (Answered t n) call is f = inl f.0
     staged o (AskedOf x) call is f = which f.2 where
-      which : (asked_in c caller ≡ o.position) ⊎ ((asked_in c caller ≡ c.group.gateways.next caller) × ((z : ProcessId) → Living c.group.shape c.failed z → waits c.group.shape c.group.words.cut c.group.gateways.requests c.group.gateways.parked caller z ≡ 0)) → IsPositioned c caller
+      which : (asked_in c caller ≡ o.position)
+          ⊎ ((asked_in c caller ≡ c.group.gateways.next caller)
+          × ((z : ProcessId) → Living c.group.shape c.failed z → waits c.group.shape c.group.words.cut
+          c.group.gateways.requests c.group.gateways.parked caller z ≡ 0)) → IsPositioned c caller
       which (inl same) = inr (o, x, call, is, same)
       which (inr same) = inl same.0
 
     by : (call : Option OpenCall) → c.group.gateways.call caller ≡ call
-        → CallFits c.group.shape c.failed (waits c.group.shape c.group.words.cut c.group.gateways.requests c.group.gateways.parked caller) (asked_in c caller) (c.group.gateways.next caller) call → IsPositioned c caller
+        → CallFits c.group.shape c.failed (waits c.group.shape c.group.words.cut c.group.gateways.requests
+        c.group.gateways.parked caller) (asked_in c caller) (c.group.gateways.next caller) call
+        → IsPositioned c caller
     by None is f = inl f.0
     by (Some o) is f = staged o o.stage is refl f.1
 
   -- a message that comes fits
-  fits-at : (x p : ProcessId) (m : Message) (rest : List Message) → IsProcess c.group.shape x → HasNotFailed c p → x ≢ p → link_in c.group.shape (machine c).nodes x p ≡ m ∷ rest → Fits c.group.shape x m (c.group.works.process p)
+  fits-at : (x p : ProcessId) (m : Message) (rest : List Message) → IsProcess c.group.shape x → HasNotFailed c p → x ≢ p
+      → link_in c.group.shape (machine c).nodes x p ≡ m ∷ rest → Fits c.group.shape x m (c.group.works.process p)
   fits-at x p m rest xin pl other first =
       subst (λ (q : Process). Fits c.group.shape x m q) (process-same p ∙ h.composes.mirrors.process p (pl.member, pl.lives))
       (fits_always c.group.shape (events_of c) h.composes.makes.run x p m rest xin pl.member other
       (subst (λ (t : Dimensions). IsProcess t p) (sym shape) pl.member, dead-same p ∙ h.composes.mirrors.dead p pl.member ∙ pl.lives) (link-same x p ∙ first))
 
-  pub received-fits : (x p : ProcessId) (m : Message) (rest : List Message) → HasNotFailed c p → MayAct c.group (Receive x p) → c.group.works.messages x p ≡ m ∷ rest → Fits c.group.shape x m (c.group.works.process p)
+  pub received-fits : (x p : ProcessId) (m : Message) (rest : List Message) → HasNotFailed c p
+      → MayAct c.group (Receive x p) → c.group.works.messages x p ≡ m ∷ rest
+      → Fits c.group.shape x m (c.group.works.process p)
   received-fits x p m rest pl may is =
-      let carried : Carried (c.group.words.cut x p) (link_in c.group.shape (machine c).nodes x p) (c.group.works.messages x p) = h.composes.mirrors.links x p (may.reads.sender, lives (c.failed x) refl) (pl.member, pl.lives) may.other in
+      let carried : Carried (c.group.words.cut x p) (link_in c.group.shape (machine c).nodes x p)
+      (c.group.works.messages x p) = h.composes.mirrors.links x p (may.reads.sender, lives (c.failed x) refl)
+      (pl.member, pl.lives) may.other in
       fits-at x p m (rest ++ carried.lost) may.reads.sender pl may.other (carried.is ∙ ap (λ (l : List Message). l ++ carried.lost) is)
     where
       lives : (lost : Bool) → c.failed x ≡ lost → c.failed x ≡ false

@@ -1,5 +1,6 @@
 -- Sets that have no member in common within another, and a member that is in no set which is too small.
-use Rattle.std.proofs.Common.{ℕ, zero, suc, ◌≡◌, ◌≢◌, ◌<◌, ◌≤◌, ◌+◌, ◌⊎◌, inl, inr, Bool, true, false, ◌||◌, List, [], ◌∷◌, map, refl, sym, ap, ◌∙◌, if◌then◌else◌, arith}
+use Rattle.std.proofs.Common.{ℕ, zero, suc, ◌≡◌, ◌≢◌, ◌<◌, ◌≤◌, ◌+◌, ◌⊎◌, inl, inr, Bool, true, false, ◌||◌, List, []}
+use Rattle.std.proofs.Common.{◌∷◌, map, refl, sym, ap, ◌∙◌, if◌then◌else◌, arith}
 use Rattle.std.proofs.lemmas.Bool.{cases_eq}
 use Rattle.std.specs.List.{range_with_len}
 use Rattle.group_types.specs.Dimensions.{Dimensions}
@@ -12,7 +13,8 @@ use Rattle.group_wire.specs.Sets.{IsWithin, Processes, either, size_of}
 abbrev bit : Bool → ℕ
 bit b = if b then 1 else 0
 
-count-three : (a t u f : ℕ → Bool) (xs : List ℕ) → ((x : ℕ) → bit (a x) + bit (t x) + bit (u x) ≤ bit (f x)) → count_dead (map a xs) + count_dead (map t xs) + count_dead (map u xs) ≤ count_dead (map f xs)
+count-three : (a t u f : ℕ → Bool) (xs : List ℕ) → ((x : ℕ) → bit (a x) + bit (t x) + bit (u x) ≤ bit (f x))
+    → count_dead (map a xs) + count_dead (map t xs) + count_dead (map u xs) ≤ count_dead (map f xs)
 count-three a t u f [] each = omega arith
 count-three a t u f (x ∷ xs) each = let rest = count-three a t u f xs each in let first = each x in omega (arith, rest, first)
 
@@ -24,16 +26,19 @@ one-hit u i a (suc n) low high hit = by (cases_eq i a) (λ above. one-hit u i (a
   by (inr other) later = let rest = later (omega (arith, low, other)) in omega (arith, rest)
 
 -- two sets apart from one another, and one more process, within a set
-pub size-apart : (s : Dimensions) (a t f : Processes) (g : ProcessId) → IsProcess s g → IsWithin a f → IsWithin t f → f g ≡ true → ((x : ProcessId) → a x ≡ true → t x ≡ true → ⊥)
+pub size-apart : (s : Dimensions) (a t f : Processes) (g : ProcessId) → IsProcess s g → IsWithin a f → IsWithin t f
+    → f g ≡ true → ((x : ProcessId) → a x ≡ true → t x ≡ true → ⊥)
     → a g ≡ false → t g ≡ false → size_of s a + size_of s t + 1 ≤ size_of s f
 size-apart s a t f g gin aw tw fg apart ag tg =
     let hit : same_process (process_at s (index_of s g)) g ≡ true = ap (λ (x : ProcessId). same_process x g) (process_at-index s g gin) ∙ same-refl g in
     let low = index-below s g gin in
     let one = one-hit (λ x. same_process (process_at s x) g) (index_of s g) 0 (s.k + s.m) (omega arith) (omega (arith, low)) hit in
-    let all = count-three (λ x. a (process_at s x)) (λ x. t (process_at s x)) (λ x. same_process (process_at s x) g) (λ x. f (process_at s x)) (range_with_len 0 (s.k + s.m)) each in
+    let all = count-three (λ x. a (process_at s x)) (λ x. t (process_at s x)) (λ x. same_process (process_at s x) g)
+    (λ x. f (process_at s x)) (range_with_len 0 (s.k + s.m)) each in
     omega (arith, one, all)
   where
-    by : (b c d e : Bool) → (b ≡ true → e ≡ true) → (c ≡ true → e ≡ true) → (d ≡ true → e ≡ true) → (b ≡ true → c ≡ true → ⊥) → (d ≡ true → b ≡ false) → (d ≡ true → c ≡ false)
+    by : (b c d e : Bool) → (b ≡ true → e ≡ true) → (c ≡ true → e ≡ true) → (d ≡ true → e ≡ true)
+        → (b ≡ true → c ≡ true → ⊥) → (d ≡ true → b ≡ false) → (d ≡ true → c ≡ false)
         → bit b + bit c + bit d ≤ bit e
     by true true d e be ce de bc db dc = absurd (bc refl refl)
     by true false true e be ce de bc db dc = cc (db refl)
@@ -55,7 +60,8 @@ size-either s a b = by (range_with_len 0 (s.k + s.m)) where
   one true d = omega arith
   one false d = omega arith
 
-  by : (xs : List ℕ) → count_dead (map (λ x. either a b (process_at s x)) xs) ≤ count_dead (map (λ x. a (process_at s x)) xs) + count_dead (map (λ x. b (process_at s x)) xs)
+  by : (xs : List ℕ) → count_dead (map (λ x. either a b (process_at s x)) xs)
+      ≤ count_dead (map (λ x. a (process_at s x)) xs) + count_dead (map (λ x. b (process_at s x)) xs)
   by [] = omega arith
   by (x ∷ xs) = let rest = by xs in let first = one (a (process_at s x)) (b (process_at s x)) in omega (arith, rest, first)
 
@@ -63,7 +69,8 @@ size-either s a b = by (range_with_len 0 (s.k + s.m)) where
 lacks-from : (u : ℕ → Bool) (a n : ℕ) → count_dead (map u (range_with_len a n)) < n → (i : ℕ) × (i < a + n) × (u i ≡ false)
 lacks-from u a zero few = absurd (omega (arith, few))
 lacks-from u a (suc n) few = by (u a) refl (λ fewer. lacks-from u (a + 1) n fewer) where
-  by : (b : Bool) → u a ≡ b → (count_dead (map u (range_with_len (a + 1) n)) < n → (i : ℕ) × (i < a + 1 + n) × (u i ≡ false)) → (i : ℕ) × (i < a + suc n) × (u i ≡ false)
+  by : (b : Bool) → u a ≡ b → (count_dead (map u (range_with_len (a + 1) n)) < n → (i : ℕ) × (i < a + 1 + n)
+      × (u i ≡ false)) → (i : ℕ) × (i < a + suc n) × (u i ≡ false)
   by false is later = (a, omega arith, is)
   by true is later =
       let one : bit (u a) ≡ 1 = ap bit is in

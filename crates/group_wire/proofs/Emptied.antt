@@ -15,7 +15,10 @@ use Rattle.group_run.specs.Asking.{CallStep, ask_process, collect_from, fate_of}
 use Rattle.group_run.specs.Headline.{IsRun, IsRunFrom, MayCome}
 use Rattle.group_run.specs.Process.{Node}
 use Rattle.group_run.specs.Receiving.{receive}
-use Rattle.group_run.specs.World.{NodeStep, DeliveryStep, World, after, all_change, delivered, flush_process, if_up, link_after, link_emptied, links_after, links_without, next_name, node_after, node_failed, node_in, node_of, nodes_told, opening, sent_to, step, treated, unchanged, with_link, with_node, world_after}
+use Rattle.group_run.specs.World.{NodeStep, DeliveryStep, World, after, all_change, delivered, flush_process, if_up}
+use Rattle.group_run.specs.World.{link_after, link_emptied, links_after, links_without, next_name, node_after}
+use Rattle.group_run.specs.World.{node_failed, node_in, node_of, nodes_told, opening, sent_to, step, treated, unchanged}
+use Rattle.group_run.specs.World.{with_link, with_node, world_after}
 use Rattle.law_moves.specs.State.{state_from}
 use Rattle.law_moves.proofs.Events.{emptied-dead}
 use Rattle.law_moves.proofs.Members.{Stands}
@@ -37,7 +40,8 @@ Stood s nodes = (x q : ProcessId) → IsProcess s x → IsProcess s q → x ≢ 
 
 -- nothing is on the way from a process that lives to one that it knows to be dead
 abbrev pub Emptied : Dimensions → List Node → Type 0
-Emptied s nodes = (p q : ProcessId) → IsProcess s p → IsProcess s q → q ≢ p → (node_in s nodes p).dead ≡ false → knows_dead (node_in s nodes p).process.known q ≡ true → link_in s nodes p q ≡ []
+Emptied s nodes = (p q : ProcessId) → IsProcess s p → IsProcess s q → q ≢ p → (node_in s nodes p).dead ≡ false
+    → knows_dead (node_in s nodes p).process.known q ≡ true → link_in s nodes p q ≡ []
 
 not-nothing : (front : List Message) (m : Message) → front ++ m ∷ [] ≡ [] → ⊥
 not-nothing [] m is = cc is
@@ -82,14 +86,17 @@ emptied-process s (tells.Mark session r block d n) node = refl
 emptied-process s (tells.Row session bytes stamp) node = refl
 emptied-process s (tells.Cease upto) node = refl
 
-emptied-here : (s : Dimensions) (dead : ProcessId) (links : List (List Message)) (q : ProcessId) → IsProcess s q → q ≡ dead → at [] (links_without s dead links) (index_of s q) ≡ []
+emptied-here : (s : Dimensions) (dead : ProcessId) (links : List (List Message)) (q : ProcessId) → IsProcess s q
+    → q ≡ dead → at [] (links_without s dead links) (index_of s q) ≡ []
 emptied-here s dead links q qin same =
     at-indices s [] (λ x. if same_process (process_at s x) dead then [] else at [] links x) q qin
     ∙ ap (λ (x : ProcessId). if same_process x dead then [] else at [] links (index_of s q)) (process_at-index s q qin)
     ∙ ap (λ (b : Bool). if b then [] else at [] links (index_of s q)) (ap (same_process q) (sym same) ∙ same-refl q)
 
 -- a link is empty behind a notice, where it was, and where the notice is of its receiver
-link-nothing : (s : Dimensions) (m : Message) (node : Node) (q : ProcessId) → IsProcess s q → (at [] node.links (index_of s q) ≡ []) ⊎ (m ≡ tells.Notice q) → at [] (link_emptied s m node).links (index_of s q) ≡ []
+link-nothing : (s : Dimensions) (m : Message) (node : Node) (q : ProcessId) → IsProcess s q
+    → (at [] node.links (index_of s q) ≡ []) ⊎ (m ≡ tells.Notice q) → at [] (link_emptied s m node).links (index_of s q)
+    ≡ []
 link-nothing s (tells.Notice dead) node q qin (inr is) = emptied-here s dead node.links q qin (sym (ap named is)) where
   named : Message → ProcessId
   named (tells.Notice y) = y
@@ -119,7 +126,9 @@ link-nothing s (tells.Cease upto) node q qin (inr is) = cc is
 
 module _ (s : Dimensions) (nodes : List Node) (size : length nodes ≡ s.k + s.m) (old : Emptied s nodes) where
   -- one node changes, and has emptied its links to those that it knows to be dead
-  emptied-one : (p : ProcessId) (node : Node) → IsProcess s p → ((q : ProcessId) → IsProcess s q → q ≢ p → knows_dead node.process.known q ≡ true → at [] node.links (index_of s q) ≡ [])
+  emptied-one : (p : ProcessId) (node : Node) → IsProcess s p
+      → ((q : ProcessId) → IsProcess s q → q ≢ p → knows_dead node.process.known q ≡ true
+      → at [] node.links (index_of s q) ≡ [])
       → Emptied s (with_node s p node nodes)
   emptied-one p node pin empty y q yin qin other lives knows = by (same-cases y p) where
     here : node_in s (with_node s p node nodes) p ≡ node
@@ -138,14 +147,16 @@ module _ (s : Dimensions) (nodes : List Node) (size : length nodes ≡ s.k + s.m
   -- what a process sends doesn't go to one that it knows to be dead
   sent-nothing : (p : ProcessId) (t : ProcessStep) → IsProcess s p → (node_in s nodes p).dead ≡ false
       → ((q : ProcessId) → IsProcess s q → q ≢ p → knows_dead t.process.known q ≡ true → knows_dead (node_in s nodes p).process.known q ≡ true)
-      → (q : ProcessId) → IsProcess s q → q ≢ p → knows_dead t.process.known q ≡ true → at [] (links_after s t.process.known t.sent (node_in s nodes p).links) (index_of s q) ≡ []
+      → (q : ProcessId) → IsProcess s q → q ≢ p → knows_dead t.process.known q ≡ true
+      → at [] (links_after s t.process.known t.sent (node_in s nodes p).links) (index_of s q) ≡ []
   sent-nothing p t pin lives knew q qin other knows =
       link-sent s t.process.known t.sent (node_in s nodes p).links q qin
       ∙ ap (λ (b : Bool). link_after b (link_in s nodes p q) (sent_to q t.sent)) knows
       ∙ old p q pin qin other lives (knew q qin other knows)
 
   -- the first message of a link is taken out of it
-  emptied-popped : (x p : ProcessId) (m : Message) (rest : List Message) → IsProcess s x → IsProcess s p → p ≢ x → link_in s nodes x p ≡ m ∷ rest → Emptied s (with_node s x (with_link s p rest (node_in s nodes x)) nodes)
+  emptied-popped : (x p : ProcessId) (m : Message) (rest : List Message) → IsProcess s x → IsProcess s p → p ≢ x
+      → link_in s nodes x p ≡ m ∷ rest → Emptied s (with_node s x (with_link s p rest (node_in s nodes x)) nodes)
   emptied-popped x p m rest xin pin apart first y q yin qin other lives knows = by (same-cases y x) (same-cases q p) where
     pops : Popped s (state_from s nodes []) (state_from s (with_node s x (with_link s p rest (node_in s nodes x)) nodes) []) x p m
     pops = popped s nodes size [] x p m rest xin pin first
@@ -156,18 +167,27 @@ module _ (s : Dimensions) (nodes : List Node) (size : length nodes ≡ s.k + s.m
     by : (y ≡ x) ⊎ (y ≢ x) → (q ≡ p) ⊎ (q ≢ p) → link_in s (with_node s x (with_link s p rest (node_in s nodes x)) nodes) y q ≡ []
     by (inr far) w = pops.links y q yin qin (inl far) ∙ was
     by (inl same) (inr far) = pops.links y q yin qin (inr far) ∙ was
-    by (inl same) (inl at_p) = cc (sym first ∙ ap (λ (z : ProcessId). link_in s nodes z p) (sym same) ∙ ap (λ (z : ProcessId). link_in s nodes y z) (sym at_p) ∙ was)
+    by (inl same) (inl at_p) = cc (sym first ∙ ap (λ (z : ProcessId). link_in s nodes z p) (sym same)
+        ∙ ap (λ (z : ProcessId). link_in s nodes y z) (sym at_p) ∙ was)
 
   -- a process fails
-  emptied-failed : (p : ProcessId) (keep : ℕ) → IsProcess s p → (dead : Bool) → (node_in s nodes p).dead ≡ dead → Emptied s (all_change dead s nodes p keep).nodes
+  emptied-failed : (p : ProcessId) (keep : ℕ) → IsProcess s p → (dead : Bool) → (node_in s nodes p).dead ≡ dead
+      → Emptied s (all_change dead s nodes p keep).nodes
   emptied-failed p keep pin true isdead y q yin qin other lives knows = old y q yin qin other lives knows
   emptied-failed p keep pin false isdead y q yin qin other lives knows = by (same-cases y p) where
     dies : Died s (state_from s nodes []) (state_from s (nodes_told s.m (with_node s p (node_failed s p keep (node_in s nodes p)) nodes)) []) p keep
     dies = died s nodes size [] p keep pin isdead
 
     by : (y ≡ p) ⊎ (y ≢ p) → link_in s (nodes_told s.m (with_node s p (node_failed s p keep (node_in s nodes p)) nodes)) y q ≡ []
-    by (inl same) = cc (lives, ap (λ (z : ProcessId). (node_in s (nodes_told s.m (with_node s p (node_failed s p keep (node_in s nodes p)) nodes)) z).dead) same ∙ dies.dead)
-    by (inr far) = dies.links y q yin qin far ∙ old y q yin qin other (sym (dies.others y yin far) ∙ lives) (sym (ap (λ p. knows_dead p.known q) (dies.processes y yin)) ∙ knows)
+    by (inl same) =
+        cc (
+          lives,
+          ap
+              (λ (z : ProcessId). (node_in s (nodes_told s.m (with_node s p (node_failed s p keep (node_in s nodes p)) nodes))
+              z).dead) same ∙ dies.dead,
+        )
+    by (inr far) = dies.links y q yin qin far ∙ old y q yin qin other (sym (dies.others y yin far) ∙ lives)
+        (sym (ap (λ p. knows_dead p.known q) (dies.processes y yin)) ∙ knows)
 
   emptied-back : (p : ProcessId) (node : Node) → IsProcess s p → node ≡ node_in s nodes p → Emptied s (with_node s p node nodes)
   emptied-back p node pin same = subst (Emptied s) (sym (ap (λ (n : Node). with_node s p n nodes) same ∙ node-back s nodes p pin size)) old
@@ -182,26 +202,30 @@ module _ (s : Dimensions) (nodes : List Node) (size : length nodes ≡ s.k + s.m
         → Emptied s (with_node s p (if_up down dead (node_in s nodes p) (treated s (node_in s nodes p) call)).node nodes)
     emptied-treated p call pin true dead isdead now = emptied-back p _ pin refl
     emptied-treated p call pin false true isdead now = emptied-back p _ pin refl
-    emptied-treated p call pin false false isdead now = emptied-one p (node_after s call.step (node_in s nodes p)) pin (sent-nothing p call.step pin isdead knew) where
-      new : Node
-      new = node_after s call.step (node_in s nodes p)
+    emptied-treated p call pin false false isdead now = emptied-one p (node_after s call.step (node_in s nodes p)) pin
+        (sent-nothing p call.step pin isdead knew) where
+          new : Node
+          new = node_after s call.step (node_in s nodes p)
 
-      here : node_in s (with_node s p (node_after s call.step (node_in s nodes p)) nodes) p ≡ node_after s call.step (node_in s nodes p)
-      here = node-here s nodes p (node_after s call.step (node_in s nodes p))
+          here : node_in s (with_node s p (node_after s call.step (node_in s nodes p)) nodes) p ≡ node_after s call.step (node_in s nodes p)
+          here = node-here s nodes p (node_after s call.step (node_in s nodes p))
 
-      knew : (q : ProcessId) → IsProcess s q → q ≢ p → knows_dead call.step.process.known q ≡ true → knows_dead (node_in s nodes p).process.known q ≡ true
-      knew q qin other knows =
-          let there : node_in s (with_node s p new nodes) q ≡ node_in s nodes q = node-other s nodes p q new pin qin other size in
-          still-known q (node_in s nodes q).dead (knows_dead (node_in s nodes p).process.known q) (knows_dead call.step.process.known q) (link_in s nodes q p)
-          (before q p qin pin other isdead)
-          (subst (λ (n : Node). Stands q n.dead (knows_dead call.step.process.known q) (at [] n.links (index_of s p))) there
-          (subst (λ (n : Node). Stands q (node_in s (with_node s p new nodes) q).dead (knows_dead n.process.known q) (link_in s (with_node s p new nodes) q p)) here
-          (now q p qin pin other (ap (λ (n : Node). n.dead) here ∙ isdead))))
-          knows
+          knew : (q : ProcessId) → IsProcess s q → q ≢ p → knows_dead call.step.process.known q ≡ true → knows_dead (node_in s nodes p).process.known q ≡ true
+          knew q qin other knows =
+              let there : node_in s (with_node s p new nodes) q ≡ node_in s nodes q = node-other s nodes p q new pin qin other size in
+              still-known q (node_in s nodes q).dead (knows_dead (node_in s nodes p).process.known q)
+              (knows_dead call.step.process.known q) (link_in s nodes q p)
+              (before q p qin pin other isdead)
+              (subst (λ (n : Node). Stands q n.dead (knows_dead call.step.process.known q) (at [] n.links (index_of s p))) there
+              (subst (λ (n : Node). Stands q (node_in s (with_node s p new nodes) q).dead (knows_dead n.process.known q)
+              (link_in s (with_node s p new nodes) q p)) here
+              (now q p qin pin other (ap (λ (n : Node). n.dead) here ∙ isdead))))
+              knows
 
 module _ (s : Dimensions) (nodes : List Node) (size : length nodes ≡ s.k + s.m) (old : Emptied s nodes) (before : Stood s nodes) where
   -- a message is received
-  emptied-received : (x p : ProcessId) (m : Message) (rest : List Message) → IsProcess s x → IsProcess s p → x ≢ p → link_in s nodes x p ≡ m ∷ rest → (node_in s nodes p).dead ≡ false
+  emptied-received : (x p : ProcessId) (m : Message) (rest : List Message) → IsProcess s x → IsProcess s p → x ≢ p
+      → link_in s nodes x p ≡ m ∷ rest → (node_in s nodes p).dead ≡ false
       → let base : List Node = with_node s x (with_link s p rest (node_in s nodes x)) nodes in
       let node : Node = link_emptied s m (node_after s (receive s x m (node_in s nodes p).process) (node_in s nodes p)) in
       Stood s (with_node s p node base) → Emptied s (with_node s p node base)
@@ -255,16 +279,26 @@ module _ (s : Dimensions) (nodes : List Node) (size : length nodes ≡ s.k + s.m
         popped-one : q ≡ x → link_in s nodes q p ≡ m ∷ link_in s base q p
         popped-one same = subst (λ (z : ProcessId). link_in s nodes z p ≡ m ∷ link_in s base z p) (sym same) pops.first
 
-        by : (q ≡ x) ⊎ (q ≢ x) → (is_notice m ≡ false) ⊎ ((d : ProcessId) × (m ≡ tells.Notice d)) → (at [] (node_after s t (node_in s nodes p)).links (index_of s q) ≡ []) ⊎ (m ≡ tells.Notice q)
-        by (inr far) w = inl (sent (still-known q (node_in s nodes q).dead (knows_dead (node_in s nodes p).process.known q) (knows_dead t.process.known q) (link_in s nodes q p) was
+        by : (q ≡ x) ⊎ (q ≢ x) → (is_notice m ≡ false) ⊎ ((d : ProcessId) × (m ≡ tells.Notice d))
+            → (at [] (node_after s t (node_in s nodes p)).links (index_of s q) ≡ []) ⊎ (m ≡ tells.Notice q)
+        by (inr far) w =
+            inl (sent (still-known q (node_in s nodes q).dead (knows_dead (node_in s nodes p).process.known q)
+            (knows_dead t.process.known q) (link_in s nodes q p) was
             (subst (Stands q (node_in s nodes q).dead (knows_dead t.process.known q)) (pops.links q p qin pin (inl far)) (stands q qin other)) known))
-        by (inl same) (inl plain) = inl (sent (still-known q (node_in s nodes q).dead (knows_dead (node_in s nodes p).process.known q) (knows_dead t.process.known q) (link_in s base q p)
+        by (inl same) (inl plain) =
+            inl (sent (still-known q (node_in s nodes q).dead (knows_dead (node_in s nodes p).process.known q)
+            (knows_dead t.process.known q) (link_in s base q p)
             (stands-popped q (node_in s nodes q).dead (knows_dead (node_in s nodes p).process.known q) m (link_in s base q p) plain
             (subst (Stands q (node_in s nodes q).dead (knows_dead (node_in s nodes p).process.known q)) (popped-one same) was)) (stands q qin other) known))
-        by (inl same) (inr (d, is)) = inr (is ∙ ap tells.Notice (stands-notice q (node_in s nodes q).dead (knows_dead (node_in s nodes p).process.known q) d (link_in s base q p)
-            (subst (Stands q (node_in s nodes q).dead (knows_dead (node_in s nodes p).process.known q)) (popped-one same ∙ ap (λ (n : Message). n ∷ link_in s base q p) is) was)).2)
+        by (inl same) (inr (d, is)) =
+            inr (is ∙ ap tells.Notice
+            (stands-notice q (node_in s nodes q).dead (knows_dead (node_in s nodes p).process.known q) d
+            (link_in s base q p)
+            (subst (Stands q (node_in s nodes q).dead (knows_dead (node_in s nodes p).process.known q))
+            (popped-one same ∙ ap (λ (n : Message). n ∷ link_in s base q p) is) was)).2)
 
-  emptied-delivered : (x p : ProcessId) → IsProcess s x → IsProcess s p → x ≢ p → (down dead : Bool) → (node_in s nodes p).dead ≡ dead → (link : List Message) → link_in s nodes x p ≡ link
+  emptied-delivered : (x p : ProcessId) → IsProcess s x → IsProcess s p → x ≢ p → (down dead : Bool)
+      → (node_in s nodes p).dead ≡ dead → (link : List Message) → link_in s nodes x p ≡ link
       → let b : DeliveryStep = delivered down dead s x p (node_in s nodes x) (node_in s nodes p) link in
       Stood s (with_node s p b.receiver.node (with_node s x b.sender nodes)) → Emptied s (with_node s p b.receiver.node (with_node s x b.sender nodes))
   emptied-delivered x p xin pin apart true dead isdead link is now = back-two s nodes size old x p xin pin
@@ -273,23 +307,30 @@ module _ (s : Dimensions) (nodes : List Node) (size : length nodes ≡ s.k + s.m
   emptied-delivered x p xin pin apart false false isdead (m ∷ rest) is now = emptied-received x p m rest xin pin apart is isdead now
 
 -- each event keeps it so
-emptied-step : (w : World) (e : Event) → length w.nodes ≡ w.shape.k + w.shape.m → MayCome w e → Stood w.shape w.nodes → Stood w.shape (step w e).world.nodes → Emptied w.shape w.nodes → Emptied w.shape (step w e).world.nodes
+emptied-step : (w : World) (e : Event) → length w.nodes ≡ w.shape.k + w.shape.m → MayCome w e → Stood w.shape w.nodes
+    → Stood w.shape (step w e).world.nodes → Emptied w.shape w.nodes → Emptied w.shape (step w e).world.nodes
 emptied-step w (event.Ask caller op p) many may before now old =
-    emptied-treated w.shape w.nodes many old before p (ask_process w.shape (next_name w caller) op (node_of w p).process) may.1 (node_of w p).down (node_of w p).dead refl now
+    emptied-treated w.shape w.nodes many old before p
+    (ask_process w.shape (next_name w caller) op (node_of w p).process) may.1 (node_of w p).down (node_of w p).dead
+    refl now
 emptied-step w (event.Collect caller call p) many may before now old =
-    emptied-treated w.shape w.nodes many old before p (collect_from caller call (node_of w p).process (range_with_len 0 w.shape.k)) may.1 (node_of w p).down (node_of w p).dead refl now
+    emptied-treated w.shape w.nodes many old before p
+    (collect_from caller call (node_of w p).process (range_with_len 0 w.shape.k)) may.1 (node_of w p).down
+    (node_of w p).dead refl now
 emptied-step w (event.Flush p) many may before now old =
     emptied-treated w.shape w.nodes many old before p (flush_process w.shape (node_of w p).process) may (node_of w p).down (node_of w p).dead refl now
-emptied-step w (event.Trace caller call d p) many may before now old = emptied-back w.shape w.nodes many old p _ may.3 (traced (node_of w p).down (node_of w p).dead) where
-  answer : NodeStep
-  answer = unchanged (fate_of w.shape caller call d.0 (node_of w p).process (head_at (node_of w p).process d.0)) (node_of w p)
+emptied-step w (event.Trace caller call d p) many may before now old = emptied-back w.shape w.nodes many old p _ may.3
+    (traced (node_of w p).down (node_of w p).dead) where
+      answer : NodeStep
+      answer = unchanged (fate_of w.shape caller call d.0 (node_of w p).process (head_at (node_of w p).process d.0)) (node_of w p)
 
-  traced : (down dead : Bool) → (if_up down dead (node_of w p) answer).node ≡ node_of w p
-  traced true dead = refl
-  traced false true = refl
-  traced false false = refl
+      traced : (down dead : Bool) → (if_up down dead (node_of w p) answer).node ≡ node_of w p
+      traced true dead = refl
+      traced false true = refl
+      traced false false = refl
 emptied-step w (event.Deliver x p) many may before now old =
-    emptied-delivered w.shape w.nodes many old before x p may.0 may.1 may.2 (node_of w p).down (node_of w p).dead refl (at [] (node_of w x).links (index_of w.shape p)) refl now
+    emptied-delivered w.shape w.nodes many old before x p may.0 may.1 may.2 (node_of w p).down (node_of w p).dead refl
+    (at [] (node_of w x).links (index_of w.shape p)) refl now
 emptied-step w (event.Fail p keep) many may before now old = emptied-failed w.shape w.nodes many old p keep may (node_of w p).dead refl
 
 module _ (s : Dimensions) where
@@ -302,11 +343,15 @@ module _ (s : Dimensions) where
   emptied-from done (e ∷ rest) run more old =
       let next : after s (done ++ e ∷ []) ≡ (step (after s done) e).world = after-more (opening s) done e in
       let longer : IsRun s (done ++ e ∷ []) = (run.0, run-more (opening s) done e run.1 more.0) in
-      let many : length (after s done).nodes ≡ (after s done).shape.k + (after s done).shape.m = subst (λ (t : Dimensions). length (after s done).nodes ≡ t.k + t.m) (sym (shape-after s done run)) (nodes-many s done run) in
-      let now : Emptied (step (after s done) e).world.shape (step (after s done) e).world.nodes = emptied-step (after s done) e many more.0 (stood-after done run)
+      let many : length (after s done).nodes ≡ (after s done).shape.k + (after s done).shape.m =
+      subst (λ (t : Dimensions). length (after s done).nodes ≡ t.k + t.m) (sym (shape-after s done run))
+      (nodes-many s done run) in
+      let now : Emptied (step (after s done) e).world.shape (step (after s done) e).world.nodes =
+      emptied-step (after s done) e many more.0 (stood-after done run)
       (subst (λ (w : World). Stood w.shape w.nodes) next (stood-after (done ++ e ∷ []) longer)) old in
       subst (λ (w : World). Emptied (world_after w rest).shape (world_after w rest).nodes) next
-      (emptied-from (done ++ e ∷ []) rest longer (subst (λ (w : World). IsRunFrom w rest) (sym next) more.1) (subst (λ (w : World). Emptied w.shape w.nodes) (sym next) now))
+      (emptied-from (done ++ e ∷ []) rest longer (subst (λ (w : World). IsRunFrom w rest) (sym next) more.1)
+      (subst (λ (w : World). Emptied w.shape w.nodes) (sym next) now))
 
   -- so it is along every run
   pub emptied-after : (es : List Event) → IsRun s es → Emptied s (after s es).nodes

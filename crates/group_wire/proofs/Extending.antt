@@ -1,5 +1,6 @@
 -- Runs of the machine that become longer by one event, beside the answers that members gave.
-use Rattle.std.proofs.Common.{ℕ, zero, suc, ◌≡◌, ◌≢◌, ◌≤◌, ◌+◌, ◌==◌, ◌⊎◌, inl, inr, nat_lt, Bool, false, List, [], ◌∷◌, ◌++◌, length, map, refl, sym, ap, subst, ◌∙◌, if◌then◌else◌, arith}
+use Rattle.std.proofs.Common.{ℕ, zero, suc, ◌≡◌, ◌≢◌, ◌≤◌, ◌+◌, ◌==◌, ◌⊎◌, inl, inr, nat_lt, Bool, false, List, [], ◌∷◌}
+use Rattle.std.proofs.Common.{◌++◌, length, map, refl, sym, ap, subst, ◌∙◌, if◌then◌else◌, arith}
 use Rattle.std.proofs.lemmas.Bool.{cases_eq, eq-eqb, ne_eqb}
 use Rattle.std.proofs.lemmas.Grind.{common_steps}
 use Rattle.std.specs.List.{range_with_len}
@@ -59,12 +60,14 @@ asked-more w (event.Ask who op p) caller = by (cases_eq caller who) where
   by (inl same) =
       let one : ◌≡◌ {A = ℕ} (if who == caller then 1 else 0) 1 = ap (λ (b : Bool). if b then 1 else 0) (eq-eqb who caller (sym same)) in
       let here : at 0 (step w (event.Ask who op p)).world.asked who ≡ suc (at 0 w.asked who) = at-put 0 0 w.asked who (suc (at 0 w.asked who)) in
-      let there : at 0 (step w (event.Ask who op p)).world.asked caller ≡ at 0 (step w (event.Ask who op p)).world.asked who = ap (at 0 (step w (event.Ask who op p)).world.asked) same in
+      let there : at 0 (step w (event.Ask who op p)).world.asked caller ≡ at 0 (step w (event.Ask who op p)).world.asked
+      who = ap (at 0 (step w (event.Ask who op p)).world.asked) same in
       let was : at 0 w.asked caller ≡ at 0 w.asked who = ap (at 0 w.asked) same in
       omega (arith, one, here, there, was)
   by (inr other) =
       let none : ◌≡◌ {A = ℕ} (if who == caller then 1 else 0) 0 = ap (λ (b : Bool). if b then 1 else 0) (ne_eqb who caller (λ same. other (sym same))) in
-      let there : at 0 (step w (event.Ask who op p)).world.asked caller ≡ at 0 w.asked caller = at-put-other 0 w.asked who caller (suc (at 0 w.asked who)) other in
+      let there : at 0 (step w (event.Ask who op p)).world.asked caller ≡ at 0 w.asked caller =
+      at-put-other 0 w.asked who caller (suc (at 0 w.asked who)) other in
       omega (arith, none, there)
 asked-more w (event.Collect who call p) caller = omega arith
 asked-more w (event.Deliver x p) caller = omega arith
@@ -72,7 +75,9 @@ asked-more w (event.Fail p keep) caller = omega arith
 asked-more w (event.Flush p) caller = omega arith
 asked-more w (event.Trace who call d p) caller = omega arith
 
-pub makes-more : (s : Dimensions) (made : List Made) (x : Made) → Makes s made → MayCome (after s (events_in made)) x.event → (step (after s (events_in made)) x.event).turn.answer ≡ x.answer → Makes s (made ++ x ∷ [])
+pub makes-more : (s : Dimensions) (made : List Made) (x : Made) → Makes s made
+    → MayCome (after s (events_in made)) x.event → (step (after s (events_in made)) x.event).turn.answer ≡ x.answer
+    → Makes s (made ++ x ∷ [])
 makes-more s made x m may same = record {
   run = (m.run.0, subst (λ (es : List Event). IsRunFrom (opening s) es) (sym (events-more made x)) (run-more (opening s) (events_in made) x.event m.run.1 may));
   answers =
@@ -86,7 +91,9 @@ makes-more s made x m may same = record {
       let more = asked-more (after s (events_in made)) x.event caller in
       let old = m.asked caller in
       let new = asks-made caller made (x ∷ []) in
-      let there : at 0 (after s (events_in (made ++ x ∷ []))).asked caller ≡ at 0 (step (after s (events_in made)) x.event).world.asked caller = ap (λ (w : World). at 0 w.asked caller) (after-made s made x) in
+      let there : at 0 (after s (events_in (made ++ x ∷ []))).asked caller
+      ≡ at 0 (step (after s (events_in made)) x.event).world.asked caller = ap (λ (w : World). at 0 w.asked caller)
+      (after-made s made x) in
       omega (arith, more, old, new, there);
 }
 
@@ -103,11 +110,13 @@ module _ (s : Dimensions) (es : List Event) (run : IsRun s es) where
 
   framed : Framed s (after s es).nodes (history_of s es).settled
   framed = subst (λ (w : World). Framed s w.nodes (history_of s es).settled) same-world
-      (subst (λ (t : Dimensions). Framed t (history_of s es).world.nodes (history_of s es).settled) (shape-from (no_history s) es) (framed-from (no_history s) es (framed-opening s) run.1))
+      (subst (λ (t : Dimensions). Framed t (history_of s es).world.nodes (history_of s es).settled)
+      (shape-from (no_history s) es) (framed-from (no_history s) es (framed-opening s) run.1))
 
   members : Members s (state_from s (after s es).nodes (history_of s es).settled)
   members = subst (λ (w : World). Members s (state_from s w.nodes (history_of s es).settled)) same-world
-      (subst (λ (t : Dimensions). Members s (state_from t (history_of s es).world.nodes (history_of s es).settled)) (shape-from (no_history s) es) (members_always s es run))
+      (subst (λ (t : Dimensions). Members s (state_from t (history_of s es).world.nodes (history_of s es).settled))
+      (shape-from (no_history s) es) (members_always s es run))
 
   pub nodes-many : length (after s es).nodes ≡ s.k + s.m
   nodes-many = framed.nodes_many
@@ -117,7 +126,8 @@ module _ (s : Dimensions) (es : List Event) (run : IsRun s es) where
 
   -- what stands in links by who is dead and known to be
   pub stands-after : (x q : ProcessId) → IsProcess s x → IsProcess s q → x ≢ q → (node_in s (after s es).nodes q).dead ≡ false
-      → Stands x (node_in s (after s es).nodes x).dead (knows_dead (node_in s (after s es).nodes q).process.known x) (at [] (node_in s (after s es).nodes x).links (index_of s q))
+      → Stands x (node_in s (after s es).nodes x).dead (knows_dead (node_in s (after s es).nodes q).process.known x)
+      (at [] (node_in s (after s es).nodes x).links (index_of s q))
   stands-after = members.stands
 
   -- processes have their names
@@ -125,20 +135,28 @@ module _ (s : Dimensions) (es : List Event) (run : IsRun s es) where
   named-after = members.named
 
   -- a process that lives knows of no other that lives that it is dead
-  pub unknown-after : (p q : ProcessId) → IsProcess s p → IsProcess s q → q ≢ p → (node_in s (after s es).nodes p).dead ≡ false → (node_in s (after s es).nodes q).dead ≡ false
+  pub unknown-after : (p q : ProcessId) → IsProcess s p → IsProcess s q → q ≢ p → (node_in s (after s es).nodes p).dead
+      ≡ false → (node_in s (after s es).nodes q).dead ≡ false
       → knows_dead (node_in s (after s es).nodes p).process.known q ≡ false
   unknown-after p q pin qin other pl ql =
-      living-unknown q (node_in s (after s es).nodes q).dead (knows_dead (node_in s (after s es).nodes p).process.known q) (at [] (node_in s (after s es).nodes q).links (index_of s p))
+      living-unknown q (node_in s (after s es).nodes q).dead
+      (knows_dead (node_in s (after s es).nodes p).process.known q)
+      (at [] (node_in s (after s es).nodes q).links (index_of s p))
       (members.stands q p qin pin other pl) ql
 
   -- as many nodes are dead as have failed
-  pub few-dead : (failed : Processes) → ((p : ProcessId) → IsProcess s p → (node_in s (after s es).nodes p).dead ≡ failed p) → size_of s failed ≤ s.m → dead_nodes (after s es).nodes ≤ s.m
+  pub few-dead : (failed : Processes)
+      → ((p : ProcessId) → IsProcess s p → (node_in s (after s es).nodes p).dead ≡ failed p) → size_of s failed ≤ s.m
+      → dead_nodes (after s es).nodes ≤ s.m
   few-dead failed dead few =
-      let lost : lost_in s (state_from s (after s es).nodes (history_of s es).settled) ≡ dead_nodes (after s es).nodes = lost-nodes s (after s es).nodes (history_of s es).settled framed.nodes_many in
+      let lost : lost_in s (state_from s (after s es).nodes (history_of s es).settled) ≡ dead_nodes (after s es).nodes =
+      lost-nodes s (after s es).nodes (history_of s es).settled framed.nodes_many in
       let same = counted (s.k + s.m) 0 (omega arith) in
       omega (arith, lost, same, few)
     where
-      counted : (n a : ℕ) → a + n ≤ s.k + s.m → count_dead (map (λ x. (node_in s (after s es).nodes (process_at s x)).dead) (range_with_len a n)) ≡ count_dead (map (λ x. failed (process_at s x)) (range_with_len a n))
+      counted : (n a : ℕ) → a + n ≤ s.k + s.m
+          → count_dead (map (λ x. (node_in s (after s es).nodes (process_at s x)).dead) (range_with_len a n))
+          ≡ count_dead (map (λ x. failed (process_at s x)) (range_with_len a n))
       counted zero a within = refl
       counted (suc n) a within =
           let rest = counted n (a + 1) (omega (arith, within)) in

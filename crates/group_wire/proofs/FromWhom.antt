@@ -11,22 +11,26 @@ use Rattle.memc_table.specs.Act.{key_of}
 use Rattle.group_calls.specs.declared.event.Answer.{Answer}
 use Rattle.group_calls.specs.declared.event.Answer.TheVariants as says
 use Rattle.group_run.specs.Asking.{collect_from}
-use Rattle.group_wire.specs.Actions.{Action, Begin, Send, Read, Treat, Collect, Flush, Learn, Receive, GiveUp, Cut, Say, Hear, Permit, Take, Ping, Pong, Count, Show, LetGo, Stop}
+use Rattle.group_wire.specs.Actions.{Action, Begin, Send, Read, Treat, Collect, Flush, Learn, Receive, GiveUp, Cut, Say}
+use Rattle.group_wire.specs.Actions.{Hear, Permit, Take, Ping, Pong, Count, Show, LetGo, Stop}
 use Rattle.group_wire.specs.Composed.{AreActionsFrom, Composed, composed_from, composed_with, opening_composed}
 use Rattle.group_wire.specs.FromWhom.{CallersAreTheirs, IsCallerOf, NameTheirCallers, requested_by}
 use Rattle.group_wire.specs.May.{MayAct}
 use Rattle.group_wire.specs.Sets.{Processes, changed, one_or, without}
 use Rattle.group_wire.specs.State.{Request, AskFor, TraceOf, Told, Stage, Unasked, AskedOf, Unknown, TracedAt, Answered, OpenCall, Gateways, Group, gateway_of}
 use Rattle.group_wire.specs.Sending.{parked_at, sent_on, treating}
-use Rattle.group_wire.specs.Serving.{gateways_after, handed_to, if_open, learned_first, read_first, request_treated, sends_by, stage_given_up, staged, tell, told_of}
+use Rattle.group_wire.specs.Serving.{gateways_after, handed_to, if_open, learned_first, read_first, request_treated}
+use Rattle.group_wire.specs.Serving.{sends_by, stage_given_up, staged, tell, told_of}
 use Rattle.group_wire.proofs.Changes.{changed-each, changed-pairs, one_or-is}
 use Rattle.group_wire.proofs.Requests.{each-entry, each-without}
 
 -- a frame more on a wire
-each-sent : {X : Type 0} (P : ProcessId → ProcessId → X → Type 0) (cut : ProcessId → Processes) (wires : ProcessId → ProcessId → List X) (p q : ProcessId) (frame : X)
+each-sent : {X : Type 0} (P : ProcessId → ProcessId → X → Type 0) (cut : ProcessId → Processes)
+    (wires : ProcessId → ProcessId → List X) (p q : ProcessId) (frame : X)
     → ((x y : ProcessId) → Each (P x y) (wires x y)) → P p q frame → (x y : ProcessId) → Each (P x y) (sent_on cut wires p q frame x y)
 each-sent P cut wires p q frame all here = changed-pairs (λ x y frames. Each (P x y) frames) wires p q (one_or (cut p q) (wires p q) (wires p q ++ frame ∷ []))
-    (one_or-is (Each (P p q)) (cut p q) (wires p q) (wires p q ++ frame ∷ []) (λ _. all p q) (λ _. each-append (P p q) (wires p q) (frame ∷ []) (all p q) (here, tt))) all
+    (one_or-is (Each (P p q)) (cut p q) (wires p q) (wires p q ++ frame ∷ []) (λ _. all p q)
+    (λ _. each-append (P p q) (wires p q) (frame ∷ []) (all p q) (here, tt))) all
 
 abbrev OfMember : Dimensions → Request → Type 0
 OfMember s r = (requested_by r < callers) × IsProcess s (gateway_of s (requested_by r))
@@ -37,18 +41,32 @@ IsLow t = t.caller < callers
 module _ (g : Group) (h : NameTheirCallers g.shape g.gateways) where
   -- a request more on a wire
   asks : (caller : ℕ) (x : ProcessId) (r : Request) → requested_by r ≡ caller → caller < callers
-      → (y q : ProcessId) → Each (λ (r : Request). IsCallerOf g.shape y (requested_by r)) (sent_on g.words.cut g.gateways.requests (gateway_of g.shape caller) x r y q)
-  asks caller x r same low = each-sent (λ y q (r : Request). IsCallerOf g.shape y (requested_by r)) g.words.cut g.gateways.requests (gateway_of g.shape caller) x r h.requests
+      → (y q : ProcessId) → Each (λ (r : Request). IsCallerOf g.shape y (requested_by r))
+      (sent_on g.words.cut g.gateways.requests (gateway_of g.shape caller) x r y q)
+  asks caller x r same low = each-sent (λ y q (r : Request). IsCallerOf g.shape y (requested_by r)) g.words.cut
+      g.gateways.requests (gateway_of g.shape caller) x r h.requests
       (subst (λ (n : ℕ). IsCallerOf g.shape (gateway_of g.shape caller) n) (sym same) (low, refl))
 
   sends : (caller : ℕ) (x : ProcessId) (o : OpenCall) (stage : Stage) → caller < callers → NameTheirCallers g.shape (sends_by g caller x o stage)
-  sends caller x o Unasked low = record { answers = h.answers; requests = asks caller x (AskFor caller (g.gateways.next caller) o.op) refl low; parked = h.parked }
-  sends caller x o Unknown low = record { answers = h.answers; requests = asks caller x (TraceOf caller o.position (home_of (key_of o.op.act) g.shape.k)) refl low; parked = h.parked }
+  sends caller x o Unasked low =
+      record {
+        answers = h.answers;
+        requests = asks caller x (AskFor caller (g.gateways.next caller) o.op) refl low;
+        parked = h.parked;
+      }
+  sends caller x o Unknown low =
+      record {
+        answers = h.answers;
+        requests = asks caller x (TraceOf caller o.position (home_of (key_of o.op.act) g.shape.k)) refl low;
+        parked =
+            h.parked;
+      }
   sends caller x o (AskedOf y) low = h
   sends caller x o (TracedAt y) low = h
   sends caller x o (Answered t n) low = h
 
-  sends-any : (caller : ℕ) (x : ProcessId) (call : Option OpenCall) → caller < callers → NameTheirCallers g.shape (if_open call g.gateways (λ o. sends_by g caller x o o.stage))
+  sends-any : (caller : ℕ) (x : ProcessId) (call : Option OpenCall) → caller < callers
+      → NameTheirCallers g.shape (if_open call g.gateways (λ o. sends_by g caller x o o.stage))
   sends-any caller x None low = h
   sends-any caller x (Some o) low = sends caller x o o.stage low
 
@@ -58,7 +76,8 @@ module _ (g : Group) (h : NameTheirCallers g.shape g.gateways) where
     answers = h.answers;
     requests = changed-pairs (λ y q rs. Each (λ (r : Request). IsCallerOf g.shape y (requested_by r)) rs) g.gateways.requests x p rest all.1 h.requests;
     parked = changed-each (λ q rs. Each (OfMember g.shape) rs) g.gateways.parked p (g.gateways.parked p ++ r ∷ [])
-        (each-append (OfMember g.shape) (g.gateways.parked p) (r ∷ []) (h.parked p) ((all.0.0, subst (IsProcess g.shape) (sym all.0.1) xin), tt)) (λ q _. h.parked q);
+        (each-append (OfMember g.shape) (g.gateways.parked p) (r ∷ []) (h.parked p)
+        ((all.0.0, subst (IsProcess g.shape) (sym all.0.1) xin), tt)) (λ q _. h.parked q);
   } where
     all : Each (λ (r : Request). IsCallerOf g.shape x (requested_by r)) (r ∷ rest)
     all = subst (Each (λ (r : Request). IsCallerOf g.shape x (requested_by r))) is (h.requests x p)
@@ -131,13 +150,16 @@ handed-low caller call says.AlreadyDead low = tt
 handed-low caller call says.Gone low = tt
 handed-low caller call (says.Stale n) low = tt
 
-treats : (g : Group) (p : ProcessId) (place : ℕ) (r : Option Request) → NameTheirCallers g.shape g.gateways → parked_at g p place ≡ r → NameTheirCallers g.shape (request_treated g p place r)
+treats : (g : Group) (p : ProcessId) (place : ℕ) (r : Option Request) → NameTheirCallers g.shape g.gateways
+    → parked_at g p place ≡ r → NameTheirCallers g.shape (request_treated g p place r)
 treats g p place None h is = h
-treats g p place (Some r) h is = tells g p (told_of r (treating g.shape r (g.works.process p)).answer) (record g.gateways { parked = changed g.gateways.parked p (without (g.gateways.parked p) place) }) (record {
-  answers = h.answers;
-  requests = h.requests;
-  parked = changed-each (λ q rs. Each (OfMember g.shape) rs) g.gateways.parked p (without (g.gateways.parked p) place) (each-without (OfMember g.shape) (g.gateways.parked p) place (h.parked p)) (λ q _. h.parked q);
-}) (told-low r (treating g.shape r (g.works.process p)).answer (each-entry (OfMember g.shape) (g.gateways.parked p) place r is (h.parked p)).0)
+treats g p place (Some r) h is = tells g p (told_of r (treating g.shape r (g.works.process p)).answer)
+    (record g.gateways { parked = changed g.gateways.parked p (without (g.gateways.parked p) place) }) (record {
+      answers = h.answers;
+      requests = h.requests;
+      parked = changed-each (λ q rs. Each (OfMember g.shape) rs) g.gateways.parked p (without (g.gateways.parked p) place)
+          (each-without (OfMember g.shape) (g.gateways.parked p) place (h.parked p)) (λ q _. h.parked q);
+    }) (told-low r (treating g.shape r (g.works.process p)).answer (each-entry (OfMember g.shape) (g.gateways.parked p) place r is (h.parked p)).0)
 
 -- every action that may come keeps it
 theirs-step : (g : Group) (a : Action) → MayAct g a → NameTheirCallers g.shape g.gateways → NameTheirCallers g.shape (gateways_after g a)
@@ -145,7 +167,9 @@ theirs-step g (Begin caller op) may h = record { answers = h.answers; requests =
 theirs-step g (Send caller x) may h = sends-any g h caller x (g.gateways.call caller) may.0.low
 theirs-step g (Read x p) may h = reads g h x p (g.gateways.requests x p) may.sender refl
 theirs-step g (Treat p place) may h = treats g p place (parked_at g p place) h refl
-theirs-step g (Collect caller call p) may h = tells g p (handed_to caller call (collect_from caller call (g.works.process p) (range_with_len 0 g.shape.k)).answer) g.gateways h
+theirs-step g (Collect caller call p) may h =
+    tells g p (handed_to caller call (collect_from caller call (g.works.process p) (range_with_len 0 g.shape.k)).answer)
+    g.gateways h
     (handed-low caller call (collect_from caller call (g.works.process p) (range_with_len 0 g.shape.k)).answer may.0)
 theirs-step g (Flush p) may h = h
 theirs-step g (Learn x p) may h = learns g h x p (g.signs.pinged p) (g.gateways.answers x p) refl
@@ -166,7 +190,9 @@ theirs-step g (Show caller ping) may h = record { answers = h.answers; requests 
 theirs-step g (LetGo caller) may h = record { answers = h.answers; requests = h.requests; parked = h.parked }
 theirs-step g (Stop p) may h = h
 
-theirs-from : (c : Composed) (actions : List Action) → AreActionsFrom c actions → NameTheirCallers c.group.shape c.group.gateways → NameTheirCallers c.group.shape (composed_from c actions).group.gateways
+theirs-from : (c : Composed) (actions : List Action) → AreActionsFrom c actions
+    → NameTheirCallers c.group.shape c.group.gateways
+    → NameTheirCallers c.group.shape (composed_from c actions).group.gateways
 theirs-from c [] run h = h
 theirs-from c (a ∷ rest) run h = theirs-from (composed_with c a) rest run.1 (theirs-step c.group a run.0 h)
 

@@ -65,7 +65,12 @@ module _ (s : Dimensions) (named : Processes) (few : size_of s named ≤ s.m) wh
 
   pub reads-other : (g : Group) → Going s named g → (r p : ProcessId) → IsOther s named r → IsOther s named p → r ≢ p → MayReadOther g r p
   reads-other g going r p rin pin other = record {
-    reads = record { here = here-other g going p pin; sender = subst (λ (t : Dimensions). IsProcess t r) (sym going.shape) rin.0; uncut = uncut g going p r rin.1 };
+    reads = record {
+      here = here-other g going p pin;
+      sender = subst (λ (t : Dimensions). IsProcess t r)
+          (sym going.shape) rin.0;
+      uncut = uncut g going p r rin.1;
+    };
     other = other;
   }
 
@@ -80,18 +85,22 @@ module _ (s : Dimensions) (named : Processes) (few : size_of s named ≤ s.m) wh
     here = g.here;
   }
 
-  cuts : (c : Composed) → Going s named c.group → (p x : ProcessId) → IsOther s named p → IsNamed s named x → Reaches (Knows s named) c (λ d. d.group.words.cut p x ≡ true)
+  cuts : (c : Composed) → Going s named c.group → (p x : ProcessId) → IsOther s named p → IsNamed s named x
+      → Reaches (Knows s named) c (λ d. d.group.words.cut p x ≡ true)
   cuts c g p x pin xin = reaches-by (Knows s named) c (λ d. d.group.words.cut p x ≡ true) (Cut x p) tt
       (here-other c.group g p pin, subst (λ (t : Dimensions). IsProcess t x) (sym g.shape) xin.0, (λ same. cc (xin.1, pin.1, ap named same)), room)
       (record { going = going-cut c g p x xin; cut = grows; heard = λ q r y is. is; taken = λ q y is. is; gateways = refl })
       (ap (λ (set : Processes). set x) (changed-here c.group.words.cut p (with_one (c.group.words.cut p) x)) ∙ changed-here (c.group.words.cut p) x true)
     where
       grows : (q : ProcessId) → IsWithin (c.group.words.cut q) (changed c.group.words.cut p (with_one (c.group.words.cut p) x) q)
-      grows = changed-each (λ q set. IsWithin (c.group.words.cut q) set) c.group.words.cut p (with_one (c.group.words.cut p) x) (grown-set (c.group.words.cut p) x) (λ q _ y is. is)
+      grows = changed-each (λ q set. IsWithin (c.group.words.cut q) set) c.group.words.cut p
+          (with_one (c.group.words.cut p) x) (grown-set (c.group.words.cut p) x) (λ q _ y is. is)
 
       room : size_of c.group.shape (with_one (c.group.words.cut p) x) ≤ c.group.shape.m
       room = subst (λ (t : Dimensions). size_of t (with_one (c.group.words.cut p) x) ≤ t.m) (sym g.shape)
-          (let fewer = size-within s (with_one (c.group.words.cut p) x) named (changed-each (λ y is. is ≡ true → named y ≡ true) (c.group.words.cut p) x true (λ _. xin.1) (λ y _ is. g.cut p y is)) in omega (arith, fewer, few))
+          (let fewer = size-within s (with_one (c.group.words.cut p) x) named
+          (changed-each (λ y is. is ≡ true → named y ≡ true) (c.group.words.cut p) x true (λ _. xin.1)
+          (λ y _ is. g.cut p y is)) in omega (arith, fewer, few))
 
   -- a set is heard
   cut-heard : (w : Words) (r p : ProcessId) (sets : List Processes) → (heard_first r p sets w).cut ≡ w.cut
@@ -122,39 +131,59 @@ module _ (s : Dimensions) (named : Processes) (few : size_of s named ≤ s.m) wh
   abbrev pub AllHeard : ProcessId → ProcessId → List Processes → Composed → Type 0
   AllHeard r p sets d = (x : ProcessId) → list_any (λ set. set x) sets ≡ true → d.group.words.heard p r x ≡ true
 
-  hears : (r p : ProcessId) → IsOther s named r → IsOther s named p → r ≢ p → (sets : List Processes) (c : Composed) → Going s named c.group → c.group.words.said r p ≡ sets → Reaches (Knows s named) c (AllHeard r p sets)
+  hears : (r p : ProcessId) → IsOther s named r → IsOther s named p → r ≢ p → (sets : List Processes) (c : Composed)
+      → Going s named c.group → c.group.words.said r p ≡ sets → Reaches (Knows s named) c (AllHeard r p sets)
   hears r p rin pin other [] c g is = reaches-here (Knows s named) c (AllHeard r p []) (knows-self c g) (λ x some. cc some)
   hears r p rin pin other (set ∷ rest) c g is =
       reaches-then (Knows s named) (knows-trans s named) c Next (AllHeard r p (set ∷ rest))
       (reaches-by (Knows s named) c Next (Hear r p) tt (reads-other c.group g r p rin pin other) (knows-heard c g r p) next)
       (λ d kept both. reaches-weaker (Knows s named) d (AllHeard r p rest) (AllHeard r p (set ∷ rest))
-      (λ e later tail x some. by e x later tail (both.1 x) (or-which (set x) (list_any (λ set. set x) rest) some)) (hears r p rin pin other rest d kept.going both.0))
+      (λ e later tail x some. by e x later tail (both.1 x) (or-which (set x) (list_any (λ set. set x) rest) some))
+      (hears r p rin pin other rest d kept.going both.0))
     where
       Next : Composed → Type 0
       Next d = (d.group.words.said r p ≡ rest) × ((x : ProcessId) → set x ≡ true → d.group.words.heard p r x ≡ true)
 
       next : Next (composed_with c (Hear r p))
-      next = subst (λ (sets : List Processes). ((heard_first r p sets c.group.words).said r p ≡ rest) × ((x : ProcessId) → set x ≡ true → (heard_first r p sets c.group.words).heard p r x ≡ true)) (sym is) (
-        ap (λ (row : ProcessId → List Processes). row p) (changed-here c.group.words.said r (changed (c.group.words.said r) p rest)) ∙ changed-here (c.group.words.said r) p rest,
-        λ x here.
-            ap (λ (row : ProcessId → Processes). row r x) (changed-here c.group.words.heard p (changed (c.group.words.heard p) r (either (c.group.words.heard p r) set)))
-            ∙ ap (λ (f : Processes). f x) (changed-here (c.group.words.heard p) r (either (c.group.words.heard p r) set))
-            ∙ either-right (c.group.words.heard p r) set x here,
-      )
+      next = subst (λ (sets : List Processes). ((heard_first r p sets c.group.words).said r p ≡ rest)
+          × ((x : ProcessId) → set x ≡ true → (heard_first r p sets c.group.words).heard p r x ≡ true)) (sym is) (
+            ap (λ (row : ProcessId → List Processes). row p)
+                (changed-here c.group.words.said r (changed (c.group.words.said r) p rest))
+                ∙ changed-here (c.group.words.said r) p rest,
+            λ x here.
+                ap (λ (row : ProcessId → Processes). row r x)
+                (changed-here c.group.words.heard p
+                (changed (c.group.words.heard p) r (either (c.group.words.heard p r) set)))
+                ∙ ap (λ (f : Processes). f x) (changed-here (c.group.words.heard p) r (either (c.group.words.heard p r) set))
+                ∙ either-right (c.group.words.heard p r) set x here,
+          )
 
-      by : {d : Composed} (e : Composed) (x : ProcessId) → Knows s named d e → AllHeard r p rest e → (set x ≡ true → d.group.words.heard p r x ≡ true) → (set x ≡ true) ⊎ (list_any (λ set. set x) rest ≡ true) → e.group.words.heard p r x ≡ true
+      by : {d : Composed} (e : Composed) (x : ProcessId) → Knows s named d e → AllHeard r p rest e
+          → (set x ≡ true → d.group.words.heard p r x ≡ true) → (set x ≡ true) ⊎ (list_any (λ set. set x) rest ≡ true)
+          → e.group.words.heard p r x ≡ true
       by e x later tail first (inl here) = later.heard p r x (first here)
       by e x later tail first (inr there) = tail x there
 
   -- one says whom it has cut, and another hears it
-  says : (c : Composed) → Going s named c.group → (r p : ProcessId) → IsOther s named r → IsOther s named p → r ≢ p → Reaches (Knows s named) c (λ d. IsWithin (c.group.words.cut r) (d.group.words.heard p r))
+  says : (c : Composed) → Going s named c.group → (r p : ProcessId) → IsOther s named r → IsOther s named p → r ≢ p
+      → Reaches (Knows s named) c (λ d. IsWithin (c.group.words.cut r) (d.group.words.heard p r))
   says c g r p rin pin other =
-      reaches-then (Knows s named) (knows-trans s named) c (λ d. d.group.words.said r p ≡ c.group.words.said r p ++ c.group.words.cut r ∷ []) (λ d. IsWithin (c.group.words.cut r) (d.group.words.heard p r))
+      reaches-then (Knows s named) (knows-trans s named) c (λ d. d.group.words.said r p ≡ c.group.words.said r p
+      ++ c.group.words.cut r ∷ []) (λ d. IsWithin (c.group.words.cut r) (d.group.words.heard p r))
       (reaches-by (Knows s named) c (λ d. d.group.words.said r p ≡ c.group.words.said r p ++ c.group.words.cut r ∷ []) (Say r) tt (here-other c.group g r rin)
-      (record { going = record { shape = g.shape; cut = g.cut; inside = g.inside; here = g.here }; cut = λ q x is. is; heard = λ q y x is. is; taken = λ q x is. is; gateways = refl })
-      (ap (λ (row : ProcessId → List Processes). row p) (changed-here c.group.words.said r (λ q. one_or (c.group.words.cut r q) (c.group.words.said r q) (c.group.words.said r q ++ c.group.words.cut r ∷ [])))
+      (record {
+        going = record { shape = g.shape; cut = g.cut; inside = g.inside; here = g.here };
+        cut = λ q x is. is;
+        heard = λ q y x is. is;
+        taken = λ q x is. is;
+        gateways = refl;
+      })
+      (ap (λ (row : ProcessId → List Processes). row p)
+      (changed-here c.group.words.said r (λ q. one_or (c.group.words.cut r q) (c.group.words.said r q)
+      (c.group.words.said r q ++ c.group.words.cut r ∷ [])))
       ∙ ap (λ (b : Bool). one_or b (c.group.words.said r p) (c.group.words.said r p ++ c.group.words.cut r ∷ [])) (uncut c.group g r p pin.1)))
-      (λ d kept is. reaches-weaker (Knows s named) d (AllHeard r p (c.group.words.said r p ++ c.group.words.cut r ∷ [])) (λ e. IsWithin (c.group.words.cut r) (e.group.words.heard p r))
+      (λ d kept is. reaches-weaker (Knows s named) d (AllHeard r p (c.group.words.said r p ++ c.group.words.cut r ∷ []))
+      (λ e. IsWithin (c.group.words.cut r) (e.group.words.heard p r))
       (λ e later all x inside. all x (any-last (c.group.words.said r p) (c.group.words.cut r) x inside))
       (hears r p rin pin other (c.group.words.said r p ++ c.group.words.cut r ∷ []) d kept.going is))
     where
@@ -168,14 +197,17 @@ module _ (s : Dimensions) (named : Processes) (few : size_of s named ≤ s.m) wh
 
   -- each other has heard so of each
   abbrev pub AllSaid : Composed → Type 0
-  AllSaid d = (p : ProcessId) → IsProcess s p → (r : ProcessId) → IsProcess s r → named p ≡ false → named r ≡ false → r ≢ p → (x : ProcessId) → IsNamed s named x → d.group.words.heard p r x ≡ true
+  AllSaid d = (p : ProcessId) → IsProcess s p → (r : ProcessId) → IsProcess s r → named p ≡ false → named r ≡ false
+      → r ≢ p → (x : ProcessId) → IsNamed s named x → d.group.words.heard p r x ≡ true
 
   -- and has taken their deaths
   abbrev pub AllTaken : Composed → Type 0
   AllTaken d = (p : ProcessId) → IsProcess s p → (x : ProcessId) → IsProcess s x → named p ≡ false → named x ≡ true → d.group.words.taken p x ≡ true
 
   -- what is reached where p isn't named and x is, is reached
-  guarded : (c : Composed) → Going s named c.group → (p x : ProcessId) (P : Composed → Type 0) → (named p ≡ false → named x ≡ true → Reaches (Knows s named) c P) → Reaches (Knows s named) c (λ d. named p ≡ false → named x ≡ true → P d)
+  guarded : (c : Composed) → Going s named c.group → (p x : ProcessId) (P : Composed → Type 0)
+      → (named p ≡ false → named x ≡ true → Reaches (Knows s named) c P)
+      → Reaches (Knows s named) c (λ d. named p ≡ false → named x ≡ true → P d)
   guarded c g p x P step = by (named p) refl (named x) refl where
     by : (a : Bool) → named p ≡ a → (b : Bool) → named x ≡ b → Reaches (Knows s named) c (λ d. named p ≡ false → named x ≡ true → P d)
     by true pn b xn = reaches-here (Knows s named) c (λ d. named p ≡ false → named x ≡ true → P d) (knows-self c g) (λ out inside. cc (pn, out))
@@ -192,7 +224,8 @@ module _ (s : Dimensions) (named : Processes) (few : size_of s named ≤ s.m) wh
 
   all-said : (c : Composed) → Going s named c.group → AllCut c → Reaches (Knows s named) c AllSaid
   all-said c g all = reaches-each (Knows s named) (knows-trans s named) s
-      (λ p d. (r : ProcessId) → IsProcess s r → named p ≡ false → named r ≡ false → r ≢ p → (x : ProcessId) → IsNamed s named x → d.group.words.heard p r x ≡ true)
+      (λ p d. (r : ProcessId) → IsProcess s r → named p ≡ false → named r ≡ false → r ≢ p → (x : ProcessId)
+      → IsNamed s named x → d.group.words.heard p r x ≡ true)
       (λ p d e kept said r rin out far other x xin. kept.heard p r x (said r rin out far other x xin)) c (knows-self c g)
       (λ d kept p pin. reaches-each (Knows s named) (knows-trans s named) s
       (λ r d. named p ≡ false → named r ≡ false → r ≢ p → (x : ProcessId) → IsNamed s named x → d.group.words.heard p r x ≡ true)
@@ -202,7 +235,9 @@ module _ (s : Dimensions) (named : Processes) (few : size_of s named ≤ s.m) wh
       Said : ProcessId → ProcessId → Composed → Type 0
       Said p r d = named p ≡ false → named r ≡ false → r ≢ p → (x : ProcessId) → IsNamed s named x → d.group.words.heard p r x ≡ true
 
-      one : (e : Composed) → Going s named e.group → (p r : ProcessId) → IsProcess s p → IsProcess s r → ((x : ProcessId) → IsNamed s named x → named r ≡ false → e.group.words.cut r x ≡ true) → Reaches (Knows s named) e (Said p r)
+      one : (e : Composed) → Going s named e.group → (p r : ProcessId) → IsProcess s p → IsProcess s r
+          → ((x : ProcessId) → IsNamed s named x → named r ≡ false → e.group.words.cut r x ≡ true)
+          → Reaches (Knows s named) e (Said p r)
       one e ge p r pin rin cut = by (named p) refl (named r) refl (same-cases r p) where
         by : (a : Bool) → named p ≡ a → (b : Bool) → named r ≡ b → (r ≡ p) ⊎ (r ≢ p) → Reaches (Knows s named) e (Said p r)
         by true pn b rn which = reaches-here (Knows s named) e (Said p r) (knows-self e ge) (λ out far other x xin. cc (pn, out))
@@ -212,7 +247,8 @@ module _ (s : Dimensions) (named : Processes) (few : size_of s named ≤ s.m) wh
             (λ d later heard out far _ x xin. heard x (cut x xin far)) (says e ge r p (rin, rn) (pin, pn) other)
 
   -- one that has heard all takes a death
-  takes : (c : Composed) → Going s named c.group → AllCut c → AllSaid c → (p x : ProcessId) → IsOther s named p → IsNamed s named x → Reaches (Knows s named) c (λ d. d.group.words.taken p x ≡ true)
+  takes : (c : Composed) → Going s named c.group → AllCut c → AllSaid c → (p x : ProcessId) → IsOther s named p
+      → IsNamed s named x → Reaches (Knows s named) c (λ d. d.group.words.taken p x ≡ true)
   takes c g all said p x pin xin = by (c.group.words.taken p x) refl where
     permitted : Composed
     permitted = composed_with c (Permit p)
@@ -233,13 +269,26 @@ module _ (s : Dimensions) (named : Processes) (few : size_of s named ≤ s.m) wh
     may = ap (λ (set : Processes). set x) (changed-here c.group.words.permitted p (c.group.words.cut p)) ∙ all p pin.0 x xin.0 pin.1 xin.1
 
     grows : (q : ProcessId) → IsWithin (c.group.words.taken q) (changed c.group.words.taken p (with_one (c.group.words.taken p) x) q)
-    grows = changed-each (λ q set. IsWithin (c.group.words.taken q) set) c.group.words.taken p (with_one (c.group.words.taken p) x) (grown-set (c.group.words.taken p) x) (λ q _ y is. is)
+    grows = changed-each (λ q set. IsWithin (c.group.words.taken q) set) c.group.words.taken p
+        (with_one (c.group.words.taken p) x) (grown-set (c.group.words.taken p) x) (λ q _ y is. is)
 
     by : (b : Bool) → c.group.words.taken p x ≡ b → Reaches (Knows s named) c (λ d. d.group.words.taken p x ≡ true)
     by true is = reaches-here (Knows s named) c (λ d. d.group.words.taken p x ≡ true) (knows-self c g) is
     by false is = (
       Permit p ∷ Take x p ∷ [],
-      ((here-other c.group g p pin, heard), ((here-other permitted.group going-permitted p pin, subst (λ (t : Dimensions). IsProcess t x) (sym g.shape) xin.0, may, is), tt)),
+      (
+        (here-other c.group g p pin, heard),
+        (
+          (
+            here-other permitted.group going-permitted p pin,
+            subst (λ (t : Dimensions). IsProcess t x) (sym g.shape)
+                xin.0,
+            may,
+            is,
+          ),
+          tt,
+        ),
+      ),
       record {
         going = record { shape = g.shape; cut = g.cut; inside = g.inside; here = g.here };
         cut = λ q y is. is;
@@ -268,12 +317,14 @@ module _ (s : Dimensions) (named : Processes) (few : size_of s named ≤ s.m) wh
       (λ e later said. all-taken e later.going (λ q qin y yin far near. later.cut q y (all q qin y yin far near)) said))
 
 -- members cut members
-inside-from : (c : Composed) (actions : List Action) → AreActionsFrom c actions → CutsInside c.group.shape c.group.words → CutsInside c.group.shape (composed_from c actions).group.words
+inside-from : (c : Composed) (actions : List Action) → AreActionsFrom c actions → CutsInside c.group.shape c.group.words
+    → CutsInside c.group.shape (composed_from c actions).group.words
 inside-from c [] run inside = inside
 inside-from c (a ∷ rest) run inside = inside-from (composed_with c a) rest run.1 (cuts-inside c.group a run.0 inside)
 
 -- what a run's group is
-pub going-of : (s : Dimensions) (actions : List Action) (named : Processes) → AreActions s actions → OthersAreHere (composed s actions).group named → Going s named (composed s actions).group
+pub going-of : (s : Dimensions) (actions : List Action) (named : Processes) → AreActions s actions
+    → OthersAreHere (composed s actions).group named → Going s named (composed s actions).group
 going-of s actions named run others = record {
   shape = shape;
   cut = others.cut;
@@ -299,7 +350,8 @@ named_can_be_taken s actions named run others =
     (reaches-weaker (Knows s named) (composed s actions) (AllTaken s named few) (λ d. TakesNamed (composed s actions).group d.group named)
     (λ d kept all. record {
       others = others-of s named few d.group kept.going;
-      taken = λ p x pin out xin inside. all p (subst (λ (t : Dimensions). IsProcess t p) kept.going.shape pin) x (subst (λ (t : Dimensions). IsProcess t x) kept.going.shape xin) out inside;
+      taken = λ p x pin out xin inside. all p (subst (λ (t : Dimensions). IsProcess t p) kept.going.shape pin) x
+          (subst (λ (t : Dimensions). IsProcess t x) kept.going.shape xin) out inside;
       gateways = kept.gateways;
     })
     (named-taken s named few (composed s actions) (going-of s actions named run others)))

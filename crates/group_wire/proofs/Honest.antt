@@ -23,7 +23,8 @@ pub record Honest (c : Composed) : Type 0 where
 
 pub honest-from : (c : Composed) (actions : List Action) → AreActionsFrom c actions → Honest c → Honest (composed_from c actions)
 honest-from c [] run h = h
-honest-from c (a ∷ rest) run h = honest-from (composed_with c a) rest run.1 (record { barred = barred-step c a run.0 h.barred; signed = signed-step c a run.0 h.barred h.signed })
+honest-from c (a ∷ rest) run h = honest-from (composed_with c a) rest run.1
+    (record { barred = barred-step c a run.0 h.barred; signed = signed-step c a run.0 h.barred h.signed })
 
 pub shape-from : (c : Composed) (actions : List Action) → (composed_from c actions).group.shape ≡ c.group.shape
 shape-from c [] = refl
@@ -73,11 +74,14 @@ module _ (c : Composed) (h : Honest c) (apart : NoTwoHoldAll c.group) where
       which : (b : Bool) → c.group.words.permitted g d.by ≡ b → c.failed x ≡ true
       which false out =
           d.told_them g x lost
-          (or-left (c.group.words.heard g d.by x) (list_any (λ set. set x) (c.group.words.said d.by g)) (h.barred.all_said g d.by d.member (λ same. not_self (sym same)) out x may))
+          (or-left (c.group.words.heard g d.by x) (list_any (λ set. set x) (c.group.words.said d.by g))
+          (h.barred.all_said g d.by d.member (λ same. not_self (sym same)) out x may))
       which true inside = absurd (none (apart g d.by)) where
         none : (r : ProcessId) × IsProcess c.group.shape r × (c.group.words.permitted g r ≡ false) × (c.group.words.permitted d.by r ≡ false) → ⊥
         none (r, rin, out_g, out_q) =
-            let living : (b : Bool) → c.failed r ≡ b → c.failed r ≡ false = λ b is. elim b as (λ b. c.failed r ≡ b → c.failed r ≡ false) [ true ↦ λ is. cc (d.permitted r is, out_q) | false ↦ λ is. is ] is in
+            let living : (b : Bool) → c.failed r ≡ b → c.failed r ≡ false =
+            λ b is. elim b as (λ b. c.failed r ≡ b → c.failed r ≡ false)
+            [ true ↦ λ is. cc (d.permitted r is, out_q) | false ↦ λ is. is ] is in
             let told_q : told c.group.words r d.by g ≡ true = or-left (c.group.words.heard d.by r g) (list_any (λ set. set g) (c.group.words.said r d.by))
             (d.heard r rin (λ same. cc (inside, out_g, ap (c.group.words.permitted g) same)) (living (c.failed r) refl) g lost) in
             let told_g : told c.group.words r g d.by ≡ true = or-left (c.group.words.heard g r d.by) (list_any (λ set. set d.by) (c.group.words.said r g))
@@ -104,14 +108,17 @@ module _ (c : Composed) (h : Honest c) (apart : NoTwoHoldAll c.group) where
       false-unless false never = refl
 
       not_self : answerers c.group g ping g ≡ false
-      not_self = false-unless (answerers c.group g ping g) (λ is. (h.signed.answered g g ping (and-both (c.group.signs.answered g ping g) (c.group.words.taken g g) is).0).1 refl)
+      not_self = false-unless (answerers c.group g ping g)
+          (λ is. (h.signed.answered g g ping (and-both (c.group.signs.answered g ping g) (c.group.words.taken g g)
+          is).0).1 refl)
 
       not_taken : c.group.words.taken g g ≡ false
       not_taken = false-unless (c.group.words.taken g g) (λ is. cc (h.barred.permitted g g (h.barred.taken g g is), h.barred.own g))
 
   pub shown-alive : (caller ping : ℕ) → MayAct c.group (Show caller ping) → SentAlive c (gateway_of c.group.shape caller) ping
   shown-alive caller ping may = by (c.failed (gateway_of c.group.shape caller)) refl (cases_lt ping (c.lived (gateway_of c.group.shape caller))) where
-    by : (b : Bool) → c.failed (gateway_of c.group.shape caller) ≡ b → (ping < c.lived (gateway_of c.group.shape caller)) ⊎ (c.lived (gateway_of c.group.shape caller) ≤ ping)
+    by : (b : Bool) → c.failed (gateway_of c.group.shape caller) ≡ b
+        → (ping < c.lived (gateway_of c.group.shape caller)) ⊎ (c.lived (gateway_of c.group.shape caller) ≤ ping)
         → SentAlive c (gateway_of c.group.shape caller) ping
     by false lives which = inl lives
     by true lost (inl early) = inr early
@@ -123,7 +130,9 @@ shown_by_living s actions caller ping run apart may =
     (shown-alive (composed s actions) (honest s actions run) apart caller ping may)
 
 -- two sets that hold fewer than all leave one member out
-apart-by-size : (c : Composed) → Honest c → ((p q : ProcessId) → size_of c.group.shape (either (c.group.words.permitted p) (c.group.words.permitted q)) < c.group.shape.k + c.group.shape.m) → NoTwoHoldAll c.group
+apart-by-size : (c : Composed) → Honest c
+    → ((p q : ProcessId) → size_of c.group.shape (either (c.group.words.permitted p) (c.group.words.permitted q))
+    < c.group.shape.k + c.group.shape.m) → NoTwoHoldAll c.group
 apart-by-size c h small p q = by (lacks c.group.shape (either (c.group.words.permitted p) (c.group.words.permitted q)) (small p q)) where
   by : (x : ProcessId) × IsProcess c.group.shape x × (either (c.group.words.permitted p) (c.group.words.permitted q) x ≡ false)
       → (x : ProcessId) × IsProcess c.group.shape x × (c.group.words.permitted p x ≡ false) × (c.group.words.permitted q x ≡ false)
@@ -149,7 +158,8 @@ few_are_named s actions named run few within = apart-by-size c h (λ p q.
     let both : size_of c.group.shape (either (c.group.words.permitted p) (c.group.words.permitted q)) ≤ size_of c.group.shape named =
     size-within c.group.shape (either (c.group.words.permitted p) (c.group.words.permitted q)) named (named-both p q) in
     let some : 1 ≤ c.group.shape.k = subst (λ (t : Dimensions). 1 ≤ t.k) (sym (shape-from (opening_composed s) actions)) run.0.k.0 in
-    let most : size_of c.group.shape named ≤ c.group.shape.m = subst (λ (t : Dimensions). size_of t named ≤ t.m) (sym (shape-from (opening_composed s) actions)) few in
+    let most : size_of c.group.shape named ≤ c.group.shape.m = subst (λ (t : Dimensions). size_of t named ≤ t.m)
+    (sym (shape-from (opening_composed s) actions)) few in
     omega (arith, both, some, most))
   where
     c : Composed

@@ -17,7 +17,8 @@ from-append : (c : Composed) (actions more : List Action) → composed_from c (a
 from-append c [] more = refl
 from-append c (a ∷ actions) more = from-append (composed_with c a) actions more
 
-may-append : (c : Composed) (actions more : List Action) → AreActionsFrom c actions → AreActionsFrom (composed_from c actions) more → AreActionsFrom c (actions ++ more)
+may-append : (c : Composed) (actions more : List Action) → AreActionsFrom c actions
+    → AreActionsFrom (composed_from c actions) more → AreActionsFrom c (actions ++ more)
 may-append c [] more run next = next
 may-append c (a ∷ actions) more run next = (run.0, may-append (composed_with c a) actions more run.1 next)
 
@@ -26,7 +27,8 @@ abbrev pub Reaches : (Composed → Composed → Type 0) → Composed → (Compos
 Reaches K c P = (more : List Action) × AreActionsFrom c more × K c (composed_from c more) × P (composed_from c more) × Each GoesOn more
 
 -- what is reached of a run
-pub can-be : (K : Composed → Composed → Type 0) (P : Composed → Type 0) (s : Dimensions) (actions : List Action) → AreActions s actions → Reaches K (composed s actions) P → CanBe s actions P
+pub can-be : (K : Composed → Composed → Type 0) (P : Composed → Type 0) (s : Dimensions) (actions : List Action)
+    → AreActions s actions → Reaches K (composed s actions) P → CanBe s actions P
 can-be K P s actions run r = (
   r.0,
   (run.0, may-append (opening_composed s) actions r.0 run.1 r.1),
@@ -47,11 +49,13 @@ can-be-then P Q s actions first next = joined (next first.0 first.1 first.2) whe
   )
 
 -- the same while less is kept
-pub reaches-kept : (K L : Composed → Composed → Type 0) (c : Composed) (P : Composed → Type 0) → ((d : Composed) → K c d → L c d) → Reaches K c P → Reaches L c P
+pub reaches-kept : (K L : Composed → Composed → Type 0) (c : Composed) (P : Composed → Type 0)
+    → ((d : Composed) → K c d → L c d) → Reaches K c P → Reaches L c P
 reaches-kept K L c P less r = (r.0, r.1, less (composed_from c r.0) r.2, r.3, r.4)
 
 -- the same with a weaker claim
-pub reaches-weaker : (K : Composed → Composed → Type 0) (c : Composed) (P Q : Composed → Type 0) → ((d : Composed) → K c d → P d → Q d) → Reaches K c P → Reaches K c Q
+pub reaches-weaker : (K : Composed → Composed → Type 0) (c : Composed) (P Q : Composed → Type 0)
+    → ((d : Composed) → K c d → P d → Q d) → Reaches K c P → Reaches K c Q
 reaches-weaker K c P Q weaker r = (r.0, r.1, r.2, weaker (composed_from c r.0) r.2 r.3, r.4)
 
 -- by no action
@@ -59,7 +63,8 @@ pub reaches-here : (K : Composed → Composed → Type 0) (c : Composed) (P : Co
 reaches-here K c P same is = ([], tt, same, is, tt)
 
 -- by one action
-pub reaches-by : (K : Composed → Composed → Type 0) (c : Composed) (P : Composed → Type 0) (a : Action) → GoesOn a → MayAct c.group a → K c (composed_with c a) → P (composed_with c a) → Reaches K c P
+pub reaches-by : (K : Composed → Composed → Type 0) (c : Composed) (P : Composed → Type 0) (a : Action) → GoesOn a
+    → MayAct c.group a → K c (composed_with c a) → P (composed_with c a) → Reaches K c P
 reaches-by K c P a goes may kept is = (a ∷ [], (may, tt), kept, is, (goes, tt))
 
 module _ (K : Composed → Composed → Type 0) (trans : (c d e : Composed) → K c d → K d e → K c e) where
@@ -95,4 +100,5 @@ module _ (K : Composed → Composed → Type 0) (trans : (c d e : Composed) → 
   reaches-each s P stays c same step =
       reaches-weaker K c (λ e. (i : ℕ) → i < s.k + s.m → P (process_at s i) e) (λ e. (p : ProcessId) → IsProcess s p → P p e)
       (λ e kept all p pin. subst (λ (q : ProcessId). P q e) (process_at-index s p pin) (all (index_of s p) (index-below s p pin)))
-      (reaches-below (λ i. P (process_at s i)) (λ i. stays (process_at s i)) (s.k + s.m) c same (λ d kept i low. step d kept (process_at s i) (process_at-in s i low)))
+      (reaches-below (λ i. P (process_at s i)) (λ i. stays (process_at s i)) (s.k + s.m) c same
+      (λ d kept i low. step d kept (process_at s i) (process_at-in s i low)))

@@ -1,5 +1,7 @@
 -- Requests on the wires and at members: each has the position that its caller comes to, and no caller has two.
-use Rattle.std.proofs.Common.{ℕ, zero, suc, ◌≡◌, ◌≢◌, ◌<◌, ◌≤◌, ◌+◌, ◌==◌, ◌⊎◌, inl, inr, Bool, true, false, List, [], ◌∷◌, ◌++◌, Option, Some, None, IfSome, refl, sym, ap, subst, ◌∙◌, if◌then◌else◌, arith, All}
+use Rattle.std.proofs.Common.{ℕ, zero, suc, ◌≡◌, ◌≢◌, ◌<◌, ◌≤◌, ◌+◌, ◌==◌, ◌⊎◌, inl, inr, Bool, true, false, List, []}
+use Rattle.std.proofs.Common.{◌∷◌, ◌++◌, Option, Some, None, IfSome, refl, sym, ap, subst, ◌∙◌, if◌then◌else◌, arith}
+use Rattle.std.proofs.Common.{All}
 use Rattle.std.proofs.lemmas.Bool.{cases_eq, eq-eqb, ne_eqb}
 use Rattle.group_types.specs.Dimensions.{Dimensions, callers}
 use Rattle.group_types.specs.Each.{Each}
@@ -38,22 +40,28 @@ Living s failed p = IsProcess s p × (failed p ≡ false)
 
 -- the asks of a caller that a member has read, or can still read
 abbrev pub waits : Dimensions → (ProcessId → Processes) → (ProcessId → ProcessId → List Request) → (ProcessId → List Request) → ℕ → ProcessId → ℕ
-waits s cut requests parked caller x = one_or (cut x (gateway_of s caller)) 0 (count_asks caller (requests (gateway_of s caller) x)) + count_asks caller (parked x)
+waits s cut requests parked caller x =
+    one_or (cut x (gateway_of s caller)) 0 (count_asks caller (requests (gateway_of s caller) x)) + count_asks caller
+    (parked x)
 
 -- no caller has two
 pub record AtMostOne (s : Dimensions) (failed : Processes) (wait : ℕ → ProcessId → ℕ) : Type 0 where
   pub here : (caller : ℕ) (x : ProcessId) → Living s failed x → wait caller x ≤ 1
   pub there : (caller : ℕ) (x y : ProcessId) → Living s failed x → Living s failed y → 0 < wait caller x → 0 < wait caller y → x ≡ y
 
-pub fewer-wait : (s : Dimensions) (failed : Processes) (old new : ℕ → ProcessId → ℕ) → ((caller : ℕ) (x : ProcessId) → Living s failed x → new caller x ≤ old caller x) → AtMostOne s failed old → AtMostOne s failed new
+pub fewer-wait : (s : Dimensions) (failed : Processes) (old new : ℕ → ProcessId → ℕ)
+    → ((caller : ℕ) (x : ProcessId) → Living s failed x → new caller x ≤ old caller x) → AtMostOne s failed old
+    → AtMostOne s failed new
 fewer-wait s failed old new fewer m = record {
   here = λ caller x lives. let a = fewer caller x lives in let b = m.here caller x lives in omega (arith, a, b);
-  there = λ caller x y xl yl some more. m.there caller x y xl yl (let a = fewer caller x xl in omega (arith, a, some)) (let a = fewer caller y yl in omega (arith, a, more));
+  there = λ caller x y xl yl some more. m.there caller x y xl yl (let a = fewer caller x xl in omega (arith, a, some))
+      (let a = fewer caller y yl in omega (arith, a, more));
 }
 
 -- a caller that has none gets one, at x
 pub one-waits : (s : Dimensions) (failed : Processes) (old new : ℕ → ProcessId → ℕ) (x : ProcessId)
-    → ((caller : ℕ) (y : ProcessId) → Living s failed y → (new caller y ≤ old caller y) ⊎ ((y ≡ x) × (new caller y ≤ 1) × ((z : ProcessId) → Living s failed z → old caller z ≡ 0)))
+    → ((caller : ℕ) (y : ProcessId) → Living s failed y → (new caller y ≤ old caller y)
+    ⊎ ((y ≡ x) × (new caller y ≤ 1) × ((z : ProcessId) → Living s failed z → old caller z ≡ 0)))
     → AtMostOne s failed old → AtMostOne s failed new
 one-waits s failed old new x which m = record {
   here = λ caller y lives. few caller y lives (which caller y lives);
@@ -77,9 +85,15 @@ pub count-append : (caller : ℕ) (xs ys : List Request) → count_asks caller (
 count-append caller [] ys = omega arith
 count-append caller (x ∷ xs) ys = let rest = count-append caller xs ys in omega (arith, rest)
 
-pub count-without : (caller : ℕ) (xs : List Request) (place : ℕ) (r : Request) → entry_at xs place ≡ Some r → count_asks caller xs ≡ is_ask caller r + count_asks caller (without xs place)
+pub count-without : (caller : ℕ) (xs : List Request) (place : ℕ) (r : Request) → entry_at xs place ≡ Some r
+    → count_asks caller xs ≡ is_ask caller r + count_asks caller (without xs place)
 count-without caller [] place r is = cc is
-count-without caller (x ∷ xs) zero r is = ap (λ (o : Option Request). elim o [ None ↦ is_ask caller x + count_asks caller xs | Some y ↦ is_ask caller y + count_asks caller xs ]) is
+count-without caller (x ∷ xs) zero r is =
+    ap (λ (o : Option Request). elim o [
+      | None ↦ is_ask caller x + count_asks caller xs
+      | Some y ↦ is_ask caller
+          y + count_asks caller xs
+    ]) is
 count-without caller (x ∷ xs) (suc place) r is = let rest = count-without caller xs place r is in omega (arith, rest)
 
 pub each-entry : (P : Request → Type 0) (xs : List Request) (place : ℕ) (r : Request) → entry_at xs place ≡ Some r → Each P xs → P r
@@ -114,32 +128,39 @@ pub asker : (caller : ℕ) (r : Request) (n : ℕ) → is_ask caller r ≡ suc n
 asker caller (AskFor who call op) n asks = by (cases_eq who caller) where
   by : (who ≡ caller) ⊎ (who ≢ caller) → caller ≡ who
   by (inl same) = sym same
-  by (inr other) = let none : ◌≡◌ {A = ℕ} (if who == caller then 1 else 0) 0 = ap (λ (b : Bool). if b then 1 else 0) (ne_eqb who caller other) in absurd (omega (arith, asks, none))
+  by (inr other) = let none : ◌≡◌ {A = ℕ} (if who == caller then 1 else 0) 0 =
+      ap (λ (b : Bool). if b then 1 else 0) (ne_eqb who caller other) in absurd (omega (arith, asks, none))
 asker caller (TraceOf who call d) n asks = absurd (omega (arith, asks))
 
 -- requests among which the caller has none still fit
-pub fits-once : (s : Dimensions) (asked : ℕ → ℕ) (who : ℕ) (rs : List Request) → count_asks who rs ≡ 0 → Each (FitsAsked s asked) rs → Each (FitsAsked s (asked_once asked who)) rs
+pub fits-once : (s : Dimensions) (asked : ℕ → ℕ) (who : ℕ) (rs : List Request) → count_asks who rs ≡ 0
+    → Each (FitsAsked s asked) rs → Each (FitsAsked s (asked_once asked who)) rs
 fits-once s asked who [] none all = tt
 fits-once s asked who (AskFor caller call op ∷ rs) none all =
     (by (cases_eq caller who), fits-once s asked who rs (omega (arith, none)) all.1)
   where
     by : (caller ≡ who) ⊎ (caller ≢ who) → FitsAsked s (asked_once asked who) (AskFor caller call op)
-    by (inl same) = let one : is_ask who (AskFor caller call op) ≡ 1 = ap (λ (b : Bool). if b then 1 else 0) (eq-eqb caller who same) in absurd (omega (arith, none, one))
+    by (inl same) = let one : is_ask who (AskFor caller call op) ≡ 1 =
+        ap (λ (b : Bool). if b then 1 else 0) (eq-eqb caller who same) in absurd (omega (arith, none, one))
     by (inr other) = (all.0.0, all.0.1 ∙ sym (ap (λ (b : Bool). one_or b (suc (asked who)) (asked caller)) (ne_eqb caller who other)), all.0.2)
-fits-once s asked who (TraceOf caller call d ∷ rs) none all =
-    ((all.0.0, (let up = rises in let low : call < asked caller = all.0.1 in omega (arith, low, up)), all.0.2), fits-once s asked who rs (omega (arith, none)) all.1)
+fits-once s asked who (TraceOf caller call d ∷ rs) none all = (
+  (all.0.0, (let up = rises in let low : call < asked caller = all.0.1 in omega (arith, low, up)), all.0.2),
+  fits-once s asked who rs (omega (arith, none)) all.1,
+)
   where
     rises : asked caller ≤ asked_once asked who caller
     rises = changed_at-each (λ c n. asked c ≤ n) asked who (suc (asked who)) (omega arith) (λ c _. omega arith) caller
 
 -- where requests stand
-pub record Placed (s : Dimensions) (cut : ProcessId → Processes) (failed : Processes) (requests : ProcessId → ProcessId → List Request) (parked : ProcessId → List Request) (asked : ℕ → ℕ) : Type 0 where
+pub record Placed (s : Dimensions) (cut : ProcessId → Processes) (failed : Processes)
+    (requests : ProcessId → ProcessId → List Request) (parked : ProcessId → List Request) (asked : ℕ → ℕ) : Type 0 where
   pub owned : (y x : ProcessId) → Each (λ r. gateway_of s (caller_in r) ≡ y) (requests y x)
   pub lanes : (g x : ProcessId) → Living s failed x → cut x g ≡ false → Each (FitsAsked s asked) (requests g x)
   pub parks : (x : ProcessId) → Living s failed x → Each (FitsAsked s asked) (parked x)
   pub one : AtMostOne s failed (waits s cut requests parked)
 
-module _ (s : Dimensions) (cut : ProcessId → Processes) (failed : Processes) (requests : ProcessId → ProcessId → List Request) (parked : ProcessId → List Request) (asked : ℕ → ℕ)
+module _ (s : Dimensions) (cut : ProcessId → Processes) (failed : Processes)
+    (requests : ProcessId → ProcessId → List Request) (parked : ProcessId → List Request) (asked : ℕ → ℕ)
     (b : Placed s cut failed requests parked asked) where
   -- a gateway sends a request: only its caller waits for more, and only at the member that it is sent to
   module _ (g x : ProcessId) (r : Request) where
@@ -147,7 +168,8 @@ module _ (s : Dimensions) (cut : ProcessId → Processes) (failed : Processes) (
     with_sent = changed_from requests g x (one_or (cut g x) (requests g x) (requests g x ++ r ∷ []))
 
     Lane : ℕ → ProcessId → ProcessId → List Request → Type 0
-    Lane caller y z rs = (count_asks caller rs ≡ count_asks caller (requests y z)) ⊎ ((y ≡ g) × (z ≡ x) × (count_asks caller rs ≡ count_asks caller (requests y z) + is_ask caller r))
+    Lane caller y z rs = (count_asks caller rs ≡ count_asks caller (requests y z))
+        ⊎ ((y ≡ g) × (z ≡ x) × (count_asks caller rs ≡ count_asks caller (requests y z) + is_ask caller r))
 
     lane : (caller : ℕ) (y z : ProcessId) → Lane caller y z (with_sent y z)
     unfolding Lane
@@ -159,13 +181,17 @@ module _ (s : Dimensions) (cut : ProcessId → Processes) (failed : Processes) (
         last caller = omega arith
 
     pub sent-which : (caller : ℕ) (y : ProcessId) → (waits s cut with_sent parked caller y ≤ waits s cut requests parked caller y)
-        ⊎ ((y ≡ x) × (gateway_of s caller ≡ g) × (caller ≡ caller_in r) × (cut x g ≡ false) × (0 < is_ask caller r) × (waits s cut with_sent parked caller y ≤ waits s cut requests parked caller y + 1))
+        ⊎ ((y ≡ x) × (gateway_of s caller ≡ g) × (caller ≡ caller_in r) × (cut x g ≡ false) × (0 < is_ask caller r)
+        × (waits s cut with_sent parked caller y ≤ waits s cut requests parked caller y + 1))
     unfolding Lane
     sent-which caller y = by (cut y (gateway_of s caller)) refl (lane caller (gateway_of s caller) y) (is_ask caller r) refl where
-      by : (shut : Bool) → cut y (gateway_of s caller) ≡ shut → Lane caller (gateway_of s caller) y (with_sent (gateway_of s caller) y) → (n : ℕ) → is_ask caller r ≡ n
-          → (one_or shut 0 (count_asks caller (with_sent (gateway_of s caller) y)) + count_asks caller (parked y) ≤ one_or shut 0 (count_asks caller (requests (gateway_of s caller) y)) + count_asks caller (parked y))
+      by : (shut : Bool) → cut y (gateway_of s caller) ≡ shut
+          → Lane caller (gateway_of s caller) y (with_sent (gateway_of s caller) y) → (n : ℕ) → is_ask caller r ≡ n
+          → (one_or shut 0 (count_asks caller (with_sent (gateway_of s caller) y)) + count_asks caller (parked y)
+          ≤ one_or shut 0 (count_asks caller (requests (gateway_of s caller) y)) + count_asks caller (parked y))
           ⊎ ((y ≡ x) × (gateway_of s caller ≡ g) × (caller ≡ caller_in r) × (cut x g ≡ false) × (0 < is_ask caller r)
-          × (one_or shut 0 (count_asks caller (with_sent (gateway_of s caller) y)) + count_asks caller (parked y) ≤ one_or shut 0 (count_asks caller (requests (gateway_of s caller) y)) + count_asks caller (parked y) + 1))
+          × (one_or shut 0 (count_asks caller (with_sent (gateway_of s caller) y)) + count_asks caller (parked y)
+          ≤ one_or shut 0 (count_asks caller (requests (gateway_of s caller) y)) + count_asks caller (parked y) + 1))
       by true is same n asks = inl (omega arith)
       by false is (inl same) n asks = inl (omega (arith, same))
       by false is (inr (at_g, at_x, more)) zero asks = inl (omega (arith, more, asks))
@@ -176,7 +202,9 @@ module _ (s : Dimensions) (cut : ProcessId → Processes) (failed : Processes) (
 
   -- of a caller that it asks for there is no other
   pub placed-sent : (g x : ProcessId) (r : Request) → gateway_of s (caller_in r) ≡ g
-      → (Living s failed x → cut x g ≡ false → FitsAsked s asked r × (0 < is_ask (caller_in r) r → (z : ProcessId) → Living s failed z → waits s cut requests parked (caller_in r) z ≡ 0))
+      → (Living s failed x → cut x g ≡ false → FitsAsked s asked r
+      × (0 < is_ask (caller_in r) r → (z : ProcessId) → Living s failed z → waits s cut requests parked (caller_in r)
+      z ≡ 0))
       → Placed s cut failed (with_sent g x r) parked asked
   placed-sent g x r mine may = record {
     owned = changed-pairs (λ y x rs. Each (λ r. gateway_of s (caller_in r) ≡ y) rs) requests g x row
@@ -186,15 +214,19 @@ module _ (s : Dimensions) (cut : ProcessId → Processes) (failed : Processes) (
         (λ lives uncut. one_or-is (Each (FitsAsked s asked)) (cut g x) (requests g x) (requests g x ++ r ∷ []) (λ _. b.lanes g x lives uncut)
         (λ _. each-append (FitsAsked s asked) (requests g x) (r ∷ []) (b.lanes g x lives uncut) ((may lives uncut).0, tt))) b.lanes;
     parks = b.parks;
-    one = one-waits s failed (waits s cut requests parked) (waits s cut (with_sent g x r) parked) x (λ caller y lives. which caller y lives (sent-which g x r caller y)) b.one;
+    one = one-waits s failed (waits s cut requests parked) (waits s cut (with_sent g x r) parked) x
+        (λ caller y lives. which caller y lives (sent-which g x r caller y)) b.one;
   } where
     row : List Request
     row = one_or (cut g x) (requests g x) (requests g x ++ r ∷ [])
 
     which : (caller : ℕ) (y : ProcessId) → Living s failed y
         → (waits s cut (with_sent g x r) parked caller y ≤ waits s cut requests parked caller y)
-        ⊎ ((y ≡ x) × (gateway_of s caller ≡ g) × (caller ≡ caller_in r) × (cut x g ≡ false) × (0 < is_ask caller r) × (waits s cut (with_sent g x r) parked caller y ≤ waits s cut requests parked caller y + 1))
-        → (waits s cut (with_sent g x r) parked caller y ≤ waits s cut requests parked caller y) ⊎ ((y ≡ x) × (waits s cut (with_sent g x r) parked caller y ≤ 1) × ((z : ProcessId) → Living s failed z → waits s cut requests parked caller z ≡ 0))
+        ⊎ ((y ≡ x) × (gateway_of s caller ≡ g) × (caller ≡ caller_in r) × (cut x g ≡ false) × (0 < is_ask caller r)
+        × (waits s cut (with_sent g x r) parked caller y ≤ waits s cut requests parked caller y + 1))
+        → (waits s cut (with_sent g x r) parked caller y ≤ waits s cut requests parked caller y)
+        ⊎ ((y ≡ x) × (waits s cut (with_sent g x r) parked caller y ≤ 1)
+        × ((z : ProcessId) → Living s failed z → waits s cut requests parked caller z ≡ 0))
     which caller y lives (inl less) = inl less
     which caller y lives (inr (at_x, at_g, its, uncut, asks, more)) =
         let none : (z : ProcessId) → Living s failed z → waits s cut requests parked caller z ≡ 0 =
@@ -205,13 +237,16 @@ module _ (s : Dimensions) (cut : ProcessId → Processes) (failed : Processes) (
 
   -- what is read was waiting before
   pub read-fewer : (g p : ProcessId) (r : Request) (rest : List Request) → requests g p ≡ r ∷ rest → cut p g ≡ false
-      → (caller : ℕ) (x : ProcessId) → waits s cut (changed_from requests g p rest) (changed parked p (parked p ++ r ∷ [])) caller x ≤ waits s cut requests parked caller x
+      → (caller : ℕ) (x : ProcessId)
+      → waits s cut (changed_from requests g p rest) (changed parked p (parked p ++ r ∷ [])) caller x
+      ≤ waits s cut requests parked caller x
   read-fewer g p r rest is uncut = fewer where
     mine : Each (λ r. gateway_of s (caller_in r) ≡ g) (r ∷ rest)
     mine = subst (Each (λ r. gateway_of s (caller_in r) ≡ g)) is (b.owned g p)
 
     Lane : ℕ → ProcessId → ProcessId → List Request → Type 0
-    Lane caller y z rs = ((y ≢ g) ⊎ (z ≢ p)) × (count_asks caller rs ≡ count_asks caller (requests y z)) ⊎ ((y ≡ g) × (z ≡ p) × (count_asks caller (requests y z) ≡ is_ask caller r + count_asks caller rs))
+    Lane caller y z rs = ((y ≢ g) ⊎ (z ≢ p)) × (count_asks caller rs ≡ count_asks caller (requests y z))
+        ⊎ ((y ≡ g) × (z ≡ p) × (count_asks caller (requests y z) ≡ is_ask caller r + count_asks caller rs))
 
     lane : (caller : ℕ) (y z : ProcessId) → (y ≡ g) ⊎ (y ≢ g) → (z ≡ p) ⊎ (z ≢ p) → Lane caller y z (changed_from requests g p rest y z)
     lane caller y z (inl yg) (inl zp) = inr (
@@ -222,7 +257,12 @@ module _ (s : Dimensions) (cut : ProcessId → Processes) (failed : Processes) (
           (ap (λ (a : ProcessId). changed_from requests g p rest a z) yg ∙ ap (λ (a : ProcessId). changed_from requests g p rest g a) zp
           ∙ ap (λ (f : ProcessId → List Request). f p) (changed-here requests g (changed (requests g) p rest)) ∙ changed-here (requests g) p rest)),
     )
-    lane caller y z (inr other) w = inl (inl other, ap (λ (f : ProcessId → List Request). count_asks caller (f z)) (changed-other requests g y (changed (requests g) p rest) other))
+    lane caller y z (inr other) w =
+        inl (
+          inl other,
+          ap (λ (f : ProcessId → List Request). count_asks caller (f z))
+              (changed-other requests g y (changed (requests g) p rest) other),
+        )
     lane caller y z (inl yg) (inr other) = inl (
       inr other,
       ap (λ (a : ProcessId). count_asks caller (changed_from requests g p rest a z)) yg
@@ -232,32 +272,40 @@ module _ (s : Dimensions) (cut : ProcessId → Processes) (failed : Processes) (
     )
 
     Park : ℕ → ProcessId → List Request → Type 0
-    Park caller z rs = (count_asks caller rs ≡ count_asks caller (parked z)) ⊎ ((z ≡ p) × (count_asks caller rs ≡ count_asks caller (parked z) + is_ask caller r))
+    Park caller z rs = (count_asks caller rs ≡ count_asks caller (parked z))
+        ⊎ ((z ≡ p) × (count_asks caller rs ≡ count_asks caller (parked z) + is_ask caller r))
 
     park : (caller : ℕ) (z : ProcessId) → Park caller z (changed parked p (parked p ++ r ∷ []) z)
     park caller = changed-each (Park caller) parked p (parked p ++ r ∷ []) (inr (refl, count-append caller (parked p) (r ∷ []) ∙ last)) (λ z _. inl refl) where
       last : count_asks caller (parked p) + (is_ask caller r + 0) ≡ count_asks caller (parked p) + is_ask caller r
       last = omega arith
 
-    fewer : (caller : ℕ) (x : ProcessId) → waits s cut (changed_from requests g p rest) (changed parked p (parked p ++ r ∷ [])) caller x ≤ waits s cut requests parked caller x
-    fewer caller x = by (cut x (gateway_of s caller)) refl (lane caller (gateway_of s caller) x (same-cases (gateway_of s caller) g) (same-cases x p)) (park caller x) (is_ask caller r) refl where
-      owner : (n : ℕ) → is_ask caller r ≡ suc n → gateway_of s caller ≡ g
-      owner n asks = ap (gateway_of s) (asker caller r n asks) ∙ mine.0
+    fewer : (caller : ℕ) (x : ProcessId)
+        → waits s cut (changed_from requests g p rest) (changed parked p (parked p ++ r ∷ [])) caller x
+        ≤ waits s cut requests parked caller x
+    fewer caller x =
+        by (cut x (gateway_of s caller)) refl (lane caller (gateway_of s caller) x (same-cases (gateway_of s caller) g)
+        (same-cases x p)) (park caller x) (is_ask caller r) refl where
+          owner : (n : ℕ) → is_ask caller r ≡ suc n → gateway_of s caller ≡ g
+          owner n asks = ap (gateway_of s) (asker caller r n asks) ∙ mine.0
 
-      by : (shut : Bool) → cut x (gateway_of s caller) ≡ shut → Lane caller (gateway_of s caller) x (changed_from requests g p rest (gateway_of s caller) x) → Park caller x (changed parked p (parked p ++ r ∷ []) x)
-          → (n : ℕ) → is_ask caller r ≡ n
-          → one_or shut 0 (count_asks caller (changed_from requests g p rest (gateway_of s caller) x)) + count_asks caller (changed parked p (parked p ++ r ∷ []) x)
-          ≤ one_or shut 0 (count_asks caller (requests (gateway_of s caller) x)) + count_asks caller (parked x)
-      by true shut l (inl same) n asks = omega (arith, same)
-      by true shut l (inr (at_p, more)) zero asks = omega (arith, more, asks)
-      by true shut l (inr (at_p, more)) (suc n) asks =
-          let there : cut x (gateway_of s caller) ≡ cut p g = λ i. cut (at_p i) (owner n asks i) in cc (shut, uncut, there)
-      by false shut (inl (far, same)) (inl kept) n asks = omega (arith, same, kept)
-      by false shut (inl (far, same)) (inr (at_p, more)) zero asks = omega (arith, same, more, asks)
-      by false shut (inl (inl far, same)) (inr (at_p, more)) (suc n) asks = absurd (far (owner n asks))
-      by false shut (inl (inr far, same)) (inr (at_p, more)) (suc n) asks = absurd (far at_p)
-      by false shut (inr (at_g, at_p, less)) (inl kept) n asks = omega (arith, less, kept)
-      by false shut (inr (at_g, at_p, less)) (inr (_, more)) n asks = omega (arith, less, more)
+          by : (shut : Bool) → cut x (gateway_of s caller) ≡ shut
+              → Lane caller (gateway_of s caller) x (changed_from requests g p rest (gateway_of s caller) x)
+              → Park caller x (changed parked p (parked p ++ r ∷ []) x)
+              → (n : ℕ) → is_ask caller r ≡ n
+              → one_or shut 0 (count_asks caller (changed_from requests g p rest (gateway_of s caller) x)) + count_asks
+              caller (changed parked p (parked p ++ r ∷ []) x)
+              ≤ one_or shut 0 (count_asks caller (requests (gateway_of s caller) x)) + count_asks caller (parked x)
+          by true shut l (inl same) n asks = omega (arith, same)
+          by true shut l (inr (at_p, more)) zero asks = omega (arith, more, asks)
+          by true shut l (inr (at_p, more)) (suc n) asks =
+              let there : cut x (gateway_of s caller) ≡ cut p g = λ i. cut (at_p i) (owner n asks i) in cc (shut, uncut, there)
+          by false shut (inl (far, same)) (inl kept) n asks = omega (arith, same, kept)
+          by false shut (inl (far, same)) (inr (at_p, more)) zero asks = omega (arith, same, more, asks)
+          by false shut (inl (inl far, same)) (inr (at_p, more)) (suc n) asks = absurd (far (owner n asks))
+          by false shut (inl (inr far, same)) (inr (at_p, more)) (suc n) asks = absurd (far at_p)
+          by false shut (inr (at_g, at_p, less)) (inl kept) n asks = omega (arith, less, kept)
+          by false shut (inr (at_g, at_p, less)) (inr (_, more)) n asks = omega (arith, less, more)
 
   -- a member reads the first request of a wire
   pub placed-read : (g p : ProcessId) (r : Request) (rest : List Request) → requests g p ≡ r ∷ rest → cut p g ≡ false
@@ -267,7 +315,9 @@ module _ (s : Dimensions) (cut : ProcessId → Processes) (failed : Processes) (
     lanes = changed-pairs (λ y x rs. Living s failed x → cut x y ≡ false → Each (FitsAsked s asked) rs) requests g p rest (λ lives _. (fit lives).1) b.lanes;
     parks = changed-each (λ x rs. Living s failed x → Each (FitsAsked s asked) rs) parked p (parked p ++ r ∷ [])
         (λ lives. each-append (FitsAsked s asked) (parked p) (r ∷ []) (b.parks p lives) ((fit lives).0, tt)) (λ x _. b.parks x);
-    one = fewer-wait s failed (waits s cut requests parked) (waits s cut (changed_from requests g p rest) (changed parked p (parked p ++ r ∷ []))) (λ caller x _. read-fewer g p r rest is uncut caller x) b.one;
+    one = fewer-wait s failed (waits s cut requests parked)
+        (waits s cut (changed_from requests g p rest) (changed parked p (parked p ++ r ∷ [])))
+        (λ caller x _. read-fewer g p r rest is uncut caller x) b.one;
   } where
     mine : Each (λ r. gateway_of s (caller_in r) ≡ g) (r ∷ rest)
     mine = subst (Each (λ r. gateway_of s (caller_in r) ≡ g)) is (b.owned g p)
@@ -276,7 +326,9 @@ module _ (s : Dimensions) (cut : ProcessId → Processes) (failed : Processes) (
     fit lives = subst (Each (FitsAsked s asked)) is (b.lanes g p lives uncut)
 
   -- what is left was waiting before
-  pub taken-fewer : (p : ProcessId) (place caller : ℕ) (x : ProcessId) → waits s cut requests (changed parked p (without (parked p) place)) caller x ≤ waits s cut requests parked caller x
+  pub taken-fewer : (p : ProcessId) (place caller : ℕ) (x : ProcessId)
+      → waits s cut requests (changed parked p (without (parked p) place)) caller x ≤ waits s cut requests parked caller
+      x
   taken-fewer p place caller x = fewer caller x where
     less : (caller : ℕ) (rs : List Request) (place : ℕ) → count_asks caller (without rs place) ≤ count_asks caller rs
     less caller [] place = omega arith
@@ -284,7 +336,8 @@ module _ (s : Dimensions) (cut : ProcessId → Processes) (failed : Processes) (
     less caller (r ∷ rs) (suc place) = let rest = less caller rs place in omega (arith, rest)
 
     park : (caller : ℕ) (z : ProcessId) → count_asks caller (changed parked p (without (parked p) place) z) ≤ count_asks caller (parked z)
-    park caller = changed-each (λ z rs. count_asks caller rs ≤ count_asks caller (parked z)) parked p (without (parked p) place) (less caller (parked p) place) (λ z _. omega arith)
+    park caller = changed-each (λ z rs. count_asks caller rs ≤ count_asks caller (parked z)) parked p
+        (without (parked p) place) (less caller (parked p) place) (λ z _. omega arith)
 
     fewer : (caller : ℕ) (x : ProcessId) → waits s cut requests (changed parked p (without (parked p) place)) caller x ≤ waits s cut requests parked caller x
     fewer caller x = let l = park caller x in omega (arith, l)
@@ -296,11 +349,14 @@ module _ (s : Dimensions) (cut : ProcessId → Processes) (failed : Processes) (
     lanes = b.lanes;
     parks = changed-each (λ x rs. Living s failed x → Each (FitsAsked s asked) rs) parked p (without (parked p) place)
         (λ lives. each-without (FitsAsked s asked) (parked p) place (b.parks p lives)) (λ x _. b.parks x);
-    one = fewer-wait s failed (waits s cut requests parked) (waits s cut requests (changed parked p (without (parked p) place))) (λ caller x _. taken-fewer p place caller x) b.one;
+    one = fewer-wait s failed (waits s cut requests parked)
+        (waits s cut requests (changed parked p (without (parked p) place)))
+        (λ caller x _. taken-fewer p place caller x) b.one;
   }
 
   -- it waited
-  pub one-waiting : (p : ProcessId) (place caller call : ℕ) (op : Asked) → entry_at (parked p) place ≡ Some (AskFor caller call op) → 0 < waits s cut requests parked caller p
+  pub one-waiting : (p : ProcessId) (place caller call : ℕ) (op : Asked) → entry_at (parked p) place
+      ≡ Some (AskFor caller call op) → 0 < waits s cut requests parked caller p
   one-waiting p place caller call op is =
       let all = count-without caller (parked p) place (AskFor caller call op) is in
       let own = is_ask-own caller call op in
@@ -321,10 +377,13 @@ module _ (s : Dimensions) (cut : ProcessId → Processes) (failed : Processes) (
         let all = count-without caller (parked p) place (AskFor caller call op) is in
         let own = is_ask-own caller call op in
         let few = b.one.here caller p lives in
-        let here : count_asks caller (changed parked p (without (parked p) place) p) ≡ count_asks caller (without (parked p) place) = ap (count_asks caller) (changed-here parked p (without (parked p) place)) in
+        let here : count_asks caller (changed parked p (without (parked p) place) p)
+        ≡ count_asks caller (without (parked p) place) =
+        ap (count_asks caller) (changed-here parked p (without (parked p) place)) in
         ap (λ (y : ProcessId). waits s cut requests (changed parked p (without (parked p) place)) caller y) same ∙ omega (arith, all, own, few, here)
     by (inr other) =
-        let same : count_asks caller (changed parked p (without (parked p) place) z) ≡ count_asks caller (parked z) = ap (count_asks caller) (changed-other parked p z (without (parked p) place) other) in
+        let same : count_asks caller (changed parked p (without (parked p) place) z) ≡ count_asks caller (parked z) =
+        ap (count_asks caller) (changed-other parked p z (without (parked p) place) other) in
         omega (arith, same, nothing)
       where
         nothing : waits s cut requests parked caller z ≤ 0
@@ -334,10 +393,12 @@ module _ (s : Dimensions) (cut : ProcessId → Processes) (failed : Processes) (
           which (suc n) is = absurd (other (b.one.there caller z p zl lives (omega (arith, is)) some))
 
   -- what a cut leaves was waiting before
-  pub cut-fewer : (now : ProcessId → Processes) → ((x g : ProcessId) → cut x g ≡ true → now x g ≡ true) → (caller : ℕ) (x : ProcessId) → waits s now requests parked caller x ≤ waits s cut requests parked caller x
+  pub cut-fewer : (now : ProcessId → Processes) → ((x g : ProcessId) → cut x g ≡ true → now x g ≡ true)
+      → (caller : ℕ) (x : ProcessId) → waits s now requests parked caller x ≤ waits s cut requests parked caller x
   cut-fewer now grows caller x = less (cut x (gateway_of s caller)) (now x (gateway_of s caller)) caller x (grows x (gateway_of s caller)) where
     less : (c d : Bool) (caller : ℕ) (x : ProcessId) → (c ≡ true → d ≡ true)
-        → one_or d 0 (count_asks caller (requests (gateway_of s caller) x)) + count_asks caller (parked x) ≤ one_or c 0 (count_asks caller (requests (gateway_of s caller) x)) + count_asks caller (parked x)
+        → one_or d 0 (count_asks caller (requests (gateway_of s caller) x)) + count_asks caller (parked x)
+        ≤ one_or c 0 (count_asks caller (requests (gateway_of s caller) x)) + count_asks caller (parked x)
     less true true caller x there = omega arith
     less false true caller x there = omega arith
     less false false caller x there = omega arith
@@ -368,7 +429,8 @@ module _ (s : Dimensions) (cut : ProcessId → Processes) (failed : Processes) (
   }
 
   -- a caller that has none waiting has asked once more
-  pub placed-once : (who : ℕ) → ((z : ProcessId) → Living s failed z → waits s cut requests parked who z ≡ 0) → Placed s cut failed requests parked (asked_once asked who)
+  pub placed-once : (who : ℕ) → ((z : ProcessId) → Living s failed z → waits s cut requests parked who z ≡ 0)
+      → Placed s cut failed requests parked (asked_once asked who)
   placed-once who none = record {
     owned = b.owned;
     lanes = λ g x lives uncut. lane g x lives uncut (same-cases (gateway_of s who) g);
@@ -382,7 +444,8 @@ module _ (s : Dimensions) (cut : ProcessId → Processes) (failed : Processes) (
       by zero is rest = omega (arith, is, rest)
       by (suc n) is rest = absurd (other (ap (gateway_of s) (asker who r n is) ∙ all.0))
 
-    lane : (g x : ProcessId) → Living s failed x → cut x g ≡ false → (gateway_of s who ≡ g) ⊎ (gateway_of s who ≢ g) → Each (FitsAsked s (asked_once asked who)) (requests g x)
+    lane : (g x : ProcessId) → Living s failed x → cut x g ≡ false → (gateway_of s who ≡ g) ⊎ (gateway_of s who ≢ g)
+        → Each (FitsAsked s (asked_once asked who)) (requests g x)
     lane g x lives uncut (inr other) = fits-once s asked who (requests g x) (unasked g (requests g x) other (b.owned g x)) (b.lanes g x lives uncut)
     lane g x lives uncut (inl same) = fits-once s asked who (requests g x) none-here (b.lanes g x lives uncut) where
       none-here : count_asks who (requests g x) ≡ 0
@@ -390,11 +453,13 @@ module _ (s : Dimensions) (cut : ProcessId → Processes) (failed : Processes) (
           let open_to : cut x (gateway_of s who) ≡ false = ap (cut x) same ∙ uncut in
           let all : one_or false 0 (count_asks who (requests (gateway_of s who) x)) + count_asks who (parked x) ≡ 0 =
           ap (λ (c : Bool). one_or c 0 (count_asks who (requests (gateway_of s who) x)) + count_asks who (parked x)) (sym open_to) ∙ none x lives in
-          let here : count_asks who (requests g x) ≡ count_asks who (requests (gateway_of s who) x) = ap (λ (a : ProcessId). count_asks who (requests a x)) (sym same) in
+          let here : count_asks who (requests g x) ≡ count_asks who (requests (gateway_of s who) x) =
+          ap (λ (a : ProcessId). count_asks who (requests a x)) (sym same) in
           omega (arith, all, here)
 
   -- where none of a caller's asks waits, there is none in a wire that can still be read, nor among those that were read
-  pub lane-none : (who : ℕ) → ((z : ProcessId) → Living s failed z → waits s cut requests parked who z ≡ 0) → (g x : ProcessId) → Living s failed x → cut x g ≡ false → count_asks who (requests g x) ≡ 0
+  pub lane-none : (who : ℕ) → ((z : ProcessId) → Living s failed z → waits s cut requests parked who z ≡ 0)
+      → (g x : ProcessId) → Living s failed x → cut x g ≡ false → count_asks who (requests g x) ≡ 0
   lane-none who none g x lives uncut = by (same-cases (gateway_of s who) g) where
     unasked : (rs : List Request) → gateway_of s who ≢ g → Each (λ r. gateway_of s (caller_in r) ≡ g) rs → count_asks who rs ≡ 0
     unasked [] other all = refl
@@ -409,8 +474,10 @@ module _ (s : Dimensions) (cut : ProcessId → Processes) (failed : Processes) (
         let open_to : cut x (gateway_of s who) ≡ false = ap (cut x) same ∙ uncut in
         let all : one_or false 0 (count_asks who (requests (gateway_of s who) x)) + count_asks who (parked x) ≡ 0 =
         ap (λ (c : Bool). one_or c 0 (count_asks who (requests (gateway_of s who) x)) + count_asks who (parked x)) (sym open_to) ∙ none x lives in
-        let here : count_asks who (requests g x) ≡ count_asks who (requests (gateway_of s who) x) = ap (λ (a : ProcessId). count_asks who (requests a x)) (sym same) in
+        let here : count_asks who (requests g x) ≡ count_asks who (requests (gateway_of s who) x) =
+        ap (λ (a : ProcessId). count_asks who (requests a x)) (sym same) in
         omega (arith, all, here)
 
-  pub park-none : (who : ℕ) → ((z : ProcessId) → Living s failed z → waits s cut requests parked who z ≡ 0) → (x : ProcessId) → Living s failed x → count_asks who (parked x) ≡ 0
+  pub park-none : (who : ℕ) → ((z : ProcessId) → Living s failed z → waits s cut requests parked who z ≡ 0)
+      → (x : ProcessId) → Living s failed x → count_asks who (parked x) ≡ 0
   park-none who none x lives = let all = none x lives in omega (arith, all)

@@ -3,7 +3,9 @@ use Rattle.std.proofs.Common.{refl}
 use Rattle.std.specs.Fmt.{digits}
 use Rattle.field_byte.specs.Field.{product_of_bits, product, inverse_below, inverse}
 use Rattle.field_byte.specs.Vectors.{add_bytes, scale}
-use Rattle.group_wire.specs.RowsOfFailures.{BothHeadsFail, HeadsAreCondemned, NobodyIsDead, TwoFailAtOnce, both_heads_fail_actions, heads_are_condemned_actions, nobody_is_dead_actions, two_fail_at_once_actions}
+use Rattle.group_wire.specs.RowsOfFailures.{BothHeadsFail, HeadsAreCondemned, NobodyIsDead, TwoFailAtOnce}
+use Rattle.group_wire.specs.RowsOfFailures.{both_heads_fail_actions, heads_are_condemned_actions}
+use Rattle.group_wire.specs.RowsOfFailures.{nobody_is_dead_actions, two_fail_at_once_actions}
 use Rattle.group_wire.proofs.Checks.{may-come}
 
 pub row_two_fail_at_once : TwoFailAtOnce

@@ -3,7 +3,8 @@ use Rattle.std.proofs.Common.{refl}
 use Rattle.std.specs.Fmt.{digits}
 use Rattle.field_byte.specs.Field.{product_of_bits, product, inverse_below, inverse}
 use Rattle.field_byte.specs.Vectors.{add_bytes, scale}
-use Rattle.group_wire.specs.RowsOfFates.{ALostAsk, GoneAndAskedAgain, ShownByAFailedOne, a_lost_ask_actions, gone_and_asked_again_actions, shown_by_a_failed_one_actions}
+use Rattle.group_wire.specs.RowsOfFates.{ALostAsk, GoneAndAskedAgain, ShownByAFailedOne, a_lost_ask_actions}
+use Rattle.group_wire.specs.RowsOfFates.{gone_and_asked_again_actions, shown_by_a_failed_one_actions}
 use Rattle.group_wire.proofs.Checks.{may-come}
 
 pub row_gone_and_asked_again : GoneAndAskedAgain

@@ -3,7 +3,9 @@ use Rattle.std.proofs.Common.{refl}
 use Rattle.std.specs.Fmt.{digits}
 use Rattle.field_byte.specs.Field.{product_of_bits, product, inverse_below, inverse}
 use Rattle.field_byte.specs.Vectors.{add_bytes, scale}
-use Rattle.group_wire.specs.RowsOfGateways.{AReadIsAskedAgain, Ghosts, KeptBehindACut, ThreeGateways, a_read_is_asked_again_actions, ghosts_actions, kept_behind_a_cut_actions, three_gateways_actions}
+use Rattle.group_wire.specs.RowsOfGateways.{AReadIsAskedAgain, Ghosts, KeptBehindACut, ThreeGateways}
+use Rattle.group_wire.specs.RowsOfGateways.{a_read_is_asked_again_actions, ghosts_actions, kept_behind_a_cut_actions}
+use Rattle.group_wire.specs.RowsOfGateways.{three_gateways_actions}
 use Rattle.group_wire.proofs.Checks.{may-come}
 
 pub row_a_read_is_asked_again : AReadIsAskedAgain

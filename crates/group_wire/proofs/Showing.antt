@@ -1,5 +1,6 @@
 -- What is shown is the answer of a member's event, and a reply stands in the log since the call began.
-use Rattle.std.proofs.Common.{ℕ, zero, suc, ◌≡◌, ◌<◌, ◌≤◌, ◌+◌, ◌⊎◌, inl, inr, false, List, [], ◌∷◌, ◌++◌, Option, Some, None, length, take, drop, map, refl, sym, ap, subst, ◌∙◌, arith}
+use Rattle.std.proofs.Common.{ℕ, zero, suc, ◌≡◌, ◌<◌, ◌≤◌, ◌+◌, ◌⊎◌, inl, inr, false, List, [], ◌∷◌, ◌++◌, Option, Some}
+use Rattle.std.proofs.Common.{None, length, take, drop, map, refl, sym, ap, subst, ◌∙◌, arith}
 use Rattle.std.proofs.lemmas.Bool.{cases_lt}
 use Rattle.std.proofs.lemmas.List.{append_assoc, length-append, take-append-drop}
 use Rattle.std.specs.Prelude.{slice_get}
@@ -35,7 +36,8 @@ use Rattle.group_wire.proofs.Wants.{FirmCall, FirmStage}
 use Rattle.group_wire.proofs.Whole.{Whole, whole}
 
 -- a list of turns, and what was made beside it
-pub made-turn : (w : World) (made : List Made) (place : ℕ) (x : Made) → slice_get made place ≡ Some x → map (λ (t : Turn). t.answer) (turns_from w (events_in made)) ≡ map (λ x. x.answer) made
+pub made-turn : (w : World) (made : List Made) (place : ℕ) (x : Made) → slice_get made place ≡ Some x
+    → map (λ (t : Turn). t.answer) (turns_from w (events_in made)) ≡ map (λ x. x.answer) made
     → (turn : Turn) × (slice_get (turns_from w (events_in made)) place ≡ Some turn) × (turn.event ≡ x.event) × (turn.answer ≡ x.answer)
 made-turn w [] place x is same = absurd (cc is)
 made-turn w (y ∷ made) zero x is same = (
@@ -54,13 +56,15 @@ made-turn w (y ∷ made) (suc place) x is same = made-turn (step w y.event).worl
   rest (a ∷ more) = more
 
 -- what was made beside a turn
-pub turn-made : (w : World) (made : List Made) (j : ℕ) (t : Turn) → slice_get (turns_from w (events_in made)) j ≡ Some t → (y : Made) × (slice_get made j ≡ Some y) × (y.event ≡ t.event)
+pub turn-made : (w : World) (made : List Made) (j : ℕ) (t : Turn) → slice_get (turns_from w (events_in made)) j ≡ Some t
+    → (y : Made) × (slice_get made j ≡ Some y) × (y.event ≡ t.event)
 turn-made w [] j t is = absurd (cc is)
 turn-made w (y ∷ made) zero t is = (y, refl, ap (λ (o : Option Turn). elim o [ None ↦ y.event | Some z ↦ z.event ]) is)
 turn-made w (y ∷ made) (suc j) t is = turn-made (step w y.event).world made j t is
 
 -- the asks among the first turns are those among the first events
-pub asks-front : (w : World) (made : List Made) (n caller : ℕ) → asks_of caller (take n (turns_from w (events_in made))) ≡ asks_among caller (map (λ x. x.event) (take n made))
+pub asks-front : (w : World) (made : List Made) (n caller : ℕ) → asks_of caller (take n (turns_from w (events_in made)))
+    ≡ asks_among caller (map (λ x. x.event) (take n made))
 asks-front w made zero caller = refl
 asks-front w [] (suc n) caller = refl
 asks-front w (y ∷ made) (suc n) caller = let rest = asks-front (step w y.event).world made n caller in omega (arith, rest)
@@ -86,11 +90,14 @@ get-right (y ∷ xs) ys i x is = subst (λ (n : ℕ). slice_get (y ∷ xs ++ ys)
   next a b = omega arith
 
 -- what a turn logged stands behind what those before it logged
-log-at : (turns : List Turn) (i : ℕ) (turn : Turn) (j : ℕ) (e : Entry) → slice_get turns i ≡ Some turn → slice_get turn.logged j ≡ Some e → slice_get (log_of turns) (length (log_of (take i turns)) + j) ≡ Some e
+log-at : (turns : List Turn) (i : ℕ) (turn : Turn) (j : ℕ) (e : Entry) → slice_get turns i ≡ Some turn
+    → slice_get turn.logged j ≡ Some e → slice_get (log_of turns) (length (log_of (take i turns)) + j) ≡ Some e
 log-at [] i turn j e is at = absurd (cc is)
-log-at (t ∷ turns) zero turn j e is at = subst (λ (n : ℕ). slice_get (log_of (t ∷ turns)) n ≡ Some e) (first j) (get-left t.logged (log_of turns) j e (ap (λ (o : Option Turn). elim o [ None ↦ slice_get t.logged j | Some u ↦ slice_get u.logged j ]) is ∙ at)) where
-  first : (j : ℕ) → j ≡ 0 + j
-  first j = omega arith
+log-at (t ∷ turns) zero turn j e is at = subst (λ (n : ℕ). slice_get (log_of (t ∷ turns)) n ≡ Some e) (first j)
+    (get-left t.logged (log_of turns) j e
+    (ap (λ (o : Option Turn). elim o [ None ↦ slice_get t.logged j | Some u ↦ slice_get u.logged j ]) is ∙ at)) where
+      first : (j : ℕ) → j ≡ 0 + j
+      first j = omega arith
 log-at (t ∷ turns) (suc i) turn j e is at =
     let long = length-append t.logged (log_of (take i turns)) in
     let same : length (t.logged ++ log_of (take i turns)) + j ≡ length t.logged + (length (log_of (take i turns)) + j) = omega (arith, long) in
@@ -109,32 +116,49 @@ asks-rise caller [] (suc i) j low = omega arith
 asks-rise caller (t ∷ turns) (suc i) zero low = absurd (omega (arith, low))
 asks-rise caller (t ∷ turns) (suc i) (suc j) low = let rest = asks-rise caller turns i j (omega (arith, low)) in omega (arith, rest)
 
-asks-next : (caller : ℕ) (turns : List Turn) (i : ℕ) (t : Turn) → slice_get turns i ≡ Some t → asks_of caller (take i turns) + asks_in caller t.event ≤ asks_of caller (take (suc i) turns)
+asks-next : (caller : ℕ) (turns : List Turn) (i : ℕ) (t : Turn) → slice_get turns i ≡ Some t
+    → asks_of caller (take i turns) + asks_in caller t.event ≤ asks_of caller (take (suc i) turns)
 asks-next caller [] i t is = absurd (cc is)
-asks-next caller (u ∷ turns) zero t is = let same : asks_in caller u.event ≡ asks_in caller t.event = ap (λ (o : Option Turn). elim o [ None ↦ asks_in caller u.event | Some x ↦ asks_in caller x.event ]) is in omega (arith, same)
+asks-next caller (u ∷ turns) zero t is = let same : asks_in caller u.event ≡ asks_in caller t.event =
+    ap (λ (o : Option Turn). elim o [ None ↦ asks_in caller u.event | Some x ↦ asks_in caller x.event ]) is in
+    omega (arith, same)
 asks-next caller (u ∷ turns) (suc i) t is = let rest = asks-next caller turns i t is in omega (arith, rest)
 
 -- a gateway that shows an answer had not failed when it was told
-pub told-alive : (c : Composed) (caller ping : ℕ) (o : OpenCall) (t : Told) → SentAlive c (gateway_of c.group.shape caller) ping → MayAct c.group (Show caller ping) → (shows : Shows c caller o t)
+pub told-alive : (c : Composed) (caller ping : ℕ) (o : OpenCall) (t : Told)
+    → SentAlive c (gateway_of c.group.shape caller) ping → MayAct c.group (Show caller ping)
+    → (shows : Shows c caller o t)
     → (c.failed (gateway_of c.group.shape caller) ≡ false) ⊎ (shows.pinged < c.lived (gateway_of c.group.shape caller))
 told-alive c caller ping o t alive may shows = by alive where
   before : shows.pinged ≤ ping
-  before = subst (λ (stage : Stage). IsToldBefore c.group stage ping) shows.stage (subst (λ (call : Option OpenCall). CallIsTold c.group call ping) shows.call may.1.told)
+  before = subst (λ (stage : Stage). IsToldBefore c.group stage ping) shows.stage
+      (subst (λ (call : Option OpenCall). CallIsTold c.group call ping) shows.call may.1.told)
 
-  by : (c.failed (gateway_of c.group.shape caller) ≡ false) ⊎ (ping < c.lived (gateway_of c.group.shape caller)) → (c.failed (gateway_of c.group.shape caller) ≡ false) ⊎ (shows.pinged < c.lived (gateway_of c.group.shape caller))
+  by : (c.failed (gateway_of c.group.shape caller) ≡ false) ⊎ (ping < c.lived (gateway_of c.group.shape caller))
+      → (c.failed (gateway_of c.group.shape caller) ≡ false)
+      ⊎ (shows.pinged < c.lived (gateway_of c.group.shape caller))
   by (inl lives) = inl lives
   by (inr low) = inr (let first = before in omega (arith, first, low))
 
 module _ (c : Composed) (h : Whole c) (b : LearnedAt c) where
   -- what is shown by a living gateway, or one that lived when it sent the ping, is solid
-  pub shown-solid : (caller ping : ℕ) (o : OpenCall) (t : Told) → SentAlive c (gateway_of c.group.shape caller) ping → MayAct c.group (Show caller ping) → Shows c caller o t → Solid c.made c.begun caller o.position t
+  pub shown-solid : (caller ping : ℕ) (o : OpenCall) (t : Told) → SentAlive c (gateway_of c.group.shape caller) ping
+      → MayAct c.group (Show caller ping) → Shows c caller o t → Solid c.made c.begun caller o.position t
   shown-solid caller ping o t alive may shows = sol.1 (told-alive c caller ping o t alive may shows) where
-    sol : SolidStage c.made c.begun (c.failed (gateway_of c.group.shape caller)) (c.lived (gateway_of c.group.shape caller)) (c.group.signs.pinged (gateway_of c.group.shape caller)) caller o.position (Answered t shows.pinged)
-    sol = subst (SolidStage c.made c.begun (c.failed (gateway_of c.group.shape caller)) (c.lived (gateway_of c.group.shape caller)) (c.group.signs.pinged (gateway_of c.group.shape caller)) caller o.position) shows.stage
-        (subst (SolidCall c.made c.begun (c.failed (gateway_of c.group.shape caller)) (c.lived (gateway_of c.group.shape caller)) (c.group.signs.pinged (gateway_of c.group.shape caller)) caller) shows.call (b.solid caller))
+    sol : SolidStage c.made c.begun (c.failed (gateway_of c.group.shape caller))
+        (c.lived (gateway_of c.group.shape caller)) (c.group.signs.pinged (gateway_of c.group.shape caller)) caller
+        o.position (Answered t shows.pinged)
+    sol = subst (SolidStage c.made c.begun (c.failed (gateway_of c.group.shape caller))
+        (c.lived (gateway_of c.group.shape caller)) (c.group.signs.pinged (gateway_of c.group.shape caller)) caller
+        o.position) shows.stage
+        (subst (SolidCall c.made c.begun (c.failed (gateway_of c.group.shape caller))
+        (c.lived (gateway_of c.group.shape caller)) (c.group.signs.pinged (gateway_of c.group.shape caller)) caller)
+        shows.call (b.solid caller))
 
   -- an ask of the call was made since the call began
-  since-begun : (caller position : ℕ) (op : Asked) (j : ℕ) (ask : Turn) → asked_by (take (c.begun caller) c.made) caller ≤ position → IsAsk (turns_of c.group.shape (events_of c)) j ask (record { caller = caller; call = position }) op → c.begun caller ≤ j
+  since-begun : (caller position : ℕ) (op : Asked) (j : ℕ) (ask : Turn) → asked_by (take (c.begun caller) c.made) caller
+      ≤ position → IsAsk (turns_of c.group.shape (events_of c)) j ask (record { caller = caller; call = position }) op
+      → c.begun caller ≤ j
   since-begun caller position op j ask low is = by (cases_lt j (c.begun caller)) where
     by : (j < c.begun caller) ⊎ (c.begun caller ≤ j) → c.begun caller ≤ j
     by (inr later) = later
@@ -146,81 +170,107 @@ module _ (c : Composed) (h : Whole c) (b : LearnedAt c) where
         let place = is.place in
         absurd (omega (arith, one, next, rise, front, place, low))
 
-  pub solid-logged : (caller : ℕ) (o : OpenCall) (t : Told) (reply : Reply) → Solid c.made c.begun caller o.position t → AskIs c.made caller o.position o.op → t.answer ≡ says.Reply reply → IsLoggedSinceBegun c caller o reply
-  solid-logged caller o t reply sol asks told = by sol.made_it.event.event refl (subst (λ (e : Event). IsOfCall e t (asks_among t.caller (events_before c.made sol.made_it.place))) refl sol.made_it.of_call) where
-    name : CallName
-    name = record { caller = caller; call = o.position }
+  pub solid-logged : (caller : ℕ) (o : OpenCall) (t : Told) (reply : Reply) → Solid c.made c.begun caller o.position t
+      → AskIs c.made caller o.position o.op → t.answer ≡ says.Reply reply → IsLoggedSinceBegun c caller o reply
+  solid-logged caller o t reply sol asks told =
+      by sol.made_it.event.event refl
+      (subst (λ (e : Event). IsOfCall e t (asks_among t.caller (events_before c.made sol.made_it.place))) refl
+      sol.made_it.of_call) where
+        name : CallName
+        name = record { caller = caller; call = o.position }
 
-    log : OneLog c.group.shape (events_of c)
-    log = (headline_always c.group.shape (events_of c) h.composes.makes.run).one_log
+        log : OneLog c.group.shape (events_of c)
+        log = (headline_always c.group.shape (events_of c) h.composes.makes.run).one_log
 
-    found : (turn : Turn) × (slice_get (turns_of c.group.shape (events_of c)) sol.made_it.place ≡ Some turn) × (turn.event ≡ sol.made_it.event.event) × (turn.answer ≡ sol.made_it.event.answer)
-    found = made-turn (opening c.group.shape) c.made sol.made_it.place sol.made_it.event sol.made_it.there h.composes.makes.answers
+        found : (turn : Turn) × (slice_get (turns_of c.group.shape (events_of c)) sol.made_it.place ≡ Some turn)
+            × (turn.event ≡ sol.made_it.event.event) × (turn.answer ≡ sol.made_it.event.answer)
+        found = made-turn (opening c.group.shape) c.made sol.made_it.place sol.made_it.event sol.made_it.there h.composes.makes.answers
 
-    answer : found.0.answer ≡ says.Reply reply
-    answer = found.3 ∙ sol.made_it.answer ∙ told
+        answer : found.0.answer ≡ says.Reply reply
+        answer = found.3 ∙ sol.made_it.answer ∙ told
 
-    -- a reply to an ask
-    asked : (op : Asked) (p : ProcessId) → sol.made_it.event.event ≡ event.Ask caller op p → asks_among t.caller (events_before c.made sol.made_it.place) ≡ t.call → IsLoggedSinceBegun c caller o reply
-    asked op p is place = record {
-      place = length (log_of (take sol.made_it.place (turns_of c.group.shape (events_of c)))) + there.0;
-      entry = ap (λ (l : List Entry). slice_get l (length (log_of (take sol.made_it.place (turns_of c.group.shape (events_of c)))) + there.0)) log.kept
-          ∙ log-at (turns_of c.group.shape (events_of c)) sol.made_it.place found.0 there.0 (entry_of (record { caller = caller; call = o.position }) op reply) found.1 there.1
-          ∙ ap (λ (a : Asked). Some (entry_of (record { caller = caller; call = o.position }) a reply)) (asks sol.made_it.place sol.made_it.event op p sol.made_it.there is before);
-      since =
-          let first = log-rises (turns_of c.group.shape (events_of c)) (c.begun caller) sol.made_it.place (since-begun caller o.position op sol.made_it.place found.0 sol.since is-ask) in omega (arith, first);
-    } where
-      before : asks_among caller (events_before c.made sol.made_it.place) ≡ o.position
-      before = ap (λ (n : ℕ). asks_among n (events_before c.made sol.made_it.place)) (sym sol.caller_is) ∙ place ∙ sol.call_is
-
-      is-ask : IsAsk (turns_of c.group.shape (events_of c)) sol.made_it.place found.0 (record { caller = caller; call = o.position }) op
-      is-ask = record {
-        there = found.1;
-        at = p;
-        event = found.2 ∙ is;
-        place = asks-front (opening c.group.shape) c.made sol.made_it.place caller ∙ ap (λ (n : ℕ). asks_among n (events_before c.made sol.made_it.place)) (sym sol.caller_is) ∙ place ∙ sol.call_is;
-      }
-
-      there : (i : ℕ) × (slice_get found.0.logged i ≡ Some (entry_of (record { caller = caller; call = o.position }) op reply))
-      there = contained-get found.0.logged (entry_of (record { caller = caller; call = o.position }) op reply) (log.within.at_once sol.made_it.place found.0 (record { caller = caller; call = o.position }) op reply is-ask answer)
-
-    -- an ask of the call is for what the client asked
-    its-op : (l : IsLoggedSince (turns_of c.group.shape (events_of c)) sol.made_it.place (record { caller = caller; call = o.position }) reply) → l.op ≡ o.op
-    its-op l =
-        let y = turn-made (opening c.group.shape) c.made l.j l.ask l.asked.there in
-        asks l.j y.0 l.op l.asked.at y.1 (y.2 ∙ l.asked.event) (sym (asks-front (opening c.group.shape) c.made l.j caller) ∙ l.asked.place)
-
-    -- a reply to a collect or a trace
-    fetched : Fetches found.0.event (record { caller = caller; call = o.position }) → IsLoggedSinceBegun c caller o reply
-    fetched fetches =
-        let l : IsLoggedSince (turns_of c.group.shape (events_of c)) sol.made_it.place (record { caller = caller; call = o.position }) reply =
-        log.within.later sol.made_it.place found.0 (record { caller = caller; call = o.position }) reply found.1 fetches answer in record {
-          place = l.place;
-          entry = ap (λ (log : List Entry). slice_get log l.place) log.kept ∙ log-whole (turns_of c.group.shape (events_of c)) (sol.made_it.place + 1) l.place (entry_of (record { caller = caller; call = o.position }) l.op reply) l.entry
-              ∙ ap (λ (a : Asked). Some (entry_of (record { caller = caller; call = o.position }) a reply)) (its-op l);
+        -- a reply to an ask
+        asked : (op : Asked) (p : ProcessId) → sol.made_it.event.event ≡ event.Ask caller op p
+            → asks_among t.caller (events_before c.made sol.made_it.place) ≡ t.call → IsLoggedSinceBegun c caller o reply
+        asked op p is place = record {
+          place = length (log_of (take sol.made_it.place (turns_of c.group.shape (events_of c)))) + there.0;
+          entry = ap (λ (l : List Entry). slice_get l (length (log_of (take sol.made_it.place (turns_of c.group.shape (events_of c)))) + there.0)) log.kept
+              ∙ log-at (turns_of c.group.shape (events_of c)) sol.made_it.place found.0 there.0
+              (entry_of (record { caller = caller; call = o.position }) op reply) found.1 there.1
+              ∙ ap (λ (a : Asked). Some (entry_of (record { caller = caller; call = o.position }) a reply))
+              (asks sol.made_it.place sol.made_it.event op p sol.made_it.there is before);
           since =
-              let first = log-rises (turns_of c.group.shape (events_of c)) (c.begun caller) l.j (since-begun caller o.position l.op l.j l.ask sol.since l.asked) in
-              let then = l.since in omega (arith, first, then);
-        }
+              let first = log-rises (turns_of c.group.shape (events_of c)) (c.begun caller) sol.made_it.place
+              (since-begun caller o.position op sol.made_it.place found.0 sol.since is-ask) in omega (arith, first);
+        } where
+          before : asks_among caller (events_before c.made sol.made_it.place) ≡ o.position
+          before = ap (λ (n : ℕ). asks_among n (events_before c.made sol.made_it.place)) (sym sol.caller_is) ∙ place ∙ sol.call_is
 
-    by : (e : Event) → sol.made_it.event.event ≡ e → IsOfCall sol.made_it.event.event t (asks_among t.caller (events_before c.made sol.made_it.place)) → IsLoggedSinceBegun c caller o reply
-    by (event.Ask who op p) is of =
-        let its : IsOfCall (event.Ask who op p) t (asks_among t.caller (events_before c.made sol.made_it.place)) = subst (λ (e : Event). IsOfCall e t (asks_among t.caller (events_before c.made sol.made_it.place))) is of in
-        asked op p (is ∙ ap (λ (n : ℕ). event.Ask n op p) (its.0 ∙ sol.caller_is)) its.1
-    by (event.Collect who call p) is of =
-        let its : IsOfCall (event.Collect who call p) t (asks_among t.caller (events_before c.made sol.made_it.place)) = subst (λ (e : Event). IsOfCall e t (asks_among t.caller (events_before c.made sol.made_it.place))) is of in
-        fetched (subst (λ (e : Event). Fetches e (record { caller = caller; call = o.position })) (sym (found.2 ∙ is)) (its.0 ∙ sol.caller_is, its.1 ∙ sol.call_is))
-    by (event.Trace who call d p) is of =
-        let its : IsOfCall (event.Trace who call d p) t (asks_among t.caller (events_before c.made sol.made_it.place)) = subst (λ (e : Event). IsOfCall e t (asks_among t.caller (events_before c.made sol.made_it.place))) is of in
-        fetched (subst (λ (e : Event). Fetches e (record { caller = caller; call = o.position })) (sym (found.2 ∙ is)) (its.0 ∙ sol.caller_is, its.1 ∙ sol.call_is))
-    by (event.Deliver x p) is of = absurd (subst (λ (e : Event). IsOfCall e t (asks_among t.caller (events_before c.made sol.made_it.place))) is of)
-    by (event.Fail p keep) is of = absurd (subst (λ (e : Event). IsOfCall e t (asks_among t.caller (events_before c.made sol.made_it.place))) is of)
-    by (event.Flush p) is of = absurd (subst (λ (e : Event). IsOfCall e t (asks_among t.caller (events_before c.made sol.made_it.place))) is of)
+          is-ask : IsAsk (turns_of c.group.shape (events_of c)) sol.made_it.place found.0 (record { caller = caller; call = o.position }) op
+          is-ask = record {
+            there = found.1;
+            at = p;
+            event = found.2 ∙ is;
+            place = asks-front (opening c.group.shape) c.made sol.made_it.place caller
+                ∙ ap (λ (n : ℕ). asks_among n (events_before c.made sol.made_it.place)) (sym sol.caller_is) ∙ place
+                ∙ sol.call_is;
+          }
+
+          there : (i : ℕ) × (slice_get found.0.logged i ≡ Some (entry_of (record { caller = caller; call = o.position }) op reply))
+          there = contained-get found.0.logged (entry_of (record { caller = caller; call = o.position }) op reply)
+              (log.within.at_once sol.made_it.place found.0 (record { caller = caller; call = o.position }) op reply is-ask
+              answer)
+
+        -- an ask of the call is for what the client asked
+        its-op : (l : IsLoggedSince (turns_of c.group.shape (events_of c)) sol.made_it.place
+            (record { caller = caller; call = o.position }) reply) → l.op ≡ o.op
+        its-op l =
+            let y = turn-made (opening c.group.shape) c.made l.j l.ask l.asked.there in
+            asks l.j y.0 l.op l.asked.at y.1 (y.2 ∙ l.asked.event) (sym (asks-front (opening c.group.shape) c.made l.j caller) ∙ l.asked.place)
+
+        -- a reply to a collect or a trace
+        fetched : Fetches found.0.event (record { caller = caller; call = o.position }) → IsLoggedSinceBegun c caller o reply
+        fetched fetches =
+            let l : IsLoggedSince (turns_of c.group.shape (events_of c)) sol.made_it.place (record { caller = caller; call = o.position }) reply =
+            log.within.later sol.made_it.place found.0 (record { caller = caller; call = o.position }) reply found.1 fetches answer in record {
+              place = l.place;
+              entry = ap (λ (log : List Entry). slice_get log l.place) log.kept
+                  ∙ log-whole (turns_of c.group.shape (events_of c)) (sol.made_it.place + 1) l.place
+                  (entry_of (record { caller = caller; call = o.position }) l.op reply) l.entry
+                  ∙ ap (λ (a : Asked). Some (entry_of (record { caller = caller; call = o.position }) a reply)) (its-op l);
+              since =
+                  let first = log-rises (turns_of c.group.shape (events_of c)) (c.begun caller) l.j
+                  (since-begun caller o.position l.op l.j l.ask sol.since l.asked) in
+                  let then = l.since in omega (arith, first, then);
+            }
+
+        by : (e : Event) → sol.made_it.event.event ≡ e
+            → IsOfCall sol.made_it.event.event t (asks_among t.caller (events_before c.made sol.made_it.place))
+            → IsLoggedSinceBegun c caller o reply
+        by (event.Ask who op p) is of =
+            let its : IsOfCall (event.Ask who op p) t (asks_among t.caller (events_before c.made sol.made_it.place)) =
+            subst (λ (e : Event). IsOfCall e t (asks_among t.caller (events_before c.made sol.made_it.place))) is of in
+            asked op p (is ∙ ap (λ (n : ℕ). event.Ask n op p) (its.0 ∙ sol.caller_is)) its.1
+        by (event.Collect who call p) is of =
+            let its : IsOfCall (event.Collect who call p) t (asks_among t.caller (events_before c.made sol.made_it.place)) =
+            subst (λ (e : Event). IsOfCall e t (asks_among t.caller (events_before c.made sol.made_it.place))) is of in
+            fetched (subst (λ (e : Event). Fetches e (record { caller = caller; call = o.position })) (sym (found.2 ∙ is))
+            (its.0 ∙ sol.caller_is, its.1 ∙ sol.call_is))
+        by (event.Trace who call d p) is of =
+            let its : IsOfCall (event.Trace who call d p) t (asks_among t.caller (events_before c.made sol.made_it.place)) =
+            subst (λ (e : Event). IsOfCall e t (asks_among t.caller (events_before c.made sol.made_it.place))) is of in
+            fetched (subst (λ (e : Event). Fetches e (record { caller = caller; call = o.position })) (sym (found.2 ∙ is))
+            (its.0 ∙ sol.caller_is, its.1 ∙ sol.call_is))
+        by (event.Deliver x p) is of = absurd (subst (λ (e : Event). IsOfCall e t (asks_among t.caller (events_before c.made sol.made_it.place))) is of)
+        by (event.Fail p keep) is of = absurd (subst (λ (e : Event). IsOfCall e t (asks_among t.caller (events_before c.made sol.made_it.place))) is of)
+        by (event.Flush p) is of = absurd (subst (λ (e : Event). IsOfCall e t (asks_among t.caller (events_before c.made sol.made_it.place))) is of)
 
 solid : (s : Dimensions) (actions : List Action) (caller ping : ℕ) (o : OpenCall) (t : Told) → AreActions s actions → NoTwoHoldAll (composed s actions).group
-    → MayAct (composed s actions).group (Show caller ping) → Shows (composed s actions) caller o t → Solid (composed s actions).made (composed s actions).begun caller o.position t
+    → MayAct (composed s actions).group (Show caller ping) → Shows (composed s actions) caller o t
+    → Solid (composed s actions).made (composed s actions).begun caller o.position t
 solid s actions caller ping o t run apart may shows =
-    shown-solid (composed s actions) (whole s actions run) (learned s actions run) caller ping o t (shown-alive (composed s actions) (honest s actions run) apart caller ping may) may shows
+    shown-solid (composed s actions) (whole s actions run) (learned s actions run) caller ping o t
+    (shown-alive (composed s actions) (honest s actions run) apart caller ping may) may shows
 
 pub shown_is_made : ShownIsMade
 shown_is_made s actions caller ping o t run apart may shows =
@@ -236,6 +286,8 @@ shown_is_logged s actions caller ping o t reply run apart may shows told =
     early : (c.failed (gateway_of c.group.shape caller) ≡ false) ⊎ (shows.pinged < c.lived (gateway_of c.group.shape caller))
     early = told-alive c caller ping o t (shown-alive c (honest s actions run) apart caller ping may) may shows
 
-    firm : FirmStage c.made caller (c.failed (gateway_of c.group.shape caller)) (c.lived (gateway_of c.group.shape caller)) o.position o.op (Answered t shows.pinged)
+    firm : FirmStage c.made caller (c.failed (gateway_of c.group.shape caller))
+        (c.lived (gateway_of c.group.shape caller)) o.position o.op (Answered t shows.pinged)
     firm = subst (FirmStage c.made caller (c.failed (gateway_of c.group.shape caller)) (c.lived (gateway_of c.group.shape caller)) o.position o.op) shows.stage
-        (subst (FirmCall c.made caller (c.failed (gateway_of c.group.shape caller)) (c.lived (gateway_of c.group.shape caller))) shows.call ((carries s actions run).wanted.firm caller))
+        (subst (FirmCall c.made caller (c.failed (gateway_of c.group.shape caller))
+        (c.lived (gateway_of c.group.shape caller))) shows.call ((carries s actions run).wanted.firm caller))

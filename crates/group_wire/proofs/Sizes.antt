@@ -49,7 +49,8 @@ by-words f [] a (suc n) same within =
 by-words f (word ∷ words) a zero same within = sym (none-dead (word ∷ words) within)
 by-words f (word ∷ words) a (suc n) same within =
     let here : counts (f a) ≡ counts word = ap counts (ap f (omega arith) ∙ same 0 (omega arith)) in
-    let rest = by-words f words (a + 1) n (λ i below. ap f (omega arith) ∙ same (suc i) (omega (arith, below))) (λ i dead. omega (arith, within (suc i) dead)) in
+    let rest = by-words f words (a + 1) n (λ i below. ap f (omega arith) ∙ same (suc i) (omega (arith, below)))
+    (λ i dead. omega (arith, within (suc i) dead)) in
     omega (arith, here, rest)
 
 pub sizes_are_counts : SizesAreCounts

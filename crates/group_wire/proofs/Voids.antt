@@ -1,5 +1,6 @@
 -- Positions of a caller under which no entry is accepted, now or later: its ask was refused, or is gone, or only reads.
-use Rattle.std.proofs.Common.{ℕ, ◌≡◌, ◌<◌, ◌≤◌, ◌==◌, nat_lt, ◌⊎◌, inl, inr, Bool, true, false, List, [], ◌∷◌, ◌++◌, Option, Some, None, length, map, refl, sym, ap, subst, ◌∙◌, if◌then◌else◌, arith}
+use Rattle.std.proofs.Common.{ℕ, ◌≡◌, ◌<◌, ◌≤◌, ◌==◌, nat_lt, ◌⊎◌, inl, inr, Bool, true, false, List, [], ◌∷◌, ◌++◌}
+use Rattle.std.proofs.Common.{Option, Some, None, length, map, refl, sym, ap, subst, ◌∙◌, if◌then◌else◌, arith}
 use Rattle.std.proofs.lemmas.Option.{slice_get_within}
 use Rattle.std.specs.Prelude.{slice_get}
 use Rattle.group_types.specs.Dimensions.{Dimensions}
@@ -78,7 +79,9 @@ void-more k made more caller position (inl r) = inl (record {
   process = r.process;
   there = get-left made more r.place r.it r.there;
   asks = r.asks;
-  before = ap (λ (ms : List Made). asks_among caller (map (λ x. x.event) ms)) (take-front r.place made more (let low = slice_get_within made r.place r.it r.there in omega (arith, low))) ∙ r.before;
+  before = ap (λ (ms : List Made). asks_among caller (map (λ x. x.event) ms))
+      (take-front r.place made more (let low = slice_get_within made r.place r.it r.there in omega (arith, low)))
+      ∙ r.before;
   refused = r.refused;
 })
 void-more k made more caller position (inr (inl v)) = inr (inl (record {
@@ -94,7 +97,14 @@ void-more k made more caller position (inr (inl v)) = inr (inl (record {
   low = later-asked made more caller position v.low;
   asks = ask-past made more caller position v.op v.low v.asks;
 }))
-void-more k made more caller position (inr (inr r)) = inr (inr (record { op = r.op; key = r.key; reads = r.reads; low = later-asked made more caller position r.low; asks = ask-past made more caller position r.op r.low r.asks }))
+void-more k made more caller position (inr (inr r)) =
+    inr (inr (record {
+      op = r.op;
+      key = r.key;
+      reads = r.reads;
+      low = later-asked made more caller position r.low;
+      asks = ask-past made more caller position r.op r.low r.asks;
+    }))
 
 -- all positions from one up to another
 abbrev pub AllVoid : ℕ → List Made → ℕ → ℕ → ℕ → Type 0
@@ -115,7 +125,9 @@ Outcome k made t = ((reply : Reply) × (t.answer ≡ says.Reply reply)) ⊎ (Voi
 abbrev pub Fated : Dimensions → Processes → List Made → Told → Type 0
 Fated s failed made t = failed (gateway_of s t.caller) ≡ false → Outcome s.k made t
 
-pub fated-more : (s : Dimensions) (failed now : Processes) (made more : List Made) → ((x : ProcessId) → now x ≡ false → failed x ≡ false) → (t : Told) → Fated s failed made t → Fated s now (made ++ more) t
+pub fated-more : (s : Dimensions) (failed now : Processes) (made more : List Made)
+    → ((x : ProcessId) → now x ≡ false → failed x ≡ false) → (t : Told) → Fated s failed made t
+    → Fated s now (made ++ more) t
 fated-more s failed now made more lives t f gl = by (f (lives (gateway_of s t.caller) gl)) where
   by : Outcome s.k made t → Outcome s.k (made ++ more) t
   by (inl reply) = inl reply
@@ -127,7 +139,8 @@ untaken : (answer a : Answer) → answer ≡ a → ((reply : Reply) → a ≡ sa
 untaken answer a same reply ticket (inl (r, is)) = reply r (sym same ∙ is)
 untaken answer a same reply ticket (inr (n, is)) = ticket n (sym same ∙ is)
 
-pub fated-ask : (s : Dimensions) (failed : Processes) (made : List Made) (x : Made) (caller call : ℕ) (op : Asked) (p : ProcessId) → x.event ≡ event.Ask caller op p → call ≡ asked_by made caller
+pub fated-ask : (s : Dimensions) (failed : Processes) (made : List Made) (x : Made) (caller call : ℕ) (op : Asked)
+    (p : ProcessId) → x.event ≡ event.Ask caller op p → call ≡ asked_by made caller
     → Each (Fated s failed (made ++ x ∷ [])) (told_of (AskFor caller call op) x.answer)
 fated-ask s failed made x caller call op p is place = by x.answer refl where
   void : (a : Answer) → ¬ (IsTaken x.answer) → Fated s failed (made ++ x ∷ []) (record { caller = caller; call = call; traced = false; answer = a })
@@ -142,7 +155,8 @@ fated-ask s failed made x caller call op p is place = by x.answer refl where
     refused = refused;
   })))
 
-  one : (a : Answer) → x.answer ≡ a → ((reply : Reply) → a ≡ says.Reply reply → ⊥) → ((n : ℕ) → a ≡ says.Ticket n → ⊥) → Fated s failed (made ++ x ∷ []) (record { caller = caller; call = call; traced = false; answer = a })
+  one : (a : Answer) → x.answer ≡ a → ((reply : Reply) → a ≡ says.Reply reply → ⊥) → ((n : ℕ) → a ≡ says.Ticket n → ⊥)
+      → Fated s failed (made ++ x ∷ []) (record { caller = caller; call = call; traced = false; answer = a })
   one a same reply ticket = void a (untaken x.answer a same reply ticket)
 
   by : (a : Answer) → x.answer ≡ a → Each (Fated s failed (made ++ x ∷ [])) (told_of (AskFor caller call op) a)
@@ -184,8 +198,11 @@ fate-is s caller call d p (Some h) = by (is_in_log caller call (replica_of p d).
   by true = inr (inr (λ t n. refl))
   by false = kept-fate (is_adopted s p h) call (at None (replica_of p d).kept caller)
 
-pub fated-trace : (s : Dimensions) (failed : Processes) (made : List Made) (x : Made) (caller call d : ℕ) (p : ProcessId) (w : Process) → x.event ≡ event.Trace caller call (partition d) p
-    → x.answer ≡ fate_of s caller call d w (head_at w d) → (failed (gateway_of s caller) ≡ false → Traced s.k made caller call d) → Each (Fated s failed (made ++ x ∷ [])) (told_of (TraceOf caller call d) x.answer)
+pub fated-trace : (s : Dimensions) (failed : Processes) (made : List Made) (x : Made) (caller call d : ℕ)
+    (p : ProcessId) (w : Process) → x.event ≡ event.Trace caller call (partition d) p
+    → x.answer ≡ fate_of s caller call d w (head_at w d)
+    → (failed (gateway_of s caller) ≡ false → Traced s.k made caller call d)
+    → Each (Fated s failed (made ++ x ∷ [])) (told_of (TraceOf caller call d) x.answer)
 fated-trace s failed made x caller call d p w is answer traced = by x.answer refl where
   fate : IsFate x.answer
   fate = subst IsFate (sym answer) (fate-is s caller call d w (head_at w d))
@@ -197,7 +214,20 @@ fated-trace s failed made x caller call d p w is answer traced = by x.answer ref
     which (inr (inr unknown)) = inr (inr (λ n. unknown (record { caller = caller; call = call; traced = true; answer = a }) n))
     which (inr (inl gone)) =
         let t : Traced s.k (made ++ x ∷ []) caller call d = traced-more s.k made (x ∷ []) caller call d (traced gl) in
-        inr (inl (inr (inl (record { place = length made; it = x; op = t.0; d = d; process = p; there = get-last made x; traces = is; gone = same ∙ gone; home = t.3; low = t.1; asks = t.2 }))))
+        inr (inl (inr
+        (inl (record {
+          place = length made;
+          it = x;
+          op = t.0;
+          d = d;
+          process = p;
+          there = get-last made x;
+          traces = is;
+          gone = same ∙ gone;
+          home = t.3;
+          low = t.1;
+          asks = t.2;
+        }))))
 
   by : (a : Answer) → x.answer ≡ a → Each (Fated s failed (made ++ x ∷ [])) (told_of (TraceOf caller call d) a)
   by (says.Ticket n) same = tt
@@ -216,7 +246,8 @@ fated-trace s failed made x caller call d p w is answer traced = by x.answer ref
   by (says.Stale n) same = (one (says.Stale n) same, tt)
 
 -- what is handed out is a reply
-pub fated-handed : (s : Dimensions) (failed : Processes) (made : List Made) (caller call : ℕ) (a : Answer) → Each (Fated s failed made) (handed_to caller call a)
+pub fated-handed : (s : Dimensions) (failed : Processes) (made : List Made) (caller call : ℕ) (a : Answer)
+    → Each (Fated s failed made) (handed_to caller call a)
 fated-handed s failed made caller call (says.Reply reply) = (λ gl. inl (reply, refl), tt)
 fated-handed s failed made caller call (says.Ticket n) = tt
 fated-handed s failed made caller call says.NotYet = tt

@@ -1,5 +1,6 @@
 -- What a head decides without the bytes of the item.
-use Rattle.std.proofs.Common.{ℕ, suc, ◌≡◌, nat_le, nat_lt, Bool, true, false, ◌&&◌, List, [], length, Option, Some, None, if◌then◌else◌, refl, sym, ap, ◌∙◌, arith}
+use Rattle.std.proofs.Common.{ℕ, suc, ◌≡◌, nat_le, nat_lt, Bool, true, false, ◌&&◌, List, [], length, Option, Some}
+use Rattle.std.proofs.Common.{None, if◌then◌else◌, refl, sym, ap, ◌∙◌, arith}
 use Rattle.std.proofs.lemmas.Grind.{common_steps}
 use Rattle.std.proofs.lemmas.List.{length-replicate}
 use Rattle.group_types.specs.declared.run.Run.{Run}
@@ -11,7 +12,9 @@ use Rattle.memc_table.specs.declared.holding.Holding.{Holding}
 use Rattle.memc_table.specs.declared.reply.Reply.{Reply}
 use Rattle.memc_table.specs.declared.ruling.Ruling.{Ruling}
 use Rattle.memc_table.specs.declared.ruling.Ruling.TheVariants.{Refused, Accepted}
-use Rattle.group_run.specs.Deciding.{Found, blind_reply, decide_blind, decide_found, decide_left, decide_accepted, decide_ruled, decide_waiting, held_as, is_blind, is_touch, item_found, length_of, outcome_of, reads_bytes, ruling_with, run_needed, unseen, window}
+use Rattle.group_run.specs.Deciding.{Found, blind_reply, decide_blind, decide_found, decide_left, decide_accepted}
+use Rattle.group_run.specs.Deciding.{decide_ruled, decide_waiting, held_as, is_blind, is_touch, item_found, length_of}
+use Rattle.group_run.specs.Deciding.{outcome_of, reads_bytes, ruling_with, run_needed, unseen, window}
 use Rattle.group_run.specs.Replica.{Replica, last_of, run_in}
 use Rattle.law_updates.proofs.Blind.{Alike, LeavesAlike, alike-same, same-empty, unread-alike}
 

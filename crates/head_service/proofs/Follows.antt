@@ -1,5 +1,6 @@
 -- What a head decides can be done, where each difference is as long as its run.
-use Rattle.std.proofs.Common.{ℕ, suc, ◌≡◌, ◌<◌, nat_le, Bool, true, false, [], length, Result, Ok, Err, IfOk, Option, Some, None, refl, sym, ap, subst, ◌∙◌, arith}
+use Rattle.std.proofs.Common.{ℕ, suc, ◌≡◌, ◌<◌, nat_le, Bool, true, false, [], length, Result, Ok, Err, IfOk, Option}
+use Rattle.std.proofs.Common.{Some, None, refl, sym, ap, subst, ◌∙◌, arith}
 use Rattle.std.proofs.lemmas.Grind.{common_steps}
 use Rattle.field_byte.specs.Vectors.{add_bytes}
 use Rattle.group_types.specs.Dimensions.{Dimensions, space_of}
@@ -17,7 +18,10 @@ use Rattle.group_message.specs.declared.update.Body.{Body}
 use Rattle.group_message.specs.declared.update.Body.TheVariants.{Put, Remove}
 use Rattle.group_message.specs.declared.update.Outcome.{Outcome}
 use Rattle.group_calls.specs.declared.decision.Decision.{Decision}
-use Rattle.group_run.specs.Deciding.{Found, Bytes, Missing, blind_reply, decide_accepted, decide_blind, decide_found, decide_left, decide_placed, decide_ruled, decide_waiting, decide_written, held_as, is_get, is_touch, item_found, length_of, outcome_of, ruling_with, run_needed, unseen, waits_for, window}
+use Rattle.group_run.specs.Deciding.{Found, Bytes, Missing, blind_reply, decide_accepted, decide_blind, decide_found}
+use Rattle.group_run.specs.Deciding.{decide_left, decide_placed, decide_ruled, decide_waiting, decide_written, held_as}
+use Rattle.group_run.specs.Deciding.{is_get, is_touch, item_found, length_of, outcome_of, ruling_with, run_needed}
+use Rattle.group_run.specs.Deciding.{unseen, waits_for, window}
 use Rattle.group_run.specs.Free.{place_for}
 use Rattle.group_run.specs.Replica.{Replica, freed_by, items_after, last_of, number_on, slot_in}
 use Rattle.law_updates.proofs.Clears.{number_on-none}

@@ -23,7 +23,8 @@ use Rattle.head_service.specs.Answering.{answer_to, held_then}
 use Rattle.head_service.specs.Fates.{fate}
 use Rattle.head_service.specs.Peers.{settles, to_all}
 use Rattle.head_service.specs.Flushing.{stable_of, stables}
-use Rattle.head_service.specs.Laws.{ArePeers, AsksAreTheMachines, FatesAreTheMachines, FlushesAreTheMachines, Heads, JudgesAreTheMachines, TakeoversAreTheMachines, decided, heir, joined}
+use Rattle.head_service.specs.Laws.{ArePeers, AsksAreTheMachines, FatesAreTheMachines, FlushesAreTheMachines, Heads}
+use Rattle.head_service.specs.Laws.{JudgesAreTheMachines, TakeoversAreTheMachines, decided, heir, joined}
 use Rattle.head_service.specs.Serving.{Serving, serving}
 use Rattle.head_service.specs.declared.peers.Peers.{Peers}
 use Rattle.head_service.proofs.Steps.{issue-is, judge-is}
@@ -42,7 +43,8 @@ module _ (s : Dimensions) (v : Serving) (b : Process) (d : ℕ) (h : Head) (r : 
   unchanged : serving (record v { replicas = put empty_replica v.replicas d r; held = put [] v.held d (at [] v.held d) }) b ≡ serving v b
   unchanged =
       ap (λ (x : Replica). serving (record v { replicas = put empty_replica v.replicas d x; held = put [] v.held d (at [] v.held d) }) b) (sym heads.replica)
-      ∙ ap (λ (xs : List Replica). serving (record v { replicas = xs; held = put [] v.held d (at [] v.held d) }) b) (put-at empty_replica empty_replica v.replicas d heads.has_replica)
+      ∙ ap (λ (xs : List Replica). serving (record v { replicas = xs; held = put [] v.held d (at [] v.held d) }) b)
+      (put-at empty_replica empty_replica v.replicas d heads.has_replica)
       ∙ ap (λ (xs : List (List Held)). serving (record v { held = xs }) b) (put-at [] [] v.held d heads.has_held)
 
   stays-is : (answer : _) → only answer (serving v b) ≡ joined d (stays answer r (at [] v.held d) b) v
@@ -65,7 +67,8 @@ module _ (s : Dimensions) (v : Serving) (b : Process) (d : ℕ) (h : Head) (r : 
 
     issue-joined : (u : Update) → u.number ≡ suc (last_of r) → issue s d h u (serving v b)
         ≡ joined d (issues s d (own s v b) h u r (at [] v.held d) b) v
-    issue-joined u is = issue-is s d b h u v r heads.head heads.replica heads.has_held ∙ ap (λ (last : ℕ). issued_to u (settles (own s v b) h last)) (next-long u is)
+    issue-joined u is = issue-is s d b h u v r heads.head heads.replica heads.has_held
+        ∙ ap (λ (last : ℕ). issued_to u (settles (own s v b) h last)) (next-long u is)
 
     act-is : (decision : Decision) → ((block : ℕ) → decision ≢ decides.NeedBlock block)
         → act_on s name op d h (serving v b) decision ≡ joined d (acts s d (own s v b) h name op r (at [] v.held d) b decision) v
@@ -74,7 +77,8 @@ module _ (s : Dimensions) (v : Serving) (b : Process) (d : ℕ) (h : Head) (r : 
     act-is decides.NoSpace none = stays-is _
     act-is (decides.NeedBlock block) none = absurd (none block refl)
     act-is (decides.Issue body outcome) none =
-        ap (λ (x : Replica). issue s d h (next_update name op body outcome x) (serving v b)) heads.replica ∙ issue-joined (next_update name op body outcome r) refl
+        ap (λ (x : Replica). issue s d h (next_update name op body outcome x) (serving v b)) heads.replica
+        ∙ issue-joined (next_update name op body outcome r) refl
 
 pub asks_are_the_machines : AsksAreTheMachines
 asks_are_the_machines s v b peers h r name op are heads none =
@@ -91,7 +95,9 @@ judges_are_the_machines s v b peers d h r are heads =
     ap (λ (xs : List Replica). judge s d (serving (record v { replicas = xs }) b)) (sym same)
     ∙ judge-is s d b h r v heads.head
     ∙ ap (λ (x : Peers). record {
-      process = serving (record v { replicas = put empty_replica v.replicas d (applied_to (settles x h (last_of r)) r) }) (bytes_after s d (up_to (settles x h (last_of r)) r) b);
+      process = serving
+          (record v { replicas = put empty_replica v.replicas d (applied_to (settles x h (last_of r)) r) })
+          (bytes_after s d (up_to (settles x h (last_of r)) r) b);
       sent = [];
       settled = settlements d (up_to (settles x h (last_of r)) r);
     }) (own-is s v b peers are)
@@ -106,19 +112,30 @@ pub takeovers_are_the_machines : TakeoversAreTheMachines
 takeovers_are_the_machines s v b peers d r are here within =
     let h : Head = heir s b r in
     let raised : Serving = record v { ranks = put 0 v.ranks d h.rank; heads = put None v.heads d (Some h) } in
-    let same : put empty_replica v.replicas d r ≡ v.replicas = ap (put empty_replica v.replicas d) (sym here) ∙ put-at empty_replica empty_replica v.replicas d within in
+    let same : put empty_replica v.replicas d r ≡ v.replicas = ap (put empty_replica v.replicas d) (sym here)
+    ∙ put-at empty_replica empty_replica v.replicas d within in
     let own_sent : Replica → List Sent = λ x. to_all (own s v b) (tells.Adopt (rank h.rank) (partition d) x.applied x.log) in
-    ap (λ (x : Replica). and_then (sending (own_sent x) (serving (record v { ranks = put 0 v.ranks d h.rank; heads = put None v.heads d (Some (heir s b x)) }) b)) (judge s d)) here
+    ap (λ (x : Replica).
+    and_then (sending (own_sent x)
+    (serving (record v { ranks = put 0 v.ranks d h.rank; heads = put None v.heads d (Some (heir s b x)) }) b))
+    (judge s d)) here
     ∙ ap (λ (xs : List Replica). and_then (sending (own_sent r) (serving (record raised { replicas = xs }) b)) (judge s d)) (sym same)
     ∙ ap (λ (step : ProcessStep). record { process = step.process; sent = own_sent r ++ step.sent; settled = step.settled })
     (judge-is s d b h r raised (at-put None None v.heads d (Some h)))
     ∙ ap (λ (sent : List Sent). record {
-      process = serving (record raised { replicas = put empty_replica v.replicas d (applied_to (settles (own s v b) h (last_of r)) r) }) (bytes_after s d (up_to (settles (own s v b) h (last_of r)) r) b);
+      process = serving
+          (record raised {
+            replicas = put empty_replica v.replicas d
+                (applied_to (settles (own s v b) h (last_of r)) r);
+          })
+          (bytes_after s d (up_to (settles (own s v b) h (last_of r)) r) b);
       sent = sent;
       settled = settlements d (up_to (settles (own s v b) h (last_of r)) r);
     }) (append-nil (own_sent r))
     ∙ ap (λ (x : Peers). record {
-      process = serving (record raised { replicas = put empty_replica v.replicas d (applied_to (settles x h (last_of r)) r) }) (bytes_after s d (up_to (settles x h (last_of r)) r) b);
+      process = serving
+          (record raised { replicas = put empty_replica v.replicas d (applied_to (settles x h (last_of r)) r) })
+          (bytes_after s d (up_to (settles x h (last_of r)) r) b);
       sent = to_all x (tells.Adopt (rank h.rank) (partition d) r.applied r.log);
       settled = settlements d (up_to (settles x h (last_of r)) r);
     }) (own-is s v b peers are)
@@ -130,14 +147,17 @@ module _ (s : Dimensions) (v : Serving) (b : Process) where
   stable-is a (Some h) = refl
 
   stables-are : (a : ℕ) (hs : List (Option Head)) (rs : List Replica) → length rs ≡ length hs → ((i : ℕ) → at None v.heads (a + i) ≡ at None hs i)
-      → ((i : ℕ) → at empty_replica v.replicas (a + i) ≡ at empty_replica rs i) → tell_stables s (serving v b) (range_with_len a (length hs)) ≡ stables (own s v b) a hs rs
+      → ((i : ℕ) → at empty_replica v.replicas (a + i) ≡ at empty_replica rs i)
+      → tell_stables s (serving v b) (range_with_len a (length hs)) ≡ stables (own s v b) a hs rs
   stables-are a [] rs long heads replicas = refl
   stables-are a (h ∷ hs) [] long heads replicas = absurd (omega (arith, long))
   stables-are a (h ∷ hs) (r ∷ rs) long heads replicas =
       let e : a + 0 ≡ a = omega arith in
-      ap (λ (x : Option Head). tell_stable s (serving v b) a x ++ tell_stables s (serving v b) (range_with_len (a + 1) (length hs))) (ap (at None v.heads) (sym e) ∙ heads 0)
+      ap (λ (x : Option Head). tell_stable s (serving v b) a x
+      ++ tell_stables s (serving v b) (range_with_len (a + 1) (length hs))) (ap (at None v.heads) (sym e) ∙ heads 0)
       ∙ ap (λ (sent : List Sent). sent ++ tell_stables s (serving v b) (range_with_len (a + 1) (length hs))) (stable-is a h)
-      ∙ ap (λ (x : Replica). told h x ++ tell_stables s (serving v b) (range_with_len (a + 1) (length hs))) (ap (at empty_replica v.replicas) (sym e) ∙ replicas 0)
+      ∙ ap (λ (x : Replica). told h x ++ tell_stables s (serving v b) (range_with_len (a + 1) (length hs)))
+      (ap (at empty_replica v.replicas) (sym e) ∙ replicas 0)
       ∙ ap (λ (sent : List Sent). told h r ++ sent) (stables-are (a + 1) hs rs (omega (arith, long))
       (λ i. let f : (a + 1) + i ≡ a + suc i = omega arith in ap (at None v.heads) f ∙ heads (suc i))
       (λ i. let f : (a + 1) + i ≡ a + suc i = omega arith in ap (at empty_replica v.replicas) f ∙ replicas (suc i))) where

@@ -32,7 +32,8 @@ stands-more {d} {r} {s} {b} {c} stands shape same makes bytes =
     stands-as before shape same
 
 -- with an update more in the log, of which all is ready
-pub stands-with : {d : ℕ} {r s : State} {b : Storage} → StandsOn d r b → (u : Update) → s.shape ≡ r.shape → s.replica ≡ with_update u r.replica → b.is_ready d u → StandsOn d s b
+pub stands-with : {d : ℕ} {r s : State} {b : Storage} → StandsOn d r b → (u : Update) → s.shape ≡ r.shape
+    → s.replica ≡ with_update u r.replica → b.is_ready d u → StandsOn d s b
 stands-with {d} {r} {s} {b} stands u shape same ready = record {
   partition = stands.partition;
   shape = stands.shape ∙ sym shape;

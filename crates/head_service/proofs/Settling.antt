@@ -1,5 +1,7 @@
 -- Settling one update after the other is settling them at once.
-use Rattle.std.proofs.Common.{ℕ, zero, suc, ◌≡◌, ◌+◌, ◌-◌, ◌<◌, ◌≤◌, Bool, ◌||◌, true, false, List, [], ◌∷◌, ◌++◌, length, map, take, drop, Option, Some, None, is_some, if◌then◌else◌, refl, sym, ap, ◌∙◌, subst, All, arith}
+use Rattle.std.proofs.Common.{ℕ, zero, suc, ◌≡◌, ◌+◌, ◌-◌, ◌<◌, ◌≤◌, Bool, ◌||◌, true, false, List, [], ◌∷◌, ◌++◌}
+use Rattle.std.proofs.Common.{length, map, take, drop, Option, Some, None, is_some, if◌then◌else◌, refl, sym, ap, ◌∙◌}
+use Rattle.std.proofs.Common.{subst, All, arith}
 use Rattle.std.specs.List.{slice_get}
 use Rattle.std.proofs.lemmas.List.{append-nil}
 use Rattle.group_types.specs.Dimensions.{Dimensions}
@@ -69,10 +71,30 @@ module _ (n : ℕ) (r : Replica) (u : Update) (first : slice_get r.log 0 ≡ Som
 
   pub next-applied : applied_to n one ≡ applied_to n r
   next-applied =
-      ap (λ (x : Items). record { items = x; applied = one.applied + length (up_to n one); log = drop (n - one.applied) one.log; kept = kept_after one.kept (up_to n one) }) items-next
-      ∙ ap (λ (x : ℕ). record { items = items_after r.items (up_to n r); applied = x; log = drop (n - one.applied) one.log; kept = kept_after one.kept (up_to n one) }) applied-next
-      ∙ ap (λ (x : List Update). record { items = items_after r.items (up_to n r); applied = r.applied + length (up_to n r); log = x; kept = kept_after one.kept (up_to n one) }) log-next
-      ∙ ap (λ (x : List (Option Kept)). record { items = items_after r.items (up_to n r); applied = r.applied + length (up_to n r); log = drop (n - r.applied) r.log; kept = x }) kept-next
+      ap (λ (x : Items). record {
+        items = x;
+        applied = one.applied + length (up_to n one);
+        log = drop (n - one.applied) one.log;
+        kept = kept_after one.kept (up_to n one);
+      }) items-next
+      ∙ ap (λ (x : ℕ). record {
+        items = items_after r.items (up_to n r);
+        applied = x;
+        log = drop (n - one.applied) one.log;
+        kept = kept_after one.kept (up_to n one);
+      }) applied-next
+      ∙ ap (λ (x : List Update). record {
+        items = items_after r.items (up_to n r);
+        applied = r.applied + length (up_to n r);
+        log = x;
+        kept = kept_after one.kept (up_to n one);
+      }) log-next
+      ∙ ap (λ (x : List (Option Kept)). record {
+        items = items_after r.items (up_to n r);
+        applied = r.applied + length (up_to n r);
+        log = drop (n - r.applied) r.log;
+        kept = x;
+      }) kept-next
 
 -- nothing is left to apply
 take-none : {X : Type 0} (k : ℕ) (xs : List X) → take k xs ≡ [] → drop k xs ≡ xs
@@ -82,7 +104,12 @@ take-none (suc k) (x ∷ xs) none = absurd (cc none)
 
 pub applied-none : (n : ℕ) (r : Replica) → up_to n r ≡ [] → applied_to n r ≡ r
 applied-none n r none =
-    ap (λ (us : List Update). record { items = items_after r.items us; applied = r.applied + length us; log = drop (n - r.applied) r.log; kept = kept_after r.kept us }) none
+    ap (λ (us : List Update). record {
+      items = items_after r.items us;
+      applied = r.applied + length us;
+      log = drop (n - r.applied) r.log;
+      kept = kept_after r.kept us;
+    }) none
     ∙ ap (λ (x : ℕ). record { items = r.items; applied = x; log = drop (n - r.applied) r.log; kept = r.kept }) (omega arith)
     ∙ ap (λ (us : List Update). record { items = r.items; applied = r.applied; log = us; kept = r.kept }) (take-none (n - r.applied) r.log none)
 
@@ -99,11 +126,13 @@ pub up-reached : (n : ℕ) (r : Replica) → n ≤ r.applied → up_to n r ≡ [
 up-reached n r reached = let e : n - r.applied ≡ 0 = omega arith in ap (λ (k : ℕ). take k r.log) e
 
 module _ (s : Dimensions) (d : ℕ) (u : Update) (us : List Update) where
-  copies-next : (p : Process) (copies : List Copy) → map (copy_after s p.name d (u ∷ us)) copies ≡ map (copy_after s p.name d us) (map (copy_after s p.name d (u ∷ [])) copies)
+  copies-next : (p : Process) (copies : List Copy) → map (copy_after s p.name d (u ∷ us)) copies
+      ≡ map (copy_after s p.name d us) (map (copy_after s p.name d (u ∷ [])) copies)
   copies-next p [] = refl
   copies-next p (c ∷ copies) = ap (λ (x : Copy). x ∷ map (copy_after s p.name d (u ∷ us)) copies) (by (is_some (at None c.marks d)) refl)
       ∙ ap (λ (xs : List Copy). copy_after s p.name d us (copy_after s p.name d (u ∷ []) c) ∷ xs) (copies-next p copies) where
-        by : (marked : Bool) → is_some (at None c.marks d) ≡ marked → copy_after s p.name d (u ∷ us) c ≡ copy_after s p.name d us (copy_after s p.name d (u ∷ []) c)
+        by : (marked : Bool) → is_some (at None c.marks d) ≡ marked → copy_after s p.name d (u ∷ us) c
+            ≡ copy_after s p.name d us (copy_after s p.name d (u ∷ []) c)
         by true marked =
             ap (λ (b : Bool). if b then c else record c { bytes = block_after s p.name d c.block (u ∷ us) c.bytes }) marked
             ∙ sym (ap (λ (b : Bool). copy_after s p.name d us (if b then c else record c { bytes = block_after s p.name d c.block (u ∷ []) c.bytes })) marked
@@ -111,15 +140,20 @@ module _ (s : Dimensions) (d : ℕ) (u : Update) (us : List Update) where
         by false marked =
             ap (λ (b : Bool). if b then c else record c { bytes = block_after s p.name d c.block (u ∷ us) c.bytes }) marked
             ∙ sym (ap (λ (b : Bool). copy_after s p.name d us (if b then c else record c { bytes = block_after s p.name d c.block (u ∷ []) c.bytes })) marked
-            ∙ ap (λ (b : Bool). if b then record c { bytes = block_after s p.name d c.block (u ∷ []) c.bytes } else record c { bytes = block_after s p.name d c.block us (block_after s p.name d c.block (u ∷ []) c.bytes) }) marked)
+            ∙ ap (λ (b : Bool). if b then record c { bytes = block_after s p.name d c.block (u ∷ []) c.bytes } else
+            record c { bytes = block_after s p.name d c.block us (block_after s p.name d c.block (u ∷ []) c.bytes) })
+            marked)
 
   rebuilt-next : (b : ℕ) (blocks : List (Option (List ℕ))) → rebuilt_after s d (u ∷ us) b blocks ≡ rebuilt_after s d us b (rebuilt_after s d (u ∷ []) b blocks)
   rebuilt-next b [] = refl
   rebuilt-next b (None ∷ blocks) = ap (λ (xs : List (Option (List ℕ))). None ∷ xs) (rebuilt-next (suc b) blocks)
-  rebuilt-next b (Some bytes ∷ blocks) = ap (λ (xs : List (Option (List ℕ))). Some (block_after s (DataNode d) d b (u ∷ us) bytes) ∷ xs) (rebuilt-next (suc b) blocks)
+  rebuilt-next b (Some bytes ∷ blocks) =
+      ap (λ (xs : List (Option (List ℕ))). Some (block_after s (DataNode d) d b (u ∷ us) bytes) ∷ xs)
+      (rebuilt-next (suc b) blocks)
 
   rebuilt-put : (rebuilt : List (List (Option (List ℕ)))) → put [] (put [] rebuilt d (rebuilt_after s d (u ∷ []) 0 (at [] rebuilt d))) d
-      (rebuilt_after s d us 0 (at [] (put [] rebuilt d (rebuilt_after s d (u ∷ []) 0 (at [] rebuilt d))) d)) ≡ put [] rebuilt d (rebuilt_after s d (u ∷ us) 0 (at [] rebuilt d))
+      (rebuilt_after s d us 0 (at [] (put [] rebuilt d (rebuilt_after s d (u ∷ []) 0 (at [] rebuilt d))) d))
+      ≡ put [] rebuilt d (rebuilt_after s d (u ∷ us) 0 (at [] rebuilt d))
   rebuilt-put rebuilt =
       let once : List (Option (List ℕ)) = rebuilt_after s d (u ∷ []) 0 (at [] rebuilt d) in
       put-put [] rebuilt d once (rebuilt_after s d us 0 (at [] (put [] rebuilt d once) d))
@@ -143,10 +177,11 @@ module _ (s : Dimensions) (d : ℕ) (u : Update) (us : List Update) where
 module _ (s : Dimensions) (d : ℕ) where
   copies-none : (p : Process) (copies : List Copy) → map (copy_after s p.name d []) copies ≡ copies
   copies-none p [] = refl
-  copies-none p (c ∷ copies) = ap (λ (x : Copy). x ∷ map (copy_after s p.name d []) copies) (by (is_some (at None c.marks d))) ∙ ap (λ (xs : List Copy). c ∷ xs) (copies-none p copies) where
-    by : (marked : Bool) → (if marked then c else record c { bytes = c.bytes }) ≡ c
-    by true = refl
-    by false = refl
+  copies-none p (c ∷ copies) = ap (λ (x : Copy). x ∷ map (copy_after s p.name d []) copies)
+      (by (is_some (at None c.marks d))) ∙ ap (λ (xs : List Copy). c ∷ xs) (copies-none p copies) where
+        by : (marked : Bool) → (if marked then c else record c { bytes = c.bytes }) ≡ c
+        by true = refl
+        by false = refl
 
   rebuilt-none : (b : ℕ) (blocks : List (Option (List ℕ))) → rebuilt_after s d [] b blocks ≡ blocks
   rebuilt-none b [] = refl
@@ -155,16 +190,21 @@ module _ (s : Dimensions) (d : ℕ) where
 
   pub bytes-none : (p : Process) → d < length p.as_leader.rebuilt → bytes_after s d [] p ≡ p
   bytes-none p within =
-      ap (λ (copies : List Copy). record p { as_row = record p.as_row { copies = copies }; as_leader = (bytes_after s d [] p).as_leader }) (copies-none p p.as_row.copies)
+      ap (λ (copies : List Copy). record p {
+        as_row = record p.as_row { copies = copies };
+        as_leader = (bytes_after s d [] p).as_leader;
+      }) (copies-none p p.as_row.copies)
       ∙ ap (λ (rebuilt : List (List (Option (List ℕ)))). record p { as_leader = record p.as_leader { rebuilt = rebuilt } })
       (ap (put [] p.as_leader.rebuilt d) (rebuilt-none 0 (at [] p.as_leader.rebuilt d)) ∙ put-at [] [] p.as_leader.rebuilt d within)
 
   -- updates leave the number of partitions that it has blocks of
-  pub blocks-kept : (us : List Update) (p : Process) → d < length p.as_leader.rebuilt → length (bytes_after s d us p).as_leader.rebuilt ≡ length p.as_leader.rebuilt
+  pub blocks-kept : (us : List Update) (p : Process) → d < length p.as_leader.rebuilt
+      → length (bytes_after s d us p).as_leader.rebuilt ≡ length p.as_leader.rebuilt
   blocks-kept us p within = length-put [] p.as_leader.rebuilt d (rebuilt_after s d us 0 (at [] p.as_leader.rebuilt d)) within
 
 -- what is owed once one update more is settled
-pub owed-next : (needed owed touched key : Bool) → (key ≡ true → touched ≡ true) → (needed || ((owed || touched) || (key || false))) ≡ true → (needed || (owed || touched)) ≡ true
+pub owed-next : (needed owed touched key : Bool) → (key ≡ true → touched ≡ true)
+    → (needed || ((owed || touched) || (key || false))) ≡ true → (needed || (owed || touched)) ≡ true
 owed-next true owed touched key within is = refl
 owed-next false true touched key within is = refl
 owed-next false false true key within is = refl

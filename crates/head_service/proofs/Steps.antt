@@ -22,7 +22,9 @@ module _ (s : Dimensions) (d : ℕ) (b : Process) where
   pub apply-is : (n : ℕ) (r : Replica) (v : Serving) → apply_to s d n (serving (record v { replicas = put empty_replica v.replicas d r }) b) ≡ applied_in n r v
   apply-is n r v =
       let here : at empty_replica (put empty_replica v.replicas d r) d ≡ r = at-put empty_replica empty_replica v.replicas d r in
-      ap (λ (x : Replica). serving (record v { replicas = put empty_replica (put empty_replica v.replicas d r) d (applied_to n x) }) (bytes_after s d (up_to n x) b)) here
+      ap (λ (x : Replica).
+      serving (record v { replicas = put empty_replica (put empty_replica v.replicas d r) d (applied_to n x) })
+      (bytes_after s d (up_to n x) b)) here
       ∙ ap (λ (xs : List Replica). serving (record v { replicas = xs }) (bytes_after s d (up_to n r) b)) (put-put empty_replica v.replicas d r (applied_to n r))
 
   -- the number up to which it is settled
@@ -33,7 +35,8 @@ module _ (s : Dimensions) (d : ℕ) (b : Process) where
   abbrev pub judged : Serving → Head → Replica → ProcessStep
   judged v h r = record { process = applied_in (reach v h r) r v; sent = []; settled = settlements d (up_to (reach v h r) r) }
 
-  pub judge-is : (h : Head) (r : Replica) (v : Serving) → at None v.heads d ≡ Some h → judge s d (serving (record v { replicas = put empty_replica v.replicas d r }) b) ≡ judged v h r
+  pub judge-is : (h : Head) (r : Replica) (v : Serving) → at None v.heads d ≡ Some h
+      → judge s d (serving (record v { replicas = put empty_replica v.replicas d r }) b) ≡ judged v h r
   judge-is h r v headed =
       let p : Process = serving (record v { replicas = put empty_replica v.replicas d r }) b in
       let here : at empty_replica (put empty_replica v.replicas d r) d ≡ r = at-put empty_replica empty_replica v.replicas d r in
@@ -58,7 +61,11 @@ module _ (s : Dimensions) (d : ℕ) (b : Process) where
         ap (λ (x : Replica). and_then (sending (to_parities (other_parities s.m b.name v.known) (tells.Update (rank h.rank) (partition d) u x.applied))
         (serving (record v { replicas = put empty_replica v.replicas d (with_update u x) }) b)) (judge s d)) here
         ∙ ap (λ (step : ProcessStep). record { process = step.process; sent = told ++ step.sent; settled = step.settled }) (judge-is h grown v headed)
-        ∙ ap (λ (sent : List Sent). record { process = applied_in (reach v h grown) grown v; sent = sent; settled = settlements d (up_to (reach v h grown) grown) }) (append-nil told)
+        ∙ ap (λ (sent : List Sent). record {
+          process = applied_in (reach v h grown) grown v;
+          sent = sent;
+          settled = settlements d (up_to (reach v h grown) grown);
+        }) (append-nil told)
 
     -- whether it is settled at once
     abbrev pub at_once : Bool
@@ -67,7 +74,10 @@ module _ (s : Dimensions) (d : ℕ) (b : Process) where
     abbrev pub issue_in : CallStep
     issue_in = record {
       step = record {
-        process = serving (record v { replicas = put empty_replica v.replicas d (applied_to (reach v h grown) grown); held = put [] v.held d (held_then at_once u (at [] v.held d)) })
+        process = serving (record v {
+          replicas = put empty_replica v.replicas d (applied_to (reach v h grown) grown);
+          held = put [] v.held d (held_then at_once u (at [] v.held d));
+        })
             (bytes_after s d (up_to (reach v h grown) grown) b);
         sent = told;
         settled = settlements d (up_to (reach v h grown) grown);
@@ -78,11 +88,16 @@ module _ (s : Dimensions) (d : ℕ) (b : Process) where
     pub issue-is : d < length v.held → issue s d h u (serving v b) ≡ issue_in
     issue-is within =
         ap (λ (step : ProcessStep). ticketed (nat_le u.number (replica_of step.process d).applied) d u step) issued-is
-        ∙ ap (λ (x : Replica). ticketed (nat_le u.number x.applied) d u issued_in) (at-put empty_replica empty_replica v.replicas d (applied_to (reach v h grown) grown))
+        ∙ ap (λ (x : Replica). ticketed (nat_le u.number x.applied) d u issued_in)
+        (at-put empty_replica empty_replica v.replicas d (applied_to (reach v h grown) grown))
         ∙ by at_once where
           by : (now : Bool) → ticketed now d u issued_in ≡ record {
             step = record {
-              process = serving (record v { replicas = put empty_replica v.replicas d (applied_to (reach v h grown) grown); held = put [] v.held d (held_then now u (at [] v.held d)) })
+              process = serving
+                  (record v {
+                    replicas = put empty_replica v.replicas d (applied_to (reach v h grown) grown);
+                    held = put [] v.held d (held_then now u (at [] v.held d));
+                  })
                   (bytes_after s d (up_to (reach v h grown) grown) b);
               sent = told;
               settled = settlements d (up_to (reach v h grown) grown);

@@ -35,16 +35,24 @@ updates-are d (u ∷ us) = ap (λ (vs : List Update). u ∷ vs) (updates-are d u
 pub number-last : (log : List Update) (u : Update) (q : List ℕ) → same_key u.key q ≡ true → is_some (number_on (log ++ u ∷ []) q) ≡ true
 number-last [] u q same = ap (λ (b : Bool). is_some (if b then Some u.number else None)) same
 number-last (v ∷ log) u q same = by (number_on (log ++ u ∷ []) q) (number-last log u q same) where
-  by : (m : Option ℕ) → is_some m ≡ true → is_some (elim m as (λ _. Option ℕ) [ Some n ↦ Some n | None ↦ if same_key v.key q then Some v.number else None ]) ≡ true
+  by : (m : Option ℕ) → is_some m ≡ true
+      → is_some (elim m as (λ _. Option ℕ) [
+        | Some n ↦ Some n
+        | None ↦ if same_key v.key q then Some v.number else None
+      ]) ≡ true
   by (Some n) is = refl
   by None is = absurd (cc is)
 
 -- nothing is owed of an update that stands in the log
-pub received-tidy : (s t : State) (u : Update) → t.replica ≡ with_update u s.replica → IsTidyBut t (λ q. false || is_touched (u ∷ []) q) → IsTidyBut t (λ _. false)
+pub received-tidy : (s t : State) (u : Update) → t.replica ≡ with_update u s.replica
+    → IsTidyBut t (λ q. false || is_touched (u ∷ []) q) → IsTidyBut t (λ _. false)
 received-tidy s t u is tidy q ready = by (same_key u.key q) refl (tidy q ready) where
   needed : same_key u.key q ≡ true → is_some (number_on t.replica.log q) ≡ true
   needed same = ap (λ (r : Replica). is_some (number_on r.log q)) is ∙ number-last s.replica.log u q same
 
-  by : (same : Bool) → same_key u.key q ≡ same → (is_needed t.replica.items t.replica.log q || (false || (same || false))) ≡ true → (is_needed t.replica.items t.replica.log q || false) ≡ true
+  by : (same : Bool) → same_key u.key q ≡ same
+      → (is_needed t.replica.items t.replica.log q || (false || (same || false))) ≡ true
+      → (is_needed t.replica.items t.replica.log q || false) ≡ true
   by false test is = is
-  by true test is = ap (λ (b : Bool). (is_some (slot_in t.replica.items q) || b) || false) (needed test) ∙ ap (λ (b : Bool). b || false) (or-true (is_some (slot_in t.replica.items q)))
+  by true test is = ap (λ (b : Bool). (is_some (slot_in t.replica.items q) || b) || false) (needed test)
+      ∙ ap (λ (b : Bool). b || false) (or-true (is_some (slot_in t.replica.items q)))

@@ -1,5 +1,6 @@
 -- Where memory may be wanted for what a head decides.
-use Rattle.std.proofs.Common.{ℕ, ℤ, suc, ◌≡◌, ◌<◌, ◌==◌, nat_le, Bool, true, false, List, [], ◌++◌, length, ◌⊎◌, Option, Some, None, if◌then◌else◌, refl, sym, ap, subst, ◌∙◌, arith}
+use Rattle.std.proofs.Common.{ℕ, ℤ, suc, ◌≡◌, ◌<◌, ◌==◌, nat_le, Bool, true, false, List, [], ◌++◌, length, ◌⊎◌, Option}
+use Rattle.std.proofs.Common.{Some, None, if◌then◌else◌, refl, sym, ap, subst, ◌∙◌, arith}
 use Rattle.std.proofs.lemmas.Grind.{common_steps}
 use Rattle.std.proofs.lemmas.List.{append-nil}
 use Rattle.group_types.specs.declared.run.Run.{Run}
@@ -19,7 +20,8 @@ use Rattle.memc_table.specs.declared.ruling.Ruling.TheVariants.{Refused, Accepte
 use Rattle.group_message.specs.declared.update.Outcome.{Outcome}
 use Rattle.group_calls.specs.declared.decision.Decision.{Decision}
 use Rattle.group_calls.specs.declared.decision.Decision.TheVariants.{Answer, Issue, NeedBlock, NoSpace, Retry}
-use Rattle.group_run.specs.Deciding.{Found, decide_accepted, decide_left, decide_placed, decide_ruled, decide_waiting, held_as, is_get, is_touch, outcome_of, ruling_with, run_needed, waits_for, window}
+use Rattle.group_run.specs.Deciding.{Found, decide_accepted, decide_left, decide_placed, decide_ruled, decide_waiting}
+use Rattle.group_run.specs.Deciding.{held_as, is_get, is_touch, outcome_of, ruling_with, run_needed, waits_for, window}
 use Rattle.group_run.specs.Free.{place_for}
 use Rattle.group_run.specs.Replica.{Replica, last_of, number_on, slot_in}
 use Rattle.head_service.specs.Wanting.{IsIssued, MayRead, MayWant, ReadsItem, TakesMemory}
@@ -84,7 +86,8 @@ module _ (t n : ℕ) where
     present-brought (Set key flags expiry value) other holds = anew-brought (Set key flags expiry value) flags expiry value refl
     present-brought (Add key flags expiry value) other holds = absurd holds
     present-brought (Replace key flags expiry value) other holds = anew-brought (Replace key flags expiry value) flags expiry value refl
-    present-brought (Cas key flags expiry cas value) other holds = swapped-brought (Cas key flags expiry cas value) flags expiry value refl (h.item.cas == cas) holds
+    present-brought (Cas key flags expiry cas value) other holds = swapped-brought (Cas key flags expiry cas value)
+        flags expiry value refl (h.item.cas == cas) holds
     present-brought (Delete key) other holds = absurd holds
     present-brought (Touch key expiry) other holds = record {
       reply = reply.Touched;
@@ -154,4 +157,5 @@ pub wants-waiting : (space inherited : ℕ) (r : Replica) (op : Asked) (read : R
     → MayWant space inherited r op read
 wants-waiting space inherited r op read none = subst (λ (waits : Option ℕ).
     ReadsItem r op (slot_in r.items (key_of op.act)) read ⊎ TakesMemory (decide_waiting space r op read (slot_in r.items (key_of op.act)) None)
-    → MayRead r op (slot_in r.items (key_of op.act)) read waits ⊎ TakesMemory (decide_waiting space r op read (slot_in r.items (key_of op.act)) waits)) (sym none) (λ x. x)
+    → MayRead r op (slot_in r.items (key_of op.act)) read waits
+    ⊎ TakesMemory (decide_waiting space r op read (slot_in r.items (key_of op.act)) waits)) (sym none) (λ x. x)

@@ -16,10 +16,12 @@ module _ {K : Type 0} {R : K → K → Ordering} (total : IsTotalOrder R) where
   get_by_order [] q = map.get-empty R q
   get_by_order ((key, None) ∷ rest) q =
       map.get-remove total (as_map R rest) key q
-      ∙ elim (eq_by_cmp R q key) as (λ b. cond b None (map.get (as_map R rest) q) ≡ option_and_then (λ slot. slot) (cond b (Some None) (lookup (eq_by_cmp R q) rest))) [ true ↦ refl | false ↦ get_by_order rest q ]
+      ∙ elim (eq_by_cmp R q key) as (λ b. cond b None (map.get (as_map R rest) q) ≡ option_and_then (λ slot. slot)
+      (cond b (Some None) (lookup (eq_by_cmp R q) rest))) [ true ↦ refl | false ↦ get_by_order rest q ]
   get_by_order ((key, Some slot) ∷ rest) q =
       map.get-insert total (as_map R rest) key slot q
-      ∙ elim (eq_by_cmp R q key) as (λ b. cond b (Some slot) (map.get (as_map R rest) q) ≡ option_and_then (λ s. s) (cond b (Some (Some slot)) (lookup (eq_by_cmp R q) rest))) [ true ↦ refl | false ↦ get_by_order rest q ]
+      ∙ elim (eq_by_cmp R q key) as (λ b. cond b (Some slot) (map.get (as_map R rest) q) ≡ option_and_then (λ s. s)
+      (cond b (Some (Some slot)) (lookup (eq_by_cmp R q) rest))) [ true ↦ refl | false ↦ get_by_order rest q ]
 
   module _ (eq : K → K → Bool) (same : (a b : K) → eq a b ≡ eq_by_cmp R a b) where
     -- the map gives what the index gives
@@ -35,10 +37,13 @@ module _ {K : Type 0} {R : K → K → Ordering} (total : IsTotalOrder R) where
       pub as_map-same : ((q : K) → slot_of eq new q ≡ slot_of eq old q) → as_map R new ≡ as_map R old
       as_map-same slots = map.same_map total tied _ _ (λ q. get-as_map new q ∙ slots q ∙ sym (get-as_map old q))
 
-      pub as_map-insert : (key : K) (slot : Slot) → ((q : K) → slot_of eq new q ≡ (if eq key q then Some slot else slot_of eq old q)) → as_map R new ≡ map.insert (as_map R old) key slot
+      pub as_map-insert : (key : K) (slot : Slot)
+          → ((q : K) → slot_of eq new q ≡ (if eq key q then Some slot else slot_of eq old q))
+          → as_map R new ≡ map.insert (as_map R old) key slot
       as_map-insert key slot slots = map.same_map total tied _ _ (λ q.
           get-as_map new q ∙ slots q ∙ sym (map.get-insert total (as_map R old) key slot q ∙ rw (turned key q, get-as_map old q) refl))
 
-      pub as_map-remove : (key : K) → ((q : K) → slot_of eq new q ≡ (if eq key q then None else slot_of eq old q)) → as_map R new ≡ map.remove (as_map R old) key
+      pub as_map-remove : (key : K) → ((q : K) → slot_of eq new q ≡ (if eq key q then None else slot_of eq old q))
+          → as_map R new ≡ map.remove (as_map R old) key
       as_map-remove key slots = map.same_map total tied _ _ (λ q.
           get-as_map new q ∙ slots q ∙ sym (map.get-remove total (as_map R old) key q ∙ rw (turned key q, get-as_map old q) refl))

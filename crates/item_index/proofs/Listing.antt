@@ -32,7 +32,8 @@ none_listed test ((key, Some slot) ∷ rest) none = (none.0, none_listed test re
 -- as many are listed as have an entry
 length-listed : {K : Type 0} (index : Keys K) → length (listed index) ≡ count_of index
 length-listed {K} = is_count_by (λ index. length (listed index)) (λ entry. is_some entry.1) refl (λ entry rest. more entry.0 entry.1 rest) where
-  more : (key : K) (slot : Option Slot) (rest : Keys K) → length (listed ((key, slot) ∷ rest)) ≡ cond (is_some slot) (1 + length (listed rest)) (length (listed rest))
+  more : (key : K) (slot : Option Slot) (rest : Keys K) → length (listed ((key, slot) ∷ rest)) ≡ cond (is_some slot)
+      (1 + length (listed rest)) (length (listed rest))
   more key None rest = refl
   more key (Some slot) rest = omega arith
 
@@ -41,7 +42,9 @@ module _ {K : Type 0} (eq : K → K → Bool) (laws : IsEquivalence eq) where
   once [] distinct = distinct
   once ((key, None) ∷ rest) distinct = once rest (IsDistinct-tail eq key (keys_of rest) distinct)
   once ((key, Some slot) ∷ rest) distinct =
-      IsDistinct-cons eq key _ (all_listed (λ other. eq key other ≡ false) rest (IsDistinct-head eq key (keys_of rest) distinct)) (once rest (IsDistinct-tail eq key (keys_of rest) distinct))
+      IsDistinct-cons eq key _
+      (all_listed (λ other. eq key other ≡ false) rest (IsDistinct-head eq key (keys_of rest) distinct))
+      (once rest (IsDistinct-tail eq key (keys_of rest) distinct))
 
   slots : (index : Keys K) → IsDistinct eq (keys_of index) → (q : K) → lookup (eq q) (listed index) ≡ slot_of eq index q
   slots [] distinct q = refl

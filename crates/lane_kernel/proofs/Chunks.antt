@@ -1,5 +1,7 @@
 -- What a loop over bytes or vectors has written.
-use Rattle.std.proofs.Common.{◌≡◌, ◌≢◌, ℕ, ◌+◌, ◌-◌, ◌<◌, ◌≤◌, List, ◌++◌, length, take, drop, get_or, set, bit_xor, inl, inr, sym, ap, ap₂, ◌∙◌, subst, refl, arith, get_or-set_other, get_or-set_same, length-set}
+use Rattle.std.proofs.Common.{◌≡◌, ◌≢◌, ℕ, ◌+◌, ◌-◌, ◌<◌, ◌≤◌, List, ◌++◌, length, take, drop, get_or, set, bit_xor}
+use Rattle.std.proofs.Common.{inl, inr, sym, ap, ap₂, ◌∙◌, subst, refl, arith, get_or-set_other, get_or-set_same}
+use Rattle.std.proofs.Common.{length-set}
 use Rattle.std.specs.Simd.Lanes.{chunk, put_chunk}
 use Rattle.std.proofs.lemmas.Bool.{cases_lt}
 use Rattle.std.proofs.lemmas.Grind.{same_number_lists}
@@ -15,7 +17,8 @@ pub record Written (at : ℕ) (old whole now : List ℕ) : Type 0 where
   pub done : (k : ℕ) → k < at → get_or now k 0 ≡ get_or whole k 0
   pub left : (k : ℕ) → at ≤ k → get_or now k 0 ≡ get_or old k 0
 
-pub byte_written : (at : ℕ) (old whole now : List ℕ) (x : ℕ) → at < length old → x ≡ get_or whole at 0 → Written at old whole now → Written (at + 1) old whole (set now at x)
+pub byte_written : (at : ℕ) (old whole now : List ℕ) (x : ℕ) → at < length old → x ≡ get_or whole at 0
+    → Written at old whole now → Written (at + 1) old whole (set now at x)
 byte_written at old whole now x within is before = record {
   long = length-set now at x ∙ before.long;
   done = λ k below. elim (cases_lt k at) [
@@ -41,7 +44,8 @@ chunk_left at n old whole now within before =
     let lane : k < n = omega arith in
     get_or-chunk at n now k 0 lane ∙ (before.left (at + k) (omega arith) ∙ sym (get_or-chunk at n old k 0 lane)))
 
-vector_done : (at n : ℕ) (whole now sum : List ℕ) → at + n ≤ length now → length whole ≡ length now → sum ≡ chunk at n whole → ((k : ℕ) → k < at → get_or now k 0 ≡ get_or whole k 0)
+vector_done : (at n : ℕ) (whole now sum : List ℕ) → at + n ≤ length now → length whole ≡ length now
+    → sum ≡ chunk at n whole → ((k : ℕ) → k < at → get_or now k 0 ≡ get_or whole k 0)
     → (k : ℕ) → k < at + n → get_or (put_chunk at now sum) k 0 ≡ get_or whole k 0
 vector_done at n whole now sum within same is done k below =
     let wide : length sum ≡ n = ap length is ∙ length-chunk at n whole (omega arith) in
@@ -55,7 +59,8 @@ vector_done at n whole now sum within same is done k below =
           ∙ (ap (λ l. get_or l (k - at) 0) is ∙ (get_or-chunk at n whole (k - at) 0 lane ∙ ap (λ j. get_or whole j 0) (sym place))))
     ]
 
-pub vector_written : (at n : ℕ) (old whole now sum : List ℕ) → at + n ≤ length old → length whole ≡ length old → sum ≡ chunk at n whole → Written at old whole now → Written (at + n) old whole (put_chunk at now sum)
+pub vector_written : (at n : ℕ) (old whole now sum : List ℕ) → at + n ≤ length old → length whole ≡ length old
+    → sum ≡ chunk at n whole → Written at old whole now → Written (at + n) old whole (put_chunk at now sum)
 vector_written at n old whole now sum within same is before =
     let wide : length sum ≡ n = ap length is ∙ length-chunk at n whole (omega arith) in
     record {
@@ -79,7 +84,8 @@ part_written {old} {whole} {f} by at n now part within is before =
     vector_written at n old whole now part within by.same (is ∙ (ap (f at n) (chunk_left at n old whole now within before) ∙ by.parts at n within)) before
 
 -- the last vector, made at first, closes what the others left
-pub last_written : {old whole : List ℕ} {f : ℕ → ℕ → List ℕ → List ℕ} → ByParts old whole f → (at end n : ℕ) (now last : List ℕ) → end + n ≡ length old → end ≤ at → last ≡ f end n (chunk end n old)
+pub last_written : {old whole : List ℕ} {f : ℕ → ℕ → List ℕ → List ℕ} → ByParts old whole f
+    → (at end n : ℕ) (now last : List ℕ) → end + n ≡ length old → end ≤ at → last ≡ f end n (chunk end n old)
     → Written at old whole now → put_chunk end now last ≡ whole
 last_written {old} {whole} {f} by at end n now last at_end reached is before =
     let long = before.long ∙ sym by.same in
@@ -90,13 +96,22 @@ last_written {old} {whole} {f} by at end n now last at_end reached is before =
 abbrev pub put_mid : ℕ → ℕ → List ℕ → List ℕ → List ℕ
 put_mid at n xs ys = take at xs ++ (ys ++ drop n (drop at xs))
 
-rest_put : (at n : ℕ) (old whole now rest : List ℕ) → at + n ≡ length old → length whole ≡ length old → rest ≡ chunk at n whole → Written at old whole now → put_mid at n now rest ≡ whole
+rest_put : (at n : ℕ) (old whole now rest : List ℕ) → at + n ≡ length old → length whole ≡ length old
+    → rest ≡ chunk at n whole → Written at old whole now → put_mid at n now rest ≡ whole
 rest_put at n old whole now rest all same part before =
     let front : take at now ≡ take at whole = same_number_lists _ _ (omega (arith, length-take at now, length-take at whole, before.long, same)) (λ k below.
     let early : k < at = omega (arith, length-take at now) in
     get_or-take at now k 0 early ∙ (before.done k early ∙ sym (get_or-take at whole k 0 early))) in
     let back : drop n (drop at now) ≡ drop n (drop at whole) =
-    same_number_lists _ _ (omega (arith, length-drop n (drop at now), length-drop n (drop at whole), length-drop at now, length-drop at whole, before.long, same)) (λ k below.
+    same_number_lists _ _ (omega (
+      arith,
+      length-drop n (drop at now),
+      length-drop n (drop at whole),
+      length-drop at now,
+      length-drop at whole,
+      before.long,
+      same,
+    )) (λ k below.
     absurd (omega (arith, length-drop n (drop at now), length-drop at now, before.long))) in
     ap₂ (λ x y. x ++ y) front (ap₂ (λ x y. x ++ y) part back) ∙ (ap (λ x. take at whole ++ x) (take-append-drop n (drop at whole)) ∙ take-append-drop at whole)
 
@@ -107,7 +122,9 @@ rest_written {old} {whole} {f} by at end now rest reached within is before =
     let n = length old - end in
     let all : end + n ≡ length old = omega arith in
     let done = subst (λ k. Written k old whole now) reached before in
-    let part = ap (λ k. f end n (chunk end (k - end) now)) before.long ∙ (ap (f end n) (chunk_left end n old whole now (omega (arith, all)) done) ∙ by.parts end n (omega (arith, all))) in
+    let part = ap (λ k. f end n (chunk end (k - end) now)) before.long
+    ∙ (ap (f end n) (chunk_left end n old whole now (omega (arith, all)) done)
+    ∙ by.parts end n (omega (arith, all))) in
     ap (λ k. put_mid end (k - end) now rest) before.long ∙ rest_put end n old whole now rest all by.same (is ∙ part) done
 
 -- one more product, in a part
@@ -116,7 +133,8 @@ pub product_more : (coef : ℕ) (src whole front : List ℕ) (at n : ℕ) → le
 product_more coef src whole front at n same is =
     ap₂ add_bytes is (sym (chunk-scale coef at n src)) ∙ sym (chunk-add_bytes at n whole (scale coef src) (sym (length-scale coef src ∙ same)))
 
-pub product_parts : (coef : ℕ) (src old : List ℕ) → length src ≡ length old → ByParts old (add_bytes old (scale coef src)) (λ at n l. add_bytes l (scale coef (chunk at n src)))
+pub product_parts : (coef : ℕ) (src old : List ℕ) → length src ≡ length old
+    → ByParts old (add_bytes old (scale coef src)) (λ at n l. add_bytes l (scale coef (chunk at n src)))
 product_parts coef src old same = record {
   same = length-add_scaled coef src old same;
   parts = λ at n within. product_more coef src old _ at n same refl;

@@ -31,18 +31,25 @@ by_read by xs i p four within = ap (λ q. scale q xs) (get_or_default_zero by i 
 
 -- four coefficients that were read one after another
 module _ (by a b c d : List ℕ) (p q r s : ℕ) (four : length by ≡ 4) where
-  pub four_summed : (of_a of_b of_c of_d : List ℕ) → of_a ≡ scale (get_or by 0 p) a → of_b ≡ add_bytes of_a (scale (get_or by 1 q) b) → of_c ≡ add_bytes of_b (scale (get_or by 2 r) c)
+  pub four_summed : (of_a of_b of_c of_d : List ℕ) → of_a ≡ scale (get_or by 0 p) a
+      → of_b ≡ add_bytes of_a (scale (get_or by 1 q) b) → of_c ≡ add_bytes of_b (scale (get_or by 2 r) c)
       → of_d ≡ add_bytes of_c (scale (get_or by 3 s) d) → of_d ≡ sum_of_four by a b c d
   four_summed of_a of_b of_c of_d is_a is_b is_c is_d =
-      is_d ∙ ap₂ add_bytes (is_c ∙ ap₂ add_bytes (is_b ∙ ap₂ add_bytes (is_a ∙ by_read by a 0 p four (omega arith)) (by_read by b 1 q four (omega arith))) (by_read by c 2 r four (omega arith))) (by_read by d 3 s four (omega arith))
+      is_d ∙ ap₂ add_bytes
+      (is_c ∙ ap₂ add_bytes (is_b ∙ ap₂ add_bytes (is_a ∙ by_read by a 0 p four (omega arith))
+      (by_read by b 1 q four (omega arith))) (by_read by c 2 r four (omega arith)))
+      (by_read by d 3 s four (omega arith))
 
   pub two_and_two : (old of_b of_d : List ℕ) → of_b ≡ add_two (get_or by 0 p) (get_or by 1 q) a b old → of_d ≡ add_two (get_or by 2 r) (get_or by 3 s) c d of_b
       → of_d ≡ add_two (get_or by 2 0) (get_or by 3 0) c d (add_two (get_or by 0 0) (get_or by 1 0) a b old)
   two_and_two old of_b of_d is_b is_d =
       let by_b = is_b ∙ ap₂ (λ xs ys. add_bytes (add_bytes old xs) ys) (by_read by a 0 p four (omega arith)) (by_read by b 1 q four (omega arith)) in
-      is_d ∙ (ap (add_two (get_or by 2 r) (get_or by 3 s) c d) by_b ∙ ap₂ (λ xs ys. add_bytes (add_bytes (add_two (get_or by 0 0) (get_or by 1 0) a b old) xs) ys) (by_read by c 2 r four (omega arith)) (by_read by d 3 s four (omega arith)))
+      is_d ∙ (ap (add_two (get_or by 2 r) (get_or by 3 s) c d) by_b
+      ∙ ap₂ (λ xs ys. add_bytes (add_bytes (add_two (get_or by 0 0) (get_or by 1 0) a b old) xs) ys)
+      (by_read by c 2 r four (omega arith)) (by_read by d 3 s four (omega arith)))
 
-module _ (by a b c d old : List ℕ) (a_same : length a ≡ length old) (b_same : length b ≡ length old) (c_same : length c ≡ length old) (d_same : length d ≡ length old) where
+module _ (by a b c d old : List ℕ) (a_same : length a ≡ length old) (b_same : length b ≡ length old)
+    (c_same : length c ≡ length old) (d_same : length d ≡ length old) where
   abbrev pub four : List ℕ
   four = sum_of_four by a b c d
 
@@ -73,7 +80,9 @@ module _ (by a b c d old : List ℕ) (a_same : length a ≡ length old) (b_same 
       (product_more _ c of_b _ at n (c_same ∙ sym length-b)
       (product_more _ b of_a _ at n (b_same ∙ sym length-a) (sym (chunk-scale _ at n a))))
 
-  pub four_parts : (keep : Bool) → ByParts old (add_bytes (kept keep old) four) (λ at n l. add_bytes (kept keep l) (sum_of_four by (chunk at n a) (chunk at n b) (chunk at n c) (chunk at n d)))
+  pub four_parts : (keep : Bool)
+      → ByParts old (add_bytes (kept keep old) four)
+      (λ at n l. add_bytes (kept keep l) (sum_of_four by (chunk at n a) (chunk at n b) (chunk at n c) (chunk at n d)))
   four_parts keep =
       let same = length-kept keep old ∙ sym length-four in
       record {
@@ -93,7 +102,8 @@ module _ (by a b c d old : List ℕ) (a_same : length a ≡ length old) (b_same 
       rest_written (four_parts keep) at end now rest reached within (rw (a_same, b_same, c_same, d_same) at is) before
 
   -- product by product is the same as their sum
-  pub one_by_one : add_bytes (add_bytes (add_bytes (add_bytes old of_a) (scale (get_or by 1 0) b)) (scale (get_or by 2 0) c)) (scale (get_or by 3 0) d) ≡ add_bytes old four
+  pub one_by_one : add_bytes (add_bytes (add_bytes (add_bytes old of_a) (scale (get_or by 1 0) b))
+      (scale (get_or by 2 0) c)) (scale (get_or by 3 0) d) ≡ add_bytes old four
   one_by_one =
       let by_b = add_bytes_assoc old of_a (scale (get_or by 1 0) b) (sym length-a) (length-a ∙ sym (length-scale _ b ∙ b_same)) in
       let by_c = add_bytes_assoc old of_b (scale (get_or by 2 0) c) (sym length-b) (length-b ∙ sym (length-scale _ c ∙ c_same)) in

@@ -1,11 +1,14 @@
 -- Shuffles as look-ups of products.
-use Rattle.std.proofs.Common.{◌≡◌, ℕ, ◌+◌, ◌*◌, ◌/◌, ◌^◌, ◌<◌, true, ◌==◌, List, [], ◌∷◌, ◌++◌, ◌%◌, map, length, get_or, replicate, bit_xor, bit_and, refl, sym, ap, ap₂, ◌∙◌, arith, w8, Fits}
+use Rattle.std.proofs.Common.{◌≡◌, ℕ, ◌+◌, ◌*◌, ◌/◌, ◌^◌, ◌<◌, true, ◌==◌, List, [], ◌∷◌, ◌++◌, ◌%◌, map, length}
+use Rattle.std.proofs.Common.{get_or, replicate, bit_xor, bit_and, refl, sym, ap, ap₂, ◌∙◌, arith, w8, Fits}
 use Rattle.std.specs.Simd.Lanes.{zip2, Each1, all_below, pick_l}
 use Rattle.std.proofs.Math.Dec.{T}
 use Rattle.std.proofs.lemmas.Bool.{agree_below, agree_below_at, eqb-true}
 use Rattle.std.proofs.lemmas.List.{get_or-map, length-map, ext_get_or}
 use Rattle.std.proofs.lemmas.Nat.{and_le_r}
-use Rattle.std.proofs.lemmas.Simd.{Each1-all, Each1-weaker, Each1-zip2, Each1-get_or, Each2-splat, below_from_Fits, zip2_splat, zip2_of_maps, pick_l_left, swz_l, SwzOk, SwzOk-from_below, length-swz_l, get_or-swz_l_below}
+use Rattle.std.proofs.lemmas.Simd.{Each1-all, Each1-weaker, Each1-zip2, Each1-get_or, Each2-splat, below_from_Fits}
+use Rattle.std.proofs.lemmas.Simd.{zip2_splat, zip2_of_maps, pick_l_left, swz_l, SwzOk, SwzOk-from_below, length-swz_l}
+use Rattle.std.proofs.lemmas.Simd.{get_or-swz_l_below}
 use Rattle.field_byte.specs.Field.{product}
 use Rattle.field_byte.specs.Halves.{products_of_nibbles}
 use Rattle.field_byte.specs.Vectors.{scale}
@@ -49,25 +52,31 @@ sixteen_products coef step table is = record {
 -- the same of places that repeat 0 to 15
 module _ (blocks : ℕ) (places : List ℕ) (whole : length places ≡ blocks * 16) (below : T (all_below 16 places))
     (repeat : agree_below (λ m. get_or places m 0 == m % 16) (λ m. true) (length places) ≡ true) where
-  copied : (coef step : ℕ) (table rest : List ℕ) → table ≡ products_of_nibbles coef step → IsTable (length places) (pick_l 0 (table ++ rest) places) (λ j. product coef (j * step))
+  copied : (coef step : ℕ) (table rest : List ℕ) → table ≡ products_of_nibbles coef step
+      → IsTable (length places) (pick_l 0 (table ++ rest) places) (λ j. product coef (j * step))
   copied coef step table rest is = record {
     reads = λ i j i_below j_below.
         let m : ℕ = 16 * ((0 + i) / 16) + j in
         let m_below : m < length places = omega (arith, whole) in
-        let place : get_or places m 0 ≡ j = eqb-true _ _ (agree_below_at (λ m. get_or places m 0 == m % 16) (λ m. true) (length places) m repeat m_below) ∙ omega arith in
+        let place : get_or places m 0 ≡ j =
+        eqb-true _ _ (agree_below_at (λ m. get_or places m 0 == m % 16) (λ m. true) (length places) m repeat m_below)
+        ∙ omega arith in
         ap (λ l. get_or l m 0) (pick_l_left 0 table rest 16 places (ap length is) below)
         ∙ (get_or-map (λ k. get_or table k 0) places m 0 0 m_below
         ∙ (ap₂ (λ (l : List ℕ) (k : ℕ). get_or l k 0) is place ∙ product_at coef step j j_below));
   }
 
-pub sixteen_products_twice : (coef step : ℕ) (table rest : List ℕ) → table ≡ products_of_nibbles coef step → IsTable 32 (pick_l 0 (table ++ rest) TWICE) (λ j. product coef (j * step))
+pub sixteen_products_twice : (coef step : ℕ) (table rest : List ℕ) → table ≡ products_of_nibbles coef step
+    → IsTable 32 (pick_l 0 (table ++ rest) TWICE) (λ j. product coef (j * step))
 sixteen_products_twice = copied 2 TWICE refl tt refl
 
-pub sixteen_products_four_times : (coef step : ℕ) (table rest : List ℕ) → table ≡ products_of_nibbles coef step → IsTable 64 (pick_l 0 (table ++ rest) FOUR_TIMES) (λ j. product coef (j * step))
+pub sixteen_products_four_times : (coef step : ℕ) (table rest : List ℕ) → table ≡ products_of_nibbles coef step
+    → IsTable 64 (pick_l 0 (table ++ rest) FOUR_TIMES) (λ j. product coef (j * step))
 sixteen_products_four_times = copied 4 FOUR_TIMES refl tt refl
 
 -- a shuffle reads f at the positions
-shuffled : (n : ℕ) (table : List ℕ) (f g : ℕ → ℕ) (v js : List ℕ) → IsTable n table f → length v ≡ n → Each1 (Fits w8) v → js ≡ map g v → ((x : ℕ) → x < 256 → g x < 16) → swz_l w8 16 table 0 js ≡ map (λ x. f (g x)) v
+shuffled : (n : ℕ) (table : List ℕ) (f g : ℕ → ℕ) (v js : List ℕ) → IsTable n table f → length v ≡ n → Each1 (Fits w8) v
+    → js ≡ map g v → ((x : ℕ) → x < 256 → g x < 16) → swz_l w8 16 table 0 js ≡ map (λ x. f (g x)) v
 shuffled n table f g v js is_table long fits positions small =
     let js_long : length js ≡ n = ap length positions ∙ (length-map v g ∙ long) in
     ext_get_or 0 _ _ (length-swz_l w8 16 table 0 js ∙ (js_long ∙ sym (length-map v (λ x. f (g x)) ∙ long))) (λ i within.

@@ -37,7 +37,8 @@ module _ (s : Dimensions) (v : State) where
   kind x (ParityNode i) (tells.Mark session r block d n) may = tt
   kind x (ParityNode i) (tells.Cease upto) may = tt
 
-  firsts : Members s v → (x p : ProcessId) (m : Message) (rest : List Message) → IsProcess s x → IsProcess s p → x ≢ p → v.dead p ≡ false → v.link x p ≡ m ∷ rest
+  firsts : Members s v → (x p : ProcessId) (m : Message) (rest : List Message) → IsProcess s x → IsProcess s p → x ≢ p
+      → v.dead p ≡ false → v.link x p ≡ m ∷ rest
       → IsFor p m
   firsts members x p m rest xin pin apart lives first = kind x p m (subst (Each (MayStand s v x p)) first (members.may x p xin pin apart lives)).0
 

@@ -1,5 +1,6 @@
 -- The cause of each answer to an ask.
-use Rattle.std.proofs.Common.{ℕ, zero, suc, ◌≡◌, ◌<◌, ◌≤◌, ◌+◌, nat_le, Bool, true, false, if◌then◌else◌, List, [], length, take, Option, Some, None, ◌⊎◌, inl, inr, refl, sym, ap, subst, ◌∙◌, arith}
+use Rattle.std.proofs.Common.{ℕ, zero, suc, ◌≡◌, ◌<◌, ◌≤◌, ◌+◌, nat_le, Bool, true, false, if◌then◌else◌, List, []}
+use Rattle.std.proofs.Common.{length, take, Option, Some, None, ◌⊎◌, inl, inr, refl, sym, ap, subst, ◌∙◌, arith}
 use Rattle.std.proofs.lemmas.Grind.{common_steps}
 use Rattle.std.specs.Prelude.{option_map}
 use Rattle.std.specs.List.{range_with_len}
@@ -31,9 +32,13 @@ use Rattle.run_alloc.specs.Free.{NoPlace}
 use Rattle.law_updates.proofs.Placing.{places_are_best}
 use Rattle.law_updates.specs.Placing.{IsPlaced}
 use Rattle.group_run.specs.Applying.{head_at, replica_of}
-use Rattle.group_run.specs.Asking.{Oldest, act_on, ask_head, ask_process, found_at, found_unless, issued, oldest_inherited, reply_from, retry_block, ticketed, update_of}
-use Rattle.group_run.specs.Causes.{AskCause, FindsNoRun, FindsWindowFull, IsClear, IsReady, IsServed, IsUp, Leaves, MissesBlock, NeedsBlock, NeedsPlace, WaitsForInherited, WaitsForKey, home_in, table_now}
-use Rattle.group_run.specs.Deciding.{Found, Missing, decide_blind, decide_waiting, blind_reply, is_get, is_touch, length_of, outcome_of, ruling_with, run_needed, unseen, waits_for, window}
+use Rattle.group_run.specs.Asking.{Oldest, act_on, ask_head, ask_process, found_at, found_unless, issued}
+use Rattle.group_run.specs.Asking.{oldest_inherited, reply_from, retry_block, ticketed, update_of}
+use Rattle.group_run.specs.Causes.{AskCause, FindsNoRun, FindsWindowFull, IsClear, IsReady, IsServed, IsUp, Leaves}
+use Rattle.group_run.specs.Causes.{MissesBlock, NeedsBlock, NeedsPlace, WaitsForInherited, WaitsForKey, home_in}
+use Rattle.group_run.specs.Causes.{table_now}
+use Rattle.group_run.specs.Deciding.{Found, Missing, decide_blind, decide_waiting, blind_reply, is_get, is_touch}
+use Rattle.group_run.specs.Deciding.{length_of, outcome_of, ruling_with, run_needed, unseen, waits_for, window}
 use Rattle.group_run.specs.Free.{is_free, place_for}
 use Rattle.group_run.specs.Headline.{LogsAreShort}
 use Rattle.group_run.specs.History.{History}
@@ -98,7 +103,8 @@ record Misses (s : Dimensions) (d : ℕ) (p : Process) (y : ProcessId) (run : Ru
 misses : (s : Dimensions) (d : ℕ) (p : Process) (y : ProcessId) (run : Run) (b : ℕ) → found_at s d p y run ≡ Missing b → Misses s d p y run b
 misses s d p (DataNode e) run b is = absurd (cc is)
 misses s d p (ParityNode i) run b is = by (missing_block s d run p.as_leader) refl is where
-  by : (o : Option ℕ) → missing_block s d run p.as_leader ≡ o → found_unless o (rebuilt_bytes s d run p.as_leader) ≡ Missing b → Misses s d p (ParityNode i) run b
+  by : (o : Option ℕ) → missing_block s d run p.as_leader ≡ o → found_unless o (rebuilt_bytes s d run p.as_leader)
+      ≡ Missing b → Misses s d p (ParityNode i) run b
   by None none is = absurd (cc is)
   by (Some c) some is = let same : c ≡ b = cc is in record { parity = (i, refl); missing = some ∙ ap Some same }
 
@@ -106,7 +112,9 @@ misses s d p (ParityNode i) run b is = by (missing_block s d run p.as_leader) re
 waits-for : (inherited : ℕ) (op : Asked) (m : Option ℕ) (n : ℕ) → waits_for inherited op.act m ≡ Some n → (m ≡ Some n) × (is_get op.act ≡ true → n ≤ inherited)
 waits-for inherited op None n is = absurd (cc is)
 waits-for inherited op (Some k) n is = by (is_get op.act) refl (nat_le k inherited) refl is where
-  by : (g : Bool) → is_get op.act ≡ g → (b : Bool) → nat_le k inherited ≡ b → (if g then (if b then Some k else None) else Some k) ≡ Some n → (Some k ≡ Some n) × (is_get op.act ≡ true → n ≤ inherited)
+  by : (g : Bool) → is_get op.act ≡ g → (b : Bool) → nat_le k inherited ≡ b
+      → (if g then (if b then Some k else None) else Some k) ≡ Some n → (Some k ≡ Some n)
+      × (is_get op.act ≡ true → n ≤ inherited)
   by true gets true test is = (is, λ get. let same : k ≡ n = cc is in let low : k ≤ inherited = grind (arith, common_steps) in omega (arith, same, low))
   by true gets false test is = absurd (cc is)
   by false gets b test is = (is, λ get. absurd (cc (get, gets)))
@@ -124,8 +132,10 @@ no-run : (space : ℕ) (r : Replica) (len : ℕ) → place_for space r len ≡ N
 no-run space r zero is = absurd (cc is)
 no-run space r (suc len) is = (omega arith, subst (IsPlaced space r (suc len)) is (places_are_best space r (suc len) (omega arith)))
 
-module _ (h : History) (framed : FramedHistory h) (members : Members h.world.shape (state_of h)) (calls : List Call) (stands : Stands h.world.shape calls (state_of h))
-    (ties : Ties h.world.shape h.settled (table_now h.world)) (short : LogsAreShort h.world) (some : 1 ≤ h.world.shape.k) (op : Asked) (p : ProcessId) (pin : IsProcess h.world.shape p)
+module _ (h : History) (framed : FramedHistory h) (members : Members h.world.shape (state_of h)) (calls : List Call)
+    (stands : Stands h.world.shape calls (state_of h))
+    (ties : Ties h.world.shape h.settled (table_now h.world)) (short : LogsAreShort h.world)
+    (some : 1 ≤ h.world.shape.k) (op : Asked) (p : ProcessId) (pin : IsProcess h.world.shape p)
     (distinct : IsDistinct (process_of h.world p))
     (gathered : is_dead h.world p ≡ false → Each (IsFor h.world.shape (process_of h.world p).known) (process_of h.world p).as_leader.sessions) where
   abbrev w : World
@@ -144,12 +154,15 @@ module _ (h : History) (framed : FramedHistory h) (members : Members h.world.sha
   settled = at [] h.settled (home_in h.world op)
 
   abbrev store : Store
-  store = store_after h.world.shape (home_in h.world op) (take (replica_of (process_of h.world p) (home_in h.world op)).applied (at [] h.settled (home_in h.world op)))
+  store = store_after h.world.shape (home_in h.world op)
+      (take (replica_of (process_of h.world p) (home_in h.world op)).applied (at [] h.settled (home_in h.world op)))
 
   low : d < w.shape.k
   low = home-below (key_of op.act) h.world.shape.k some
 
-  module _ (y : Head) (heads : head_at (process_of h.world p) (home_in h.world op) ≡ Some y) (stood : HeadStands h.world.shape calls (at [] h.settled (home_in h.world op)) (home_in h.world op) (process_of h.world p) y)
+  module _ (y : Head) (heads : head_at (process_of h.world p) (home_in h.world op) ≡ Some y)
+      (stood : HeadStands h.world.shape calls (at [] h.settled (home_in h.world op)) (home_in h.world op)
+      (process_of h.world p) y)
       (up : IsUp h.world p) (ready : IsReady h.world p (home_in h.world op)) (few : state.IsUp h.world.shape (state_of h)) where
     abbrev read : Run → Found
     read = found_at h.world.shape (home_in h.world op) (process_of h.world p) (process_of h.world p).name
@@ -170,17 +183,21 @@ module _ (h : History) (framed : FramedHistory h) (members : Members h.world.sha
     short-log : length r.log ≤ window
     short-log = by ready.rank ready.name where
       by : (rank : ℕ) → p ≡ of_rank d rank → length r.log ≤ window
-      by zero is = subst (λ (z : ProcessId). length (replica_of (process_of h.world z) d).log ≤ window) (sym is) (short.at_data d (subst (Lives h.world) is (pin, up.process)))
-      by (suc i) is = subst (λ (z : ProcessId). length (replica_of (process_of h.world z) d).log ≤ window) (sym is) (short.at_parity i d low (subst (Lives h.world) is (pin, up.process)))
+      by zero is = subst (λ (z : ProcessId). length (replica_of (process_of h.world z) d).log ≤ window) (sym is)
+          (short.at_data d (subst (Lives h.world) is (pin, up.process)))
+      by (suc i) is = subst (λ (z : ProcessId). length (replica_of (process_of h.world z) d).log ≤ window) (sym is)
+          (short.at_parity i d low (subst (Lives h.world) is (pin, up.process)))
 
     module _ (free : waits_for y.inherited op.act (number_on (replica_of (process_of h.world p) (home_in h.world op)).log (key_of op.act)) ≡ None) where
       -- the table's ruling is the one on what the head has, but for the number
       table-real : ruling_on (table_now w) op ≡ ruling_in store (suc (length settled)) op
       table-real = ruling-is w.shape some h.settled (table_now w) ties op
-          ∙ ap (λ (x : Option Holding). ruling_of op.moment (suc (length settled)) op.act (live_at op.moment x)) (same-held w.shape calls settled d (process_of w p) y stood op free)
+          ∙ ap (λ (x : Option Holding). ruling_of op.moment (suc (length settled)) op.act (live_at op.moment x))
+          (same-held w.shape calls settled d (process_of w p) y stood op free)
 
       alike : SameButNumber real (ruling_on (table_now w) op)
-      alike = subst (SameButNumber real) (sym table-real) (numbers-alike op.moment (suc (last_of r)) (suc (length settled)) op.act (live_at op.moment (held store key)))
+      alike = subst (SameButNumber real) (sym table-real)
+          (numbers-alike op.moment (suc (last_of r)) (suc (length settled)) op.act (live_at op.moment (held store key)))
 
       -- the table refuses where the head does
       refusal : (reply : Reply) → real ≡ Refused reply → reply ≡ reply_of (table_now w) op
@@ -201,7 +218,8 @@ module _ (h : History) (framed : FramedHistory h) (members : Members h.world.sha
         left = λ k left. of_value k left other.0 other.1 other.2;
       } where
         well : RulesWell (suc (last_of r)) op.act (live_at op.moment (held store key)) (Accepted reply leaves)
-        well = subst (RulesWell (suc (last_of r)) op.act (live_at op.moment (held store key))) is (rules-well op.moment (suc (last_of r)) op.act (live_at op.moment (held store key)))
+        well = subst (RulesWell (suc (last_of r)) op.act (live_at op.moment (held store key))) is
+            (rules-well op.moment (suc (last_of r)) op.act (live_at op.moment (held store key)))
 
         other : (o : Option Holding) × (ruling_on (table_now w) op ≡ Accepted reply o) × SameValue leaves o
         other = accepted-alike real (ruling_on (table_now w) op) reply leaves alike is
@@ -225,7 +243,8 @@ module _ (h : History) (framed : FramedHistory h) (members : Members h.world.sha
         miss = misses w.shape d (process_of w p) (process_of w p).name run b missed
 
       -- the run for what the head's ruling leaves is the run for what the table leaves
-      place-needed : (k : Holding) (run : Run) → is_touch op.act ≡ false → Accepts real (Some k) → place_for (space_of w.shape) r (length k.item.value) ≡ Some run → NeedsPlace w p op run
+      place-needed : (k : Holding) (run : Run) → is_touch op.act ≡ false → Accepts real (Some k)
+          → place_for (space_of w.shape) r (length k.item.value) ≡ Some run → NeedsPlace w p op run
       place-needed k run valued takes place = of_value ((table-accepts takes.0 (Some k) takes.1).left k refl) where
         of_value : (v : Holding) × Leaves w op v × (length k.item.value ≡ length v.item.value) → NeedsPlace w p op run
         of_value (v, leaves, long) = record { written = valued; value = v; leaves = leaves; place = ap (place_for (space_of w.shape) r) (sym long) ∙ place }
@@ -238,7 +257,8 @@ module _ (h : History) (framed : FramedHistory h) (members : Members h.world.sha
 
       -- the item is as long as the table's
       length-same : item_length r op ≡ bytes_of ((table_now w).items key)
-      length-same = ap (λ (xs : List (List ℕ × Slot)). length_of (slot_in xs key)) items ∙ by (slot_in store.items key) (each-slot (λ x. x.at + x.len ≤ space_of w.shape) key store.items fits.inside)
+      length-same = ap (λ (xs : List (List ℕ × Slot)). length_of (slot_in xs key)) items
+          ∙ by (slot_in store.items key) (each-slot (λ x. x.at + x.len ≤ space_of w.shape) key store.items fits.inside)
           ∙ sym (ap bytes_of (ties.items key ∙ same-held w.shape calls settled d (process_of w p) y stood op free)) where
             by : (o : Option Slot) → OfSlot (λ x. x.at + x.len ≤ space_of w.shape) o → length_of o ≡ bytes_of (held_in store.space o)
             by None within = refl
@@ -277,7 +297,8 @@ module _ (h : History) (framed : FramedHistory h) (members : Members h.world.sha
         missing = missing-block;
         hinders = λ e n waits. absurd (hinders n waits.on_key waits.home waits.inherited);
       } where
-        hinders : (n : ℕ) {e : ℕ} → number_on r.log key ≡ Some n → e ≡ d → (is_get op.act ≡ true → (z : Head) × (head_at (process_of w p) e ≡ Some z) × (n ≤ z.inherited)) → ⊥
+        hinders : (n : ℕ) {e : ℕ} → number_on r.log key ≡ Some n → e ≡ d
+            → (is_get op.act ≡ true → (z : Head) × (head_at (process_of w p) e ≡ Some z) × (n ≤ z.inherited)) → ⊥
         hinders n {e} on_key home inherited = waits-still y.inherited op n (sym (ap (waits_for y.inherited op.act) on_key) ∙ free) low_one where
           low_one : is_get op.act ≡ true → n ≤ y.inherited
           low_one gets = by (inherited gets) where
@@ -289,33 +310,58 @@ module _ (h : History) (framed : FramedHistory h) (members : Members h.world.sha
 
       needs : (b : ℕ) → MissesItem r op read real b ⊎ MissesPlace (space_of w.shape) r op read real b → NeedsBlock w p op b
       needs b (inl item) = record { run = item.run; needed = inl item.needed; misses = misses-block item.run b item.missing }
-      needs b (inr under) = record { run = under.run; needed = inr (place-needed under.value under.run under.written under.takes under.place); misses = misses-block under.run b under.missing }
+      needs b (inr under) =
+          record {
+            run = under.run;
+            needed = inr (place-needed under.value under.run under.written under.takes under.place);
+            misses =
+                misses-block under.run b under.missing;
+          }
 
       -- a parity head knows that the partition's data process is dead
       home-dead : (i : ℕ) × (p ≡ ParityNode i) → knows_dead (process_of w p).known (DataNode d) ≡ true
       home-dead (i, is) = by (knows_lower (process_of w p).known d i) refl (subst (Sits (process_of w p) d) is (members.sits p d pin up.process low)) where
-        by : (b : Bool) → knows_lower (process_of w p).known d i ≡ b → SitsWhen b i (seat_of (process_of w p) d) (at 0 (process_of w p).ranks d) → knows_dead (process_of w p).known (DataNode d) ≡ true
+        by : (b : Bool) → knows_lower (process_of w p).known d i ≡ b
+            → SitsWhen b i (seat_of (process_of w p) d) (at 0 (process_of w p).ranks d)
+            → knows_dead (process_of w p).known (DataNode d) ≡ true
         by true knows sits = (both-true (knows_dead (process_of w p).known (DataNode d)) _ knows).0
         by false knows sits = absurd (cc (sits.0, seat-head (process_of w p) d y heads))
 
-      block-reason : (after : World) (b : ℕ) → NeedsBlock w p op b → (o : Option Oldest) → oldest_inherited (process_of w p) (range_with_len 0 w.shape.k) ≡ o → w.shape ≡ after.shape
-          → process_of after p ≡ (retry_block w.shape b o (process_of w p)).step.process → AskCause w after p op (retry_block w.shape b o (process_of w p)).answer
+      block-reason : (after : World) (b : ℕ) → NeedsBlock w p op b → (o : Option Oldest)
+          → oldest_inherited (process_of w p) (range_with_len 0 w.shape.k) ≡ o → w.shape ≡ after.shape
+          → process_of after p ≡ (retry_block w.shape b o (process_of w p)).step.process
+          → AskCause w after p op (retry_block w.shape b o (process_of w p)).answer
       block-reason after b need None is shape same = (
         up,
         ready,
         (
           need,
-          comes-to-be w.shape (process_of w p) b d low (not-rebuilt w.shape d need.run (process_of w p).as_leader b need.misses.missing) (rows-rise w.shape (process_of w p))
-              (length-take-le (length (lost_of w.shape (process_of w p))) (left_by w.shape (process_of w p).known) (enough w.shape (state_of h) members few p pin up.process)) distinct
+          comes-to-be w.shape (process_of w p) b d low
+              (not-rebuilt w.shape d need.run (process_of w p).as_leader b need.misses.missing)
+              (rows-rise w.shape (process_of w p))
+              (length-take-le (length (lost_of w.shape (process_of w p))) (left_by w.shape (process_of w p).known)
+              (enough w.shape (state_of h) members few p pin up.process)) distinct
               (lost-there w.shape (process_of w p) d low (home-dead need.misses.parity))
-              (each-weaker (IsFor w.shape (process_of w p).known) (λ g. g.lost ≡ lost_of w.shape (process_of w p)) (λ g is. is.lost) (process_of w p).as_leader.sessions (gathered up.process))
+              (each-weaker (IsFor w.shape (process_of w p).known) (λ g. g.lost ≡ lost_of w.shape (process_of w p))
+              (λ g is. is.lost) (process_of w p).as_leader.sessions (gathered up.process))
               after p same
               (ap (λ (t : Dimensions). t.k) shape),
         ),
       )
       block-reason after b need (Some o) is shape same =
-          let oldest : IsOldest (process_of w p) 0 w.shape.k o = is-oldest (process_of w p) w.shape.k 0 o is in
-          (up, ready, inr (inr (record { block = b; needed = need; partition = let high = oldest.to in omega (arith, high); has = oldest.has; lowest = λ e below. oldest.lowest e (omega arith) below; oldest = oldest.number })))
+          let oldest : IsOldest (process_of w p) 0 w.shape.k o = is-oldest (process_of w p) w.shape.k 0 o is in (
+            up,
+            ready,
+            inr
+                (inr (record {
+                  block = b;
+                  needed = need;
+                  partition = let high = oldest.to in omega (arith, high);
+                  has = oldest.has;
+                  lowest = λ e below. oldest.lowest e (omega arith) below;
+                  oldest = oldest.number;
+                })),
+          )
 
       -- no run is free for what the table leaves
       no-space : FindsNone (space_of w.shape) r op read real → FindsNoRun w p op
@@ -363,14 +409,19 @@ module _ (h : History) (framed : FramedHistory h) (members : Members h.world.sha
 
     -- the decision where nothing stands in the way on the key has its reason
     decided : waits_for y.inherited op.act (number_on r.log key) ≡ None → Caused (space_of w.shape) r op read real
-        (decide_blind (space_of w.shape) r op read (slot_in r.items key) (blind_reply (length_of (slot_in r.items key)) (ruling_with r op (slot_in r.items key) (unseen (slot_in r.items key)))))
+        (decide_blind (space_of w.shape) r op read (slot_in r.items key)
+        (blind_reply (length_of (slot_in r.items key))
+        (ruling_with r op (slot_in r.items key) (unseen (slot_in r.items key)))))
     decided free =
-        caused (space_of w.shape) r store op read fits.long stood.reads (slot_in r.items key) (ap (λ (xs : List (List ℕ × Slot)). slot_in xs key) (sym items)) refl
-        (subst (λ (xs : List (List ℕ × Slot)). OfSlot (λ x. x.at + x.len ≤ space_of w.shape) (slot_in xs key)) (sym items) (each-slot (λ x. x.at + x.len ≤ space_of w.shape) key store.items fits.inside))
+        caused (space_of w.shape) r store op read fits.long stood.reads (slot_in r.items key)
+        (ap (λ (xs : List (List ℕ × Slot)). slot_in xs key) (sym items)) refl
+        (subst (λ (xs : List (List ℕ × Slot)). OfSlot (λ x. x.at + x.len ≤ space_of w.shape) (slot_in xs key))
+        (sym items) (each-slot (λ x. x.at + x.len ≤ space_of w.shape) key store.items fits.inside))
 
     -- an update on the key that an op waits for
     waits-here : (n : ℕ) → waits_for y.inherited op.act (number_on r.log key) ≡ Some n → WaitsForKey w p op d n
-    waits-here n waits = let on = waits-for y.inherited op (number_on r.log key) n waits in record { home = refl; on_key = on.0; inherited = λ gets. (y, heads, on.1 gets) }
+    waits-here n waits = let on = waits-for y.inherited op (number_on r.log key) n waits in
+        record { home = refl; on_key = on.0; inherited = λ gets. (y, heads, on.1 gets) }
 
     -- what a head answers follows the rules
     pub head-rules : (name : CallName) (o : Option ℕ) → waits_for y.inherited op.act (number_on r.log key) ≡ o
@@ -400,8 +451,10 @@ module _ (h : History) (framed : FramedHistory h) (members : Members h.world.sha
     head-reason name after shape None waits same = act-reason waits name after _ (decided waits) shape same
 
   -- what a process makes of the call
-  by_head : (name : CallName) (after : World) → w.shape ≡ after.shape → state.IsUp w.shape (state_of h) → IsUp w p → (o : Option Head) → head_at (process_of w p) d ≡ o
-      → process_of after p ≡ (ask_head w.shape name op d (process_of w p) o).step.process → AskCause w after p op (ask_head w.shape name op d (process_of w p) o).answer
+  by_head : (name : CallName) (after : World) → w.shape ≡ after.shape → state.IsUp w.shape (state_of h) → IsUp w p
+      → (o : Option Head) → head_at (process_of w p) d ≡ o
+      → process_of after p ≡ (ask_head w.shape name op d (process_of w p) o).step.process
+      → AskCause w after p op (ask_head w.shape name op d (process_of w p) o).answer
   by_head name after shape few up None heads same = (up, λ ready. no_seat (seat-from-ready h members p d pin up.process low ready)) where
     no_seat : (r : ℕ) × (seat_of (process_of w p) d ≡ Some r) → ⊥
     no_seat seat = absurd (cc (seat.1, ap (option_map (λ (y : Head). y.rank)) heads))
@@ -416,7 +469,8 @@ module _ (h : History) (framed : FramedHistory h) (members : Members h.world.sha
   by_words name after shape true dead isdown isdead same = is-down w h.settled framed p pin isdown
   by_words name after shape false true isdown isdead same = (not-down w h.settled framed p pin isdown, isdead)
   by_words name after shape false false isdown isdead same =
-      by_head name after shape (up_from w.shape w.nodes h.settled framed p pin isdown) (is-up w h.settled framed p pin isdown isdead) (head_at (process_of w p) d) refl same
+      by_head name after shape (up_from w.shape w.nodes h.settled framed p pin isdown)
+      (is-up w h.settled framed p pin isdown isdead) (head_at (process_of w p) d) refl same
 
   -- what a head that is ready answers follows the rules
   ruled-head : (name : CallName) → state.IsUp w.shape (state_of h) → IsUp w p → IsReady w p d → (o : Option Head) → head_at (process_of w p) d ≡ o
@@ -439,7 +493,10 @@ module _ (h : History) (framed : FramedHistory h) (members : Members h.world.sha
 
   pub asked : (caller : ℕ) → AskCause w (step w (Ask caller op p)).world p op (step w (Ask caller op p)).turn.answer
   asked caller = by_words (next_name w caller) (step w (Ask caller op p)).world refl (node_of w p).down (node_of w p).dead refl refl
-      (ap (λ (n : Node). n.process) (node-here w.shape w.nodes p (if_up (node_of w p).down (node_of w p).dead (node_of w p) (treated w.shape (node_of w p) (ask_process w.shape (next_name w caller) op (process_of w p)))).node))
+      (ap (λ (n : Node). n.process)
+      (node-here w.shape w.nodes p
+      (if_up (node_of w p).down (node_of w p).dead (node_of w p)
+      (treated w.shape (node_of w p) (ask_process w.shape (next_name w caller) op (process_of w p)))).node))
 
 both-always : (s : Dimensions) (es : List Event) → IsRun s es → AsksHaveCauses (after s es) × AsksFollowRules (after s es)
 both-always s es run =
@@ -456,8 +513,10 @@ both-always s es run =
     let stands : Stands b.history.world.shape b.issued (state_of b.history) = stands-in s (stands-always s (whole-always s)) es run in
     let some : 1 ≤ b.history.world.shape.k = some-partition s (stands-always s (whole-always s)) es run in
     subst (λ (w : World). AsksHaveCauses w × AsksFollowRules w) (book-world s es) (
-      (λ caller op p may. asked b.history (book-framed s es run) members b.issued stands logs.stands.ties short some op p may.1 (distinct p may.1) (gathered p may.1) caller),
-      (λ caller op p may up ready. ruled b.history (book-framed s es run) members b.issued stands logs.stands.ties short some op p may.1 (distinct p may.1) (gathered p may.1) caller up ready),
+      (λ caller op p may. asked b.history (book-framed s es run) members b.issued stands logs.stands.ties short some op
+          p may.1 (distinct p may.1) (gathered p may.1) caller),
+      (λ caller op p may up ready. ruled b.history (book-framed s es run) members b.issued stands logs.stands.ties short
+          some op p may.1 (distinct p may.1) (gathered p may.1) caller up ready),
     )
 
 pub asks_always : AsksAlways
@@ -490,4 +549,5 @@ served w after p op (says.Stale n) clear reason = reason.2
 
 pub clear_always : ClearAlways
 clear_always s es run caller op p may clear =
-    served (after s es) (step (after s es) (Ask caller op p)).world p op (step (after s es) (Ask caller op p)).turn.answer clear (asks_always s es run caller op p may)
+    served (after s es) (step (after s es) (Ask caller op p)).world p op
+    (step (after s es) (Ask caller op p)).turn.answer clear (asks_always s es run caller op p may)

@@ -1,5 +1,6 @@
 -- How many of some messages go to one process.
-use Rattle.std.proofs.Common.{ℕ, zero, suc, ◌≡◌, ◌≢◌, ◌<◌, ◌≤◌, ◌+◌, ◌*◌, ◌==◌, Bool, true, false, List, [], ◌∷◌, ◌++◌, length, take, map, filter, flat_map, AllPairs, refl, sym, ◌∙◌, arith, cond, if◌then◌else◌}
+use Rattle.std.proofs.Common.{ℕ, zero, suc, ◌≡◌, ◌≢◌, ◌<◌, ◌≤◌, ◌+◌, ◌*◌, ◌==◌, Bool, true, false, List, [], ◌∷◌, ◌++◌}
+use Rattle.std.proofs.Common.{length, take, map, filter, flat_map, AllPairs, refl, sym, ◌∙◌, arith, cond, if◌then◌else◌}
 use Rattle.std.proofs.lemmas.Grind.{common_steps}
 use Rattle.std.specs.Prelude.{slice_index_or}
 use Rattle.std.specs.List.{range_with_len}
@@ -54,7 +55,8 @@ count-parities f (ParityNode j) is once = let few = as-often is in let one = onc
     by true rest = omega (arith, rest)
     by false rest = omega (arith, rest)
 
-pub count-datas : (f : ℕ → Message) (q : ProcessId) (is : List ℕ) → ((j : ℕ) → times j is ≤ 1) → count_to q (map (λ i. record { to = DataNode i; message = f i }) is) ≤ 1
+pub count-datas : (f : ℕ → Message) (q : ProcessId) (is : List ℕ) → ((j : ℕ) → times j is ≤ 1)
+    → count_to q (map (λ i. record { to = DataNode i; message = f i }) is) ≤ 1
 count-datas f (ParityNode e) is once = none is where
   none : (is : List ℕ) → count_to (ParityNode e) (map (λ i. record { to = DataNode i; message = f i }) is) ≤ 1
   none [] = omega arith

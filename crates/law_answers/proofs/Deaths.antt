@@ -1,5 +1,6 @@
 -- A living process knows no more dead than there are, and learns of no more than m while the group isn't down.
-use Rattle.std.proofs.Common.{ℕ, zero, suc, ◌≡◌, ◌≢◌, ◌<◌, ◌≤◌, ◌+◌, Bool, true, false, List, [], ◌∷◌, map, ◌⊎◌, inl, inr, refl, sym, ap, subst, ◌∙◌, if◌then◌else◌, arith}
+use Rattle.std.proofs.Common.{ℕ, zero, suc, ◌≡◌, ◌≢◌, ◌<◌, ◌≤◌, ◌+◌, Bool, true, false, List, [], ◌∷◌, map, ◌⊎◌, inl}
+use Rattle.std.proofs.Common.{inr, refl, sym, ap, subst, ◌∙◌, if◌then◌else◌, arith}
 use Rattle.std.proofs.lemmas.Bool.{cases_lt}
 use Rattle.std.specs.List.{range_with_len}
 use Rattle.group_types.specs.Dimensions.{Dimensions}
@@ -124,20 +125,22 @@ module _ (s : Dimensions) where
       (facts.0, facts.2)
 
   -- after it all known are of the group and dead
-  all-known : (v : State) → Members s v → KnownInside s v → (x p dead : ProcessId) (rest : List Message) → IsProcess s x → IsProcess s p → x ≢ p → v.dead p ≡ false
+  all-known : (v : State) → Members s v → KnownInside s v → (x p dead : ProcessId) (rest : List Message) → IsProcess s x
+      → IsProcess s p → x ≢ p → v.dead p ≡ false
       → v.link x p ≡ tells.Notice dead ∷ rest
       → (q : ProcessId) → knows_dead (with_dead (v.process p).known dead) q ≡ true → IsProcess s q × (v.dead q ≡ true)
-  all-known v held inside x p dead rest xin pin apart lives first q knows = by (same-cases q dead) (notice-first v held x p dead rest xin pin apart lives first) where
-    of : IsProcess s q → knows_dead (v.process p).known q ≡ true → (q ≡ p) ⊎ (q ≢ p) → v.dead q ≡ true
-    of qin knew (inl own) = absurd (cc (sym knew ∙ ap (knows_dead (v.process p).known) own ∙ held.not_self p pin lives))
-    of qin knew (inr other) = members.known-is-dead q (v.dead q) (knows_dead (v.process p).known q) (v.link q p) (held.stands q p qin pin other lives) knew
+  all-known v held inside x p dead rest xin pin apart lives first q knows =
+      by (same-cases q dead) (notice-first v held x p dead rest xin pin apart lives first) where
+        of : IsProcess s q → knows_dead (v.process p).known q ≡ true → (q ≡ p) ⊎ (q ≢ p) → v.dead q ≡ true
+        of qin knew (inl own) = absurd (cc (sym knew ∙ ap (knows_dead (v.process p).known) own ∙ held.not_self p pin lives))
+        of qin knew (inr other) = members.known-is-dead q (v.dead q) (knows_dead (v.process p).known q) (v.link q p) (held.stands q p qin pin other lives) knew
 
-    by : (q ≡ dead) ⊎ (q ≢ dead) → (v.dead x ≡ true) × (dead ≡ x) → IsProcess s q × (v.dead q ≡ true)
-    by (inl same) facts = (subst (IsProcess s) (sym (same ∙ facts.1)) xin, ap v.dead (same ∙ facts.1) ∙ facts.0)
-    by (inr other) facts =
-        let knew : knows_dead (v.process p).known q ≡ true = sym (knows-other (v.process p).known dead q other) ∙ knows in
-        let qin : IsProcess s q = inside p pin q knew in
-        (qin, of qin knew (same-cases q p))
+        by : (q ≡ dead) ⊎ (q ≢ dead) → (v.dead x ≡ true) × (dead ≡ x) → IsProcess s q × (v.dead q ≡ true)
+        by (inl same) facts = (subst (IsProcess s) (sym (same ∙ facts.1)) xin, ap v.dead (same ∙ facts.1) ∙ facts.0)
+        by (inr other) facts =
+            let knew : knows_dead (v.process p).known q ≡ true = sym (knows-other (v.process p).known dead q other) ∙ knows in
+            let qin : IsProcess s q = inside p pin q knew in
+            (qin, of qin knew (same-cases q p))
 
   received-inside : (v u w : State) (x p : ProcessId) (m : Message) → IsProcess s x → IsProcess s p → x ≢ p → v.dead p ≡ false → Members s v → KnownInside s v
       → Popped s v u x p m
@@ -189,7 +192,8 @@ module _ (s : Dimensions) where
 few-lost : (s : Dimensions) (h : History) → h.world.shape ≡ s → FramedHistory h → ¬ (IsDown h.world) → lost_in s (state_of h) ≤ s.m
 few-lost s h shape framed up = subst (λ (t : Dimensions). lost_in t (state_of h) ≤ t.m) shape
     (by (cases_lt h.world.shape.m (dead_nodes h.world.nodes)) (lost-nodes h.world.shape h.world.nodes h.settled framed.nodes_many)) where
-      by : (h.world.shape.m < dead_nodes h.world.nodes) ⊎ (dead_nodes h.world.nodes ≤ h.world.shape.m) → lost_in h.world.shape (state_of h) ≡ dead_nodes h.world.nodes
+      by : (h.world.shape.m < dead_nodes h.world.nodes) ⊎ (dead_nodes h.world.nodes ≤ h.world.shape.m)
+          → lost_in h.world.shape (state_of h) ≡ dead_nodes h.world.nodes
           → lost_in h.world.shape (state_of h) ≤ h.world.shape.m
       by (inl more) same = absurd (up more)
       by (inr low) same = omega (arith, low, same)

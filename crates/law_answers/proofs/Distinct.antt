@@ -1,5 +1,7 @@
 -- A leader's open sessions have different numbers and different blocks, along every run.
-use Rattle.std.proofs.Common.{ℕ, suc, ◌≡◌, ◌≢◌, ◌≤◌, ◌==◌, nat_le, Bool, true, false, not, cond, List, [], ◌∷◌, find, is_some, map, filter, Option, Some, None, ◌⊎◌, inl, inr, sym, ap, subst, ◌∙◌, refl, arith, if◌then◌else◌}
+use Rattle.std.proofs.Common.{ℕ, suc, ◌≡◌, ◌≢◌, ◌≤◌, ◌==◌, nat_le, Bool, true, false, not, cond, List, [], ◌∷◌, find}
+use Rattle.std.proofs.Common.{is_some, map, filter, Option, Some, None, ◌⊎◌, inl, inr, sym, ap, subst, ◌∙◌, refl, arith}
+use Rattle.std.proofs.Common.{if◌then◌else◌}
 use Rattle.std.specs.List.{list_any, range_with_len}
 use Rattle.std.proofs.lemmas.Grind.{common_steps}
 use Rattle.group_types.specs.Dimensions.{Dimensions, space_of}
@@ -21,10 +23,14 @@ use Rattle.group_calls.specs.Turns.{CallName}
 use Rattle.group_calls.specs.declared.decision.Decision.{Decision}
 use Rattle.group_calls.specs.declared.decision.Decision.TheVariants as decides
 use Rattle.group_run.specs.Applying.{ProcessStep, apply_to, for_each, head_at, held_at, replica_of, when, with_head, with_replica}
-use Rattle.group_run.specs.Asking.{Oldest, act_on, ask_head, collect_from, collect_held, found_at, handed_out, is_call, issued, oldest_inherited, retry_block, ticketed, update_of}
+use Rattle.group_run.specs.Asking.{Oldest, act_on, ask_head, collect_from, collect_held, found_at, handed_out, is_call}
+use Rattle.group_run.specs.Asking.{issued, oldest_inherited, retry_block, ticketed, update_of}
 use Rattle.group_run.specs.Deciding.{decide}
 use Rattle.group_run.specs.Heading.{acknowledge, acknowledged, judge, judge_head}
-use Rattle.group_run.specs.Leaders.{block_comes, block_gathered, close_sessions, copy_kept, copy_marked, gathered_when, is_complete, lost_of, mark_comes, mark_taken, new_session, open_session, own_mark, rebuilt_block, rebuilt_unless, row_comes, row_finished, row_gathered, session_opened, start_session, with_decoded, without_session}
+use Rattle.group_run.specs.Leaders.{block_comes, block_gathered, close_sessions, copy_kept, copy_marked, gathered_when}
+use Rattle.group_run.specs.Leaders.{is_complete, lost_of, mark_comes, mark_taken, new_session, open_session, own_mark}
+use Rattle.group_run.specs.Leaders.{rebuilt_block, rebuilt_unless, row_comes, row_finished, row_gathered}
+use Rattle.group_run.specs.Leaders.{session_opened, start_session, with_decoded, without_session}
 use Rattle.group_run.specs.Process.{Copy, Gathering, Head, Held, LeaderState, Process}
 use Rattle.group_run.specs.Receiving.{death_known, enthroned, notice_comes, read_comes, receive, take_over_if, taken_over, takes_over}
 use Rattle.group_run.specs.Replica.{with_update}
@@ -46,7 +52,8 @@ abbrev pub IsDistinct : Process → Type 0
 IsDistinct p = Distinct p.as_leader.sessions p.as_leader.last_session
 
 -- the session of a number has the block of each of that number
-find-block : (n : ℕ) (gs : List Gathering) (g : Gathering) → EachTwo Differ gs → find (λ x. x.number == n) gs ≡ Some g → (g.number ≡ n) × Each (λ x. x.number ≡ n → x.block ≡ g.block) gs
+find-block : (n : ℕ) (gs : List Gathering) (g : Gathering) → EachTwo Differ gs → find (λ x. x.number == n) gs ≡ Some g
+    → (g.number ≡ n) × Each (λ x. x.number ≡ n → x.block ≡ g.block) gs
 find-block n [] g differ is = absurd (cc is)
 find-block n (x ∷ xs) g differ is = by (x.number == n) refl is (find-block n xs g differ.1) where
   by : (b : Bool) → (x.number == n) ≡ b → cond b (Some x) (find (λ x. x.number == n) xs) ≡ Some g
@@ -54,8 +61,14 @@ find-block n (x ∷ xs) g differ is = by (x.number == n) refl is (find-block n x
       → (g.number ≡ n) × ((x.number ≡ n → x.block ≡ g.block) × Each (λ x. x.number ≡ n → x.block ≡ g.block) xs)
   by true test is later =
       let same : x ≡ g = cc is in
-      let number : x.number ≡ n = grind (arith, common_steps) in
-      (ap (λ (y : Gathering). y.number) (sym same) ∙ number, ((λ e. ap (λ (y : Gathering). y.block) same), each-weaker (Differ x) (λ y. y.number ≡ n → y.block ≡ g.block) (λ y apart e. absurd (apart.0 (number ∙ sym e))) xs differ.0))
+      let number : x.number ≡ n = grind (arith, common_steps) in (
+        ap (λ (y : Gathering). y.number) (sym same) ∙ number,
+        (
+          (λ e. ap (λ (y : Gathering). y.block) same),
+          each-weaker (Differ x) (λ y. y.number ≡ n → y.block ≡ g.block)
+              (λ y apart e. absurd (apart.0 (number ∙ sym e))) xs differ.0,
+        ),
+      )
   by false test is later =
       let other : x.number ≢ n = grind (arith, common_steps) in
       let rest = later is in (rest.0, ((λ e. absurd (other e)), rest.1))
@@ -79,13 +92,19 @@ module _ (f : Gathering → Gathering) where
   abbrev Stays : Gathering → Type 0
   Stays x = ((f x).number ≡ x.number) × ((f x).block ≡ x.block)
 
-  each-changed : (n b : ℕ) (gs : List Gathering) → Each Stays gs → Each (λ y. (n ≢ y.number) × (b ≢ y.block)) gs → Each (λ y. (n ≢ y.number) × (b ≢ y.block)) (map f gs)
+  each-changed : (n b : ℕ) (gs : List Gathering) → Each Stays gs → Each (λ y. (n ≢ y.number) × (b ≢ y.block)) gs
+      → Each (λ y. (n ≢ y.number) × (b ≢ y.block)) (map f gs)
   each-changed n b [] stays all = tt
   each-changed n b (x ∷ xs) stays all = (((λ e. all.0.0 (e ∙ stays.0.0)), (λ e. all.0.1 (e ∙ stays.0.1))), each-changed n b xs stays.1 all.1)
 
   two-changed : (gs : List Gathering) → Each Stays gs → EachTwo Differ gs → EachTwo Differ (map f gs)
   two-changed [] stays all = tt
-  two-changed (x ∷ xs) stays all = (each-changed (f x).number (f x).block xs stays.1 (each-weaker (Differ x) (λ y. ((f x).number ≢ y.number) × ((f x).block ≢ y.block)) (λ y apart. ((λ e. apart.0 (sym stays.0.0 ∙ e)), (λ e. apart.1 (sym stays.0.1 ∙ e)))) xs all.0), two-changed xs stays.1 all.1)
+  two-changed (x ∷ xs) stays all = (
+    each-changed (f x).number (f x).block xs stays.1
+        (each-weaker (Differ x) (λ y. ((f x).number ≢ y.number) × ((f x).block ≢ y.block))
+        (λ y apart. ((λ e. apart.0 (sym stays.0.0 ∙ e)), (λ e. apart.1 (sym stays.0.1 ∙ e)))) xs all.0),
+    two-changed xs stays.1 all.1,
+  )
 
   low-changed : (last : ℕ) (gs : List Gathering) → Each Stays gs → Each (λ g. g.number ≤ last) gs → Each (λ g. g.number ≤ last) (map f gs)
   low-changed last [] stays all = tt
@@ -108,18 +127,25 @@ module _ (s : Dimensions) where
   abbrev Still : Process → Process → Type 0
   Still p q = IsDistinct p → IsDistinct q
 
-  gathered-still : (complete : Bool) (g : Gathering) (state : LeaderState) → Each (λ x. x.number ≡ g.number → x.block ≡ g.block) state.sessions → Distinct state.sessions state.last_session
+  gathered-still : (complete : Bool) (g : Gathering) (state : LeaderState)
+      → Each (λ x. x.number ≡ g.number → x.block ≡ g.block) state.sessions → Distinct state.sessions state.last_session
       → Distinct (gathered_when complete s g state).sessions (gathered_when complete s g state).last_session
   gathered-still true g state same all =
       let left : List Gathering = without_session g.number state.sessions in
       let decoded = decoded-sessions s g g.lost (record state { sessions = left }) in
       subst (λ (gs : List Gathering). Distinct gs (with_decoded s g g.lost (record state { sessions = left })).last_session) (sym decoded.0)
-      (subst (λ (n : ℕ). Distinct left n) (sym decoded.1) (two-filtered (λ x. not (x.number == g.number)) state.sessions all.0, each-filtered (λ x. x.number ≤ state.last_session) (λ x. not (x.number == g.number)) state.sessions all.1))
+      (subst (λ (n : ℕ). Distinct left n) (sym decoded.1) (
+        two-filtered (λ x. not (x.number == g.number)) state.sessions
+            all.0,
+        each-filtered (λ x. x.number ≤ state.last_session) (λ x. not (x.number == g.number)) state.sessions
+            all.1,
+      ))
   gathered-still false g state same all = (two-changed f state.sessions stays all.0, low-changed f state.last_session state.sessions stays all.1) where
     f : Gathering → Gathering
     f x = if x.number == g.number then g else x
 
-    by : (x : Gathering) (b : Bool) → (x.number == g.number) ≡ b → (x.number ≡ g.number → x.block ≡ g.block) → ((if b then g else x).number ≡ x.number) × ((if b then g else x).block ≡ x.block)
+    by : (x : Gathering) (b : Bool) → (x.number == g.number) ≡ b → (x.number ≡ g.number → x.block ≡ g.block)
+        → ((if b then g else x).number ≡ x.number) × ((if b then g else x).block ≡ x.block)
     by x true test same = let number : x.number ≡ g.number = grind (arith, common_steps) in (sym number, sym (same number))
     by x false test same = (refl, refl)
 
@@ -129,14 +155,16 @@ module _ (s : Dimensions) where
         (λ x. ((if x.number == g.number then g else x).number ≡ x.number) × ((if x.number == g.number then g else x).block ≡ x.block))
         (λ x same. by x (x.number == g.number) refl same) state.sessions same
 
-  found-same : (n : ℕ) (g : Gathering) (gs : List Gathering) → EachTwo Differ gs → find (λ x. x.number == n) gs ≡ Some g → Each (λ x. x.number ≡ g.number → x.block ≡ g.block) gs
+  found-same : (n : ℕ) (g : Gathering) (gs : List Gathering) → EachTwo Differ gs → find (λ x. x.number == n) gs ≡ Some g
+      → Each (λ x. x.number ≡ g.number → x.block ≡ g.block) gs
   found-same n g gs differ found =
       let both = find-block n gs g differ found in
       each-weaker (λ x. x.number ≡ n → x.block ≡ g.block) (λ x. x.number ≡ g.number → x.block ≡ g.block) (λ x same e. same (e ∙ both.0)) gs both.1
 
   pub row-still : (i number : ℕ) (bytes : List ℕ) (p : Process) → Still p (row_comes s number i bytes p)
   row-still i number bytes p all = by (open_session p.as_leader number) refl where
-    by : (o : Option Gathering) → open_session p.as_leader number ≡ o → Distinct (row_gathered s i bytes o p.as_leader).sessions (row_gathered s i bytes o p.as_leader).last_session
+    by : (o : Option Gathering) → open_session p.as_leader number ≡ o
+        → Distinct (row_gathered s i bytes o p.as_leader).sessions (row_gathered s i bytes o p.as_leader).last_session
     by None found = all
     by (Some g) found =
         gathered-still (is_complete s (record g { rows_in = put None g.rows_in i (Some bytes) }))
@@ -144,13 +172,16 @@ module _ (s : Dimensions) where
 
   block-still : (e number : ℕ) (bytes : List ℕ) (p : Process) → Still p (block_comes s number e bytes p)
   block-still e number bytes p all = by (open_session p.as_leader number) refl where
-    by : (o : Option Gathering) → open_session p.as_leader number ≡ o → Distinct (block_gathered s e bytes o p.as_leader).sessions (block_gathered s e bytes o p.as_leader).last_session
+    by : (o : Option Gathering) → open_session p.as_leader number ≡ o
+        → Distinct (block_gathered s e bytes o p.as_leader).sessions
+        (block_gathered s e bytes o p.as_leader).last_session
     by None found = all
     by (Some g) found =
         gathered-still (is_complete s (record g { blocks_in = put None g.blocks_in e (Some bytes) }))
         (record g { blocks_in = put None g.blocks_in e (Some bytes) }) p.as_leader (found-same number g p.as_leader.sessions all.0 found) all
 
-  each-still : (xs : List ℕ) (f : ℕ → Process → ProcessStep) (p : Process) → ((x : ℕ) (q : Process) → Still q (f x q).process) → Still p (for_each xs f p).process
+  each-still : (xs : List ℕ) (f : ℕ → Process → ProcessStep) (p : Process)
+      → ((x : ℕ) (q : Process) → Still q (f x q).process) → Still p (for_each xs f p).process
   each-still [] f p all here = here
   each-still (x ∷ xs) f p all here = each-still xs f (f x p).process all (all x p here)
 
@@ -166,7 +197,9 @@ module _ (s : Dimensions) where
 
   pub mark-still : (l number r block d n : ℕ) (p : Process) → Still p (mark_comes s l number r block d n p).process
   mark-still l number r block d n p =
-      when-still (accepts_mark p l number r d) p (mark_taken s l number block d n p) (λ here. found (copy_in q.as_row.copies l number) (begun (is_some (copy_in p.as_row.copies l number)) here)) where
+      when-still (accepts_mark p l number r d) p (mark_taken s l number block d n p)
+      (λ here. found (copy_in q.as_row.copies l number)
+      (begun (is_some (copy_in p.as_row.copies l number)) here)) where
         q : Process
         q = apply_to s d n (begin_copy s l number block p)
 
@@ -179,18 +212,21 @@ module _ (s : Dimensions) where
         finished false c z = λ here. here
 
         kept : (b : Bool) (c : Copy) → Still q (copy_kept b s c q).process
-        kept true c = let z : Process = with_copies (without_copy c.leader c.number q.as_row.copies) q in finished (same_process z.name (ParityNode c.leader)) c z
+        kept true c = let z : Process = with_copies (without_copy c.leader c.number q.as_row.copies) q in
+            finished (same_process z.name (ParityNode c.leader)) c z
         kept false c = λ here. here
 
         found : (o : Option Copy) → Still q (copy_marked s d n o q).process
         found None here = here
         found (Some c) here = kept (is_marked s (marked d n c)) (marked d n c) here
 
-  pub opened-distinct : (block : ℕ) (p : Process) → IsDistinct p → list_any (λ g. g.block == block) p.as_leader.sessions ≡ false → IsDistinct (session_opened s (suc p.as_leader.last_session) block p)
+  pub opened-distinct : (block : ℕ) (p : Process) → IsDistinct p → list_any (λ g. g.block == block) p.as_leader.sessions
+      ≡ false → IsDistinct (session_opened s (suc p.as_leader.last_session) block p)
   opened-distinct block p all none = (
     each_two-push Differ p.as_leader.sessions new all.0 (differs p.as_leader.sessions all.1 (none-passes (λ g. g.block == block) p.as_leader.sessions none)),
     each-append (λ g. g.number ≤ suc p.as_leader.last_session) p.as_leader.sessions (new ∷ [])
-        (each-weaker (λ g. g.number ≤ p.as_leader.last_session) (λ g. g.number ≤ suc p.as_leader.last_session) (λ g low. omega (arith, low)) p.as_leader.sessions all.1)
+        (each-weaker (λ g. g.number ≤ p.as_leader.last_session) (λ g. g.number ≤ suc p.as_leader.last_session)
+        (λ g low. omega (arith, low)) p.as_leader.sessions all.1)
         (omega arith, tt),
   ) where
     new : Gathering
@@ -199,7 +235,13 @@ module _ (s : Dimensions) where
     differs : (gs : List Gathering) → Each (λ g. g.number ≤ p.as_leader.last_session) gs → Each (λ g. (g.block == block) ≡ false) gs
         → Each (λ g. (g.number ≢ suc p.as_leader.last_session) × (g.block ≢ block)) gs
     differs [] low other = tt
-    differs (g ∷ gs) low other = (((λ e. let small = low.0 in absurd (omega (arith, small, e))), (λ e. let test : (g.block == block) ≡ true = grind (arith, common_steps) in absurd (cc (test, other.0)))), differs gs low.1 other.1)
+    differs (g ∷ gs) low other = (
+      (
+        (λ e. let small = low.0 in absurd (omega (arith, small, e))),
+        (λ e. let test : (g.block == block) ≡ true = grind (arith, common_steps) in absurd (cc (test, other.0))),
+      ),
+      differs gs low.1 other.1,
+    )
 
   pub start-still : (block : ℕ) (p : Process) → list_any (λ g. g.block == block) p.as_leader.sessions ≡ false → Still p (start_session s block p).process
   start-still block p none here =
@@ -225,7 +267,8 @@ module _ (s : Dimensions) where
   act-still call op d h p (decides.NeedBlock b) = retry-still b (oldest_inherited p (range_with_len 0 s.k)) p
   act-still call op d h p (decides.Issue body outcome) =
       let u : Update = update_of call op d body outcome p in
-      ticketed-still (nat_le u.number (replica_of (issued s d h u p).process d).applied) d u p (issued s d h u p) (judge-still d (with_replica d (with_update u (replica_of p d)) p))
+      ticketed-still (nat_le u.number (replica_of (issued s d h u p).process d).applied) d u p (issued s d h u p)
+      (judge-still d (with_replica d (with_update u (replica_of p d)) p))
 
   ask-still : (call : CallName) (op : Asked) (d : ℕ) (p : Process) (o : Option Head) → Still p (ask_head s call op d p o).step.process
   ask-still call op d p None = λ here. here
@@ -267,7 +310,8 @@ module _ (s : Dimensions) where
 
   acked-still : (p : Process) (i r d n : ℕ) (o : Option Head) → Still p (acknowledge s i r d n o p).process
   acked-still p i r d n None = λ here. here
-  acked-still p i r d n (Some h) = when-still (r == h.rank) p (judge s d (with_head d (Some (acknowledged i n h)) p)) (judge-still d (with_head d (Some (acknowledged i n h)) p))
+  acked-still p i r d n (Some h) = when-still (r == h.rank) p (judge s d (with_head d (Some (acknowledged i n h)) p))
+      (judge-still d (with_head d (Some (acknowledged i n h)) p))
 
   read-still : (session : Session) (block : ℕ) (rows : List ℕ) (p : Process) (y : ProcessId) → Still p (read_comes s session block rows p y).process
   read-still session block rows p (ParityNode i) = λ here. here

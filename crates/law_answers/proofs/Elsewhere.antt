@@ -1,5 +1,6 @@
 -- Only a partition that a process keeps gets updates there.
-use Rattle.std.proofs.Common.{ℕ, ◌≡◌, ◌≢◌, ◌<◌, ◌+◌, ◌==◌, nat_le, Bool, true, false, not, List, [], ◌∷◌, length, find, Option, Some, None, ◌⊎◌, inl, inr, refl, sym, ap, subst, ◌∙◌}
+use Rattle.std.proofs.Common.{ℕ, ◌≡◌, ◌≢◌, ◌<◌, ◌+◌, ◌==◌, nat_le, Bool, true, false, not, List, [], ◌∷◌, length, find}
+use Rattle.std.proofs.Common.{Option, Some, None, ◌⊎◌, inl, inr, refl, sym, ap, subst, ◌∙◌}
 use Rattle.std.proofs.lemmas.Bool.{cases_eq}
 use Rattle.std.specs.List.{list_any, range_with_len}
 use Rattle.group_types.specs.Dimensions.{Dimensions, space_of}
@@ -18,7 +19,8 @@ use Rattle.group_calls.specs.Turns.{CallName}
 use Rattle.group_calls.specs.declared.decision.Decision.{Decision}
 use Rattle.group_calls.specs.declared.decision.Decision.TheVariants as decides
 use Rattle.group_run.specs.Applying.{ProcessStep, apply_to, head_at, held_at, quiet, replica_of, when, with_head, with_replica}
-use Rattle.group_run.specs.Asking.{Oldest, act_on, ask_head, collect_from, collect_held, found_at, handed_out, is_call, issued, oldest_inherited, retry_block, ticketed, update_of}
+use Rattle.group_run.specs.Asking.{Oldest, act_on, ask_head, collect_from, collect_held, found_at, handed_out, is_call}
+use Rattle.group_run.specs.Asking.{issued, oldest_inherited, retry_block, ticketed, update_of}
 use Rattle.group_run.specs.Deciding.{decide}
 use Rattle.group_run.specs.Heading.{acknowledge, acknowledged, judge}
 use Rattle.group_run.specs.Leaders.{start_session}
@@ -52,7 +54,9 @@ module _ (s : Dimensions) (d : ℕ) where
   -- a call that is asked
   retry-last : (block : ℕ) (o : Option Oldest) (p : Process) → last_of (replica_of (retry_block s block o p).step.process d) ≡ last_of (replica_of p d)
   retry-last block (Some o) p = refl
-  retry-last block None p = (plain-when d (not (list_any (λ g. g.block == block) p.as_leader.sessions)) p (start_session s block p) (plain-session s d block p)).last
+  retry-last block None p =
+      (plain-when d (not (list_any (λ g. g.block == block) p.as_leader.sessions)) p (start_session s block p)
+      (plain-session s d block p)).last
 
   ticketed-last : (b : Bool) (e : ℕ) (u : Update) (t : ProcessStep) → last_of (replica_of (ticketed b e u t).step.process d) ≡ last_of (replica_of t.process d)
   ticketed-last true e u t = refl
@@ -82,7 +86,8 @@ module _ (s : Dimensions) (d : ℕ) where
       → head_at p e ≡ o
       → KeepsOr s x d p (ask_head s name op e p o).step.process
   ask-last x name op e p keeps None heads = inr refl
-  ask-last x name op e p keeps (Some h) heads = act-last x name op e h p (keeps h heads) (decide (space_of s) h.inherited (replica_of p e) op (found_at s e p p.name))
+  ask-last x name op e p keeps (Some h) heads = act-last x name op e h p (keeps h heads)
+      (decide (space_of s) h.inherited (replica_of p e) op (found_at s e p p.name))
 
   collect-last : (caller call : ℕ) (p : Process) (ds : List ℕ) → last_of (replica_of (collect_from caller call p ds).step.process d) ≡ last_of (replica_of p d)
   collect-last caller call p [] = refl
@@ -144,9 +149,12 @@ module _ (s : Dimensions) (d : ℕ) where
     by (inr other) = inr (other-replica q e (adopting base list (replica_of q e)) other ∙ (plain-apply s d e base (with_rank e r p)).last)
 
   pub received-last : (v : State) (x y : ProcessId) (m : Message) (p : Process) → MayStand s v y x m → KeepsOr s x d p (receive s y m p).process
-  received-last v x y (tells.Update r e u stable) p may = update-last x y r.0 e.0 u stable p (parity-keeps e.0 x may.1, may.0.1.partition) (nat_le (at 0 p.ranks e.0) r.0)
-  received-last v x y (tells.Adopt r e base list) p may = adopt-last x y r.0 e.0 base list p (parity-keeps e.0 x may.2, may.0.1.partition) (nat_le (at 0 p.ranks e.0) r.0)
-  received-last v x y (tells.Stable r e n) p may = inr (plain-when d (nat_le (at 0 p.ranks e.0) r.0) p (quiet (apply_to s e.0 n p)) (plain-apply s d e.0 n p)).last
+  received-last v x y (tells.Update r e u stable) p may =
+      update-last x y r.0 e.0 u stable p (parity-keeps e.0 x may.1, may.0.1.partition) (nat_le (at 0 p.ranks e.0) r.0)
+  received-last v x y (tells.Adopt r e base list) p may =
+      adopt-last x y r.0 e.0 base list p (parity-keeps e.0 x may.2, may.0.1.partition) (nat_le (at 0 p.ranks e.0) r.0)
+  received-last v x y (tells.Stable r e n) p may =
+      inr (plain-when d (nat_le (at 0 p.ranks e.0) r.0) p (quiet (apply_to s e.0 n p)) (plain-apply s d e.0 n p)).last
   received-last v x (DataNode z) (tells.Ack r e n) p may = inr refl
   received-last v x (ParityNode i) (tells.Ack r e n) p may = inr (acknowledge-last i r.0 e.0 n (head_at p e.0) p)
   received-last v x y (tells.ReadBlock session block rows) p may = inr (read-last session block rows p p.name)

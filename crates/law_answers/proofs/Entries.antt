@@ -30,7 +30,8 @@ behind-differ : (front back whole : List Entry) → whole ≡ front ++ back
     → ((i j : ℕ) (a b : Entry) → i < j → slice_get whole i ≡ Some a → slice_get whole j ≡ Some b → name_of a ≢ name_of b)
     → AllPairs (λ a b. name_of a ≢ name_of b) back
 behind-differ front back whole is once i j d before below =
-    once (length front + i) (length front + j) (slice_index_or back i d) (slice_index_or back j d) (omega (arith, before)) (entry i (omega (arith, before, below)))
+    once (length front + i) (length front + j) (slice_index_or back i d) (slice_index_or back j d)
+    (omega (arith, before)) (entry i (omega (arith, before, below)))
     (entry j below)
   where
     entry : (n : ℕ) → n < length back → slice_get whole (length front + n) ≡ Some (slice_index_or back n d)

@@ -1,5 +1,7 @@
 -- Every step sends to processes of the group alone.
-use Rattle.std.proofs.Common.{ℕ, zero, suc, ◌≡◌, ◌<◌, ◌+◌, ◌==◌, nat_le, Bool, true, false, not, ◌&&◌, List, [], ◌∷◌, ◌++◌, length, map, filter, flat_map, All, Option, Some, None, refl, sym, ap, subst, arith, cond}
+use Rattle.std.proofs.Common.{ℕ, zero, suc, ◌≡◌, ◌<◌, ◌+◌, ◌==◌, nat_le, Bool, true, false, not, ◌&&◌, List, [], ◌∷◌}
+use Rattle.std.proofs.Common.{◌++◌, length, map, filter, flat_map, All, Option, Some, None, refl, sym, ap, subst, arith}
+use Rattle.std.proofs.Common.{cond}
 use Rattle.std.specs.List.{list_any, range_with_len}
 use Rattle.group_types.specs.Dimensions.{Dimensions, space_of}
 use Rattle.group_types.specs.Hash.{home_of}
@@ -24,9 +26,12 @@ use Rattle.group_run.specs.Asking.{Oldest, act_on, ask_head, found_at, issued, o
 use Rattle.group_run.specs.Deciding.{decide}
 use Rattle.group_run.specs.Fitting.{Fits, MarkFits}
 use Rattle.group_run.specs.Heading.{acknowledge, acknowledged, judge, judge_head, other_parities, partition, rank, tell_stable, tell_stables, to_others}
-use Rattle.group_run.specs.Leaders.{close_sessions, copy_kept, copy_marked, leader_marks, left_of, lost_of, mark_comes, mark_taken, own_mark, row_finished, rows_of, session_of, session_opened, session_starts, start_session}
+use Rattle.group_run.specs.Leaders.{close_sessions, copy_kept, copy_marked, leader_marks, left_of, lost_of, mark_comes}
+use Rattle.group_run.specs.Leaders.{mark_taken, own_mark, row_finished, rows_of, session_of, session_opened}
+use Rattle.group_run.specs.Leaders.{session_starts, start_session}
 use Rattle.group_run.specs.Process.{Copy, Gathering, Head, Process}
-use Rattle.group_run.specs.Receiving.{ack_to, death_known, enthroned, log_adopted, notice_comes, read_comes, receive, take_over_if, taken_over, takes_over, update_taken}
+use Rattle.group_run.specs.Receiving.{ack_to, death_known, enthroned, log_adopted, notice_comes, read_comes, receive}
+use Rattle.group_run.specs.Receiving.{take_over_if, taken_over, takes_over, update_taken}
 use Rattle.group_run.specs.Replica.{with_update}
 use Rattle.group_run.specs.Rows.{accepts_mark, begin_copy, copy_in, is_marked, marked, parity_number, with_copies, without_copy}
 use Rattle.law_moves.proofs.Calls.{each-below}
@@ -68,7 +73,9 @@ module _ (s : Dimensions) where
 
   inside-others : (p : Process) (m : Message) → Inside (to_others s p m)
   inside-others p m = inside-rows (λ i. m) (other_parities s.m p.name p.known)
-      (each-filter (λ i. i < s.m) (λ i. not (same_process p.name (ParityNode i)) && not (knows_dead p.known (ParityNode i))) (range_with_len 0 s.m) (each-below s.m))
+      (each-filter (λ i. i < s.m)
+      (λ i. not (same_process p.name (ParityNode i)) && not (knows_dead p.known (ParityNode i)))
+      (range_with_len 0 s.m) (each-below s.m))
 
   inside-when : (b : Bool) (p : Process) (t : ProcessStep) → Inside t.sent → Inside (when b p t).sent
   inside-when true p t inside = inside
@@ -129,7 +136,8 @@ module _ (s : Dimensions) where
       let r : ℕ = suc (parity_number p.name) in
       let adopt : Message = tells.Adopt (rank r) (partition d) (replica_of p d).applied (replica_of p d).log in
       let after : Process = enthroned s r d p in
-      inside-when (takes_over p d p.name) p (taken_over s d p) (inside-append (to_others s p adopt) (judge s d after).sent (inside-others p adopt) (inside-judge d after))
+      inside-when (takes_over p d p.name) p (taken_over s d p)
+      (inside-append (to_others s p adopt) (judge s d after).sent (inside-others p adopt) (inside-judge d after))
 
   inside-notice : (dead : ProcessId) (p : Process) → Inside (notice_comes s dead p).sent
   inside-notice dead p =
@@ -138,7 +146,8 @@ module _ (s : Dimensions) where
       let judged : ProcessStep = for_each (range_with_len 0 s.k) (judge s) closed.process in
       let taken : ProcessStep = for_each (range_with_len 0 s.k) (take_over_if s) judged.process in
       inside-append (closed.sent ++ judged.sent) taken.sent
-      (inside-append closed.sent judged.sent (inside-close known.as_leader.sessions known) (inside-each (range_with_len 0 s.k) (judge s) closed.process inside-judge))
+      (inside-append closed.sent judged.sent (inside-close known.as_leader.sessions known)
+      (inside-each (range_with_len 0 s.k) (judge s) closed.process inside-judge))
       (inside-each (range_with_len 0 s.k) (take_over_if s) judged.process inside-take)
 
   leader-in : (session : Session) → (l : ℕ) × (session.leader ≡ ParityNode l) × (l < s.m) → IsProcess s session.leader
@@ -183,7 +192,9 @@ module _ (s : Dimensions) where
   inside-starts leader number block p =
       inside-append (map (λ d. record { to = DataNode d; message = tells.ReadBlock (session_of leader number) block (rows_of s p) }) (left_of s p))
       (flat_map (leader_marks s leader number block p) (lost_of s p))
-      (each-map (λ (z : Sent). IsProcess s z.to) (λ d. record { to = DataNode d; message = tells.ReadBlock (session_of leader number) block (rows_of s p) }) (left_of s p)
+      (each-map (λ (z : Sent). IsProcess s z.to)
+      (λ d. record { to = DataNode d; message = tells.ReadBlock (session_of leader number) block (rows_of s p) })
+      (left_of s p)
       (each-filter (λ d. d < s.k) (λ d. not (knows_dead p.known (DataNode d))) (range_with_len 0 s.k) (each-below s.k)))
       (inside-flat (leader_marks s leader number block p) marks (lost_of s p))
     where
@@ -205,7 +216,8 @@ module _ (s : Dimensions) where
 
   inside-retry : (block : ℕ) (o : Option Oldest) (p : Process) → IsParity p.name → Inside (retry_block s block o p).step.sent
   inside-retry block (Some o) p parity = tt
-  inside-retry block None p parity = inside-when (not (list_any (λ g. g.block == block) p.as_leader.sessions)) p (start_session s block p) (inside-start block p parity)
+  inside-retry block None p parity = inside-when (not (list_any (λ g. g.block == block) p.as_leader.sessions)) p
+      (start_session s block p) (inside-start block p parity)
 
   inside-ticketed : (b : Bool) (d : ℕ) (u : Update) (t : ProcessStep) → Inside t.sent → Inside (ticketed b d u t).step.sent
   inside-ticketed true d u t inside = inside

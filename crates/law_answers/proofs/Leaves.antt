@@ -1,5 +1,7 @@
 -- What an answer to an ask leaves as it was.
-use Rattle.std.proofs.Common.{ℕ, zero, suc, ◌≡◌, ◌≢◌, ◌<◌, ◌≤◌, ◌+◌, nat_le, nat_lt, Bool, true, false, ◌||◌, if◌then◌else◌, List, [], ◌∷◌, ◌++◌, length, map, Option, Some, None, ◌⊎◌, inl, inr, refl, sym, ap, subst, ◌∙◌, arith}
+use Rattle.std.proofs.Common.{ℕ, zero, suc, ◌≡◌, ◌≢◌, ◌<◌, ◌≤◌, ◌+◌, nat_le, nat_lt, Bool, true, false, ◌||◌}
+use Rattle.std.proofs.Common.{if◌then◌else◌, List, [], ◌∷◌, ◌++◌, length, map, Option, Some, None, ◌⊎◌, inl, inr, refl}
+use Rattle.std.proofs.Common.{sym, ap, subst, ◌∙◌, arith}
 use Rattle.std.proofs.lemmas.List.{length-replicate, map-id}
 use Rattle.std.proofs.lemmas.List.FromFn.{length-map-range_with_len}
 use Rattle.std.specs.List.{range_with_len}
@@ -29,7 +31,8 @@ use Rattle.group_calls.specs.declared.event.Cause.TheVariants as cause
 use Rattle.group_calls.specs.declared.event.Event.{Event}
 use Rattle.group_calls.specs.declared.event.Event.TheVariants.{Ask, Collect, Deliver, Fail, Flush, Trace}
 use Rattle.group_run.specs.Applying.{ProcessStep, Settlement, for_each, head_at, quiet, replica_of}
-use Rattle.group_run.specs.Asking.{CallStep, Oldest, act_on, ask_head, ask_process, collect_from, fate_of, found_at, issued, oldest_inherited, retry_block, ticketed, update_of}
+use Rattle.group_run.specs.Asking.{CallStep, Oldest, act_on, ask_head, ask_process, collect_from, fate_of, found_at}
+use Rattle.group_run.specs.Asking.{issued, oldest_inherited, retry_block, ticketed, update_of}
 use Rattle.group_run.specs.Causes.{AskLeaves, KeepsLedger}
 use Rattle.group_run.specs.Deciding.{decide}
 use Rattle.group_run.specs.Headline.{IsRun, MayCome}
@@ -38,7 +41,12 @@ use Rattle.group_run.specs.Meaning.{process_of}
 use Rattle.group_run.specs.Process.{Copy, Head, Node, Process}
 use Rattle.group_run.specs.Receiving.{receive}
 use Rattle.group_run.specs.Rows.{parity_number}
-use Rattle.group_run.specs.World.{asked_after, Call, DeliveryStep, GroupStep, Ledger, NodeStep, Ticket, World, after, all_change, dead_nodes, delivered, flush_process, group_step, grown, if_up, ledger_after, ledger_with, link_after, link_emptied, links_after, logged_at_once, next_name, node_after, node_failed, node_in, node_of, opening_node, op_moved, ops_moved, receive_node, refusal_logged, same_call, step, ticket_if, tickets_after, treated, unchanged, with_down, with_link, with_node}
+use Rattle.group_run.specs.World.{asked_after, Call, DeliveryStep, GroupStep, Ledger, NodeStep, Ticket, World, after}
+use Rattle.group_run.specs.World.{all_change, dead_nodes, delivered, flush_process, group_step, grown, if_up}
+use Rattle.group_run.specs.World.{ledger_after, ledger_with, link_after, link_emptied, links_after, logged_at_once}
+use Rattle.group_run.specs.World.{next_name, node_after, node_failed, node_in, node_of, opening_node, op_moved}
+use Rattle.group_run.specs.World.{ops_moved, receive_node, refusal_logged, same_call, step, ticket_if, tickets_after}
+use Rattle.group_run.specs.World.{treated, unchanged, with_down, with_link, with_node}
 use Rattle.law_moves.proofs.Reading.{at-indices, node-back, node-here, node-other, size-with_node}
 use Rattle.law_log.specs.Book.{Book, book_of, no_book}
 use Rattle.law_log.proofs.Ties.{AreTickets}
@@ -59,7 +67,8 @@ LinksMany s nodes = (p : ProcessId) → IsProcess s p → length (node_in s node
 
 -- to empty a link leaves as many
 emptied-many : (s : Dimensions) (m : Message) (node : Node) → length node.links ≡ s.k + s.m → length (link_emptied s m node).links ≡ s.k + s.m
-emptied-many s (tells.Notice dead) node many = length-map-range_with_len (λ x. if same_process (process_at s x) dead then [] else at [] node.links x) 0 (s.k + s.m)
+emptied-many s (tells.Notice dead) node many =
+    length-map-range_with_len (λ x. if same_process (process_at s x) dead then [] else at [] node.links x) 0 (s.k + s.m)
 emptied-many s (tells.Update r d u stable) node many = many
 emptied-many s (tells.Ack r d n) node many = many
 emptied-many s (tells.Stable r d n) node many = many
@@ -75,7 +84,8 @@ module _ (s : Dimensions) (nodes : List Node) (size : length nodes ≡ s.k + s.m
   links-one : (p : ProcessId) (node : Node) → IsProcess s p → length node.links ≡ s.k + s.m → LinksMany s (with_node s p node nodes)
   links-one p node pin many q qin = by (same-cases q p) where
     by : (q ≡ p) ⊎ (q ≢ p) → length (node_in s (with_node s p node nodes) q).links ≡ s.k + s.m
-    by (inl same) = ap (λ (x : ProcessId). length (node_in s (with_node s p node nodes) x).links) same ∙ ap (λ (n : Node). length n.links) (node-here s nodes p node) ∙ many
+    by (inl same) = ap (λ (x : ProcessId). length (node_in s (with_node s p node nodes) x).links) same
+        ∙ ap (λ (n : Node). length n.links) (node-here s nodes p node) ∙ many
     by (inr other) = ap (λ (n : Node). length n.links) (node-other s nodes p q node pin qin other size) ∙ all q qin
 
   -- a node that treats a call
@@ -103,9 +113,11 @@ module _ (s : Dimensions) (nodes : List Node) (size : length nodes ≡ s.k + s.m
       ∙ links-one p (node_failed s p keep (node_in s nodes p)) pin (length-map-range_with_len _ 0 (s.k + s.m)) q qin
 
 -- two nodes change
-links-delivered : (s : Dimensions) (nodes : List Node) (size : length nodes ≡ s.k + s.m) (all : LinksMany s nodes) (x p : ProcessId) (down dead : Bool) (link : List Message)
+links-delivered : (s : Dimensions) (nodes : List Node) (size : length nodes ≡ s.k + s.m) (all : LinksMany s nodes)
+    (x p : ProcessId) (down dead : Bool) (link : List Message)
     → IsProcess s x → IsProcess s p
-    → let b : DeliveryStep = delivered down dead s x p (node_in s nodes x) (node_in s nodes p) link in LinksMany s (with_node s p b.receiver.node (with_node s x b.sender nodes))
+    → let b : DeliveryStep = delivered down dead s x p (node_in s nodes x) (node_in s nodes p) link in
+    LinksMany s (with_node s p b.receiver.node (with_node s x b.sender nodes))
 links-delivered s nodes size all x p true dead link xin pin =
     links-one s (with_node s x (node_in s nodes x) nodes) (size-with_node s nodes x (node_in s nodes x) xin size)
     (links-one s nodes size all x (node_in s nodes x) xin (all x xin)) p (node_in s nodes p) pin (all p pin)
@@ -117,30 +129,40 @@ links-delivered s nodes size all x p false false [] xin pin =
     (links-one s nodes size all x (node_in s nodes x) xin (all x xin)) p (node_in s nodes p) pin (all p pin)
 links-delivered s nodes size all x p false false (m ∷ rest) xin pin =
     let sender : Node = with_link s p rest (node_in s nodes x) in
-    let many : length sender.links ≡ s.k + s.m = length-put [] (node_in s nodes x).links (index_of s p) rest (let low = index-below s p pin in let long = all x xin in omega (arith, low, long))
+    let many : length sender.links ≡ s.k + s.m = length-put [] (node_in s nodes x).links (index_of s p) rest
+    (let low = index-below s p pin in let long = all x xin in omega (arith, low, long))
     ∙ all x xin in
-    links-one s (with_node s x sender nodes) (size-with_node s nodes x sender xin size) (links-one s nodes size all x sender xin many) p (receive_node s x m (node_in s nodes p)).node pin
+    links-one s (with_node s x sender nodes) (size-with_node s nodes x sender xin size)
+    (links-one s nodes size all x sender xin many) p (receive_node s x m (node_in s nodes p)).node pin
     (emptied-many s m (node_after s (receive s x m (node_in s nodes p).process) (node_in s nodes p)) (length-map-range_with_len _ 0 (s.k + s.m)))
 
 -- places are kept for each partition
 places-many : (tickets : List Ticket) (t : List Settlement) (n a k : ℕ) (ledger : Ledger) → a + n ≤ k → length ledger.places ≡ k
     → length (ledger_after tickets t (range_with_len a n) ledger).places ≡ k
 places-many tickets t zero a k ledger low many = many
-places-many tickets t (suc n) a k ledger low many = places-many tickets t n (a + 1) k _ (omega (arith, low)) (length-put [] ledger.places a _ (omega (arith, low, many)) ∙ many)
+places-many tickets t (suc n) a k ledger low many = places-many tickets t n (a + 1) k _ (omega (arith, low))
+    (length-put [] ledger.places a _ (omega (arith, low, many)) ∙ many)
 
 -- a group with all its links and places
 pub record IsWide (w : World) : Type 0 where
   pub links : LinksMany w.shape w.nodes
   pub places : length w.places ≡ w.shape.k
 
-wide-links : (w : World) (e : Event) → length w.nodes ≡ w.shape.k + w.shape.m → LinksMany w.shape w.nodes → MayCome w e → LinksMany w.shape (group_step w e).nodes
-wide-links w (Ask caller op p) size all may = links-treated w.shape w.nodes size all p (ask_process w.shape (next_name w caller) op (process_of w p)) (node_of w p).down (node_of w p).dead may.1
+wide-links : (w : World) (e : Event) → length w.nodes ≡ w.shape.k + w.shape.m → LinksMany w.shape w.nodes → MayCome w e
+    → LinksMany w.shape (group_step w e).nodes
+wide-links w (Ask caller op p) size all may = links-treated w.shape w.nodes size all p
+    (ask_process w.shape (next_name w caller) op (process_of w p)) (node_of w p).down (node_of w p).dead may.1
 wide-links w (Collect caller call p) size all may =
-    links-treated w.shape w.nodes size all p (collect_from caller call (process_of w p) (range_with_len 0 w.shape.k)) (node_of w p).down (node_of w p).dead may.1
-wide-links w (Flush p) size all may = links-treated w.shape w.nodes size all p (flush_process w.shape (process_of w p)) (node_of w p).down (node_of w p).dead may
+    links-treated w.shape w.nodes size all p (collect_from caller call (process_of w p) (range_with_len 0 w.shape.k))
+    (node_of w p).down (node_of w p).dead may.1
+wide-links w (Flush p) size all may = links-treated w.shape w.nodes size all p (flush_process w.shape (process_of w p))
+    (node_of w p).down (node_of w p).dead may
 wide-links w (Trace caller call d p) size all may =
-    links-answered w.shape w.nodes size all p (fate_of w.shape caller call d.0 (process_of w p) (head_at (process_of w p) d.0)) (node_of w p).down (node_of w p).dead may.3
-wide-links w (Deliver from to) size all may = links-delivered w.shape w.nodes size all from to (node_of w to).down (node_of w to).dead (at [] (node_of w from).links (index_of w.shape to)) may.0 may.1
+    links-answered w.shape w.nodes size all p
+    (fate_of w.shape caller call d.0 (process_of w p) (head_at (process_of w p) d.0)) (node_of w p).down
+    (node_of w p).dead may.3
+wide-links w (Deliver from to) size all may = links-delivered w.shape w.nodes size all from to (node_of w to).down
+    (node_of w to).dead (at [] (node_of w from).links (index_of w.shape to)) may.0 may.1
 wide-links w (Fail p keep) size all may = links-failed w.shape w.nodes size all p keep (node_of w p).dead may
 
 wide-step : (w : World) (e : Event) → length w.nodes ≡ w.shape.k + w.shape.m → MayCome w e → IsWide w → IsWide (step w e).world
@@ -159,17 +181,22 @@ wide-opening s = record {
 
 pub wide_always : (s : Dimensions) (es : List Event) → IsRun s es → IsWide (after s es)
 wide_always s es run = subst IsWide (book-world s es) (book_always s (λ b. IsWide b.history.world) (wide-opening s)
-    (λ done e now more may wide. wide-step (book_of s done).history.world e (book-framed s done now).nodes_many (subst (λ (w : World). MayCome w e) (sym (book-world s done)) may) wide) es run)
+    (λ done e now more may wide. wide-step (book_of s done).history.world e (book-framed s done now).nodes_many
+    (subst (λ (w : World). MayCome w e) (sym (book-world s done)) may) wide) es run)
 
 -- where nothing is settled the ledger stays
-pub ledger-stays : (tickets : List Ticket) (n a : ℕ) (ledger : Ledger) → a + n ≤ length ledger.places → ledger_after tickets [] (range_with_len a n) ledger ≡ ledger
+pub ledger-stays : (tickets : List Ticket) (n a : ℕ) (ledger : Ledger) → a + n ≤ length ledger.places
+    → ledger_after tickets [] (range_with_len a n) ledger ≡ ledger
 ledger-stays tickets zero a ledger low = refl
 ledger-stays tickets (suc n) a ledger low =
-    let same : ledger_with tickets a [] ledger ≡ ledger = ap (λ (ps : List (List (Option Run))). record { logged = ledger.logged; places = ps }) (put-at [] [] ledger.places a (omega (arith, low))) in
+    let same : ledger_with tickets a [] ledger ≡ ledger =
+    ap (λ (ps : List (List (Option Run))). record { logged = ledger.logged; places = ps })
+    (put-at [] [] ledger.places a (omega (arith, low))) in
     ap (ledger_after tickets [] (range_with_len (a + 1) n)) same ∙ ledger-stays tickets n (a + 1) ledger (omega (arith, low))
 
 -- a ticket of another call stays
-tickets-stay : (name : CallName) (op : Asked) (reply : Reply) (tickets : List Ticket) → Each (λ t. t.name ≢ name) tickets → map (op_moved (entry_of name op reply ∷ [])) tickets ≡ tickets
+tickets-stay : (name : CallName) (op : Asked) (reply : Reply) (tickets : List Ticket)
+    → Each (λ t. t.name ≢ name) tickets → map (op_moved (entry_of name op reply ∷ [])) tickets ≡ tickets
 tickets-stay name op reply [] other = refl
 tickets-stay name op reply (t ∷ ts) other =
     let fails : same_call name t.name ≡ false = call-ne name t.name (λ same. other.0 (sym same)) in
@@ -186,7 +213,8 @@ copy_marked-settles s d n None p = refl
 copy_marked-settles s d n (Some copy) p = copy_kept-settles _ s _ p
 
 own-settles : (s : Dimensions) (leader number block l : ℕ) (p : Process) → (own_mark s leader number block l p).settled ≡ []
-own-settles s leader number block l p = none-when _ p (mark_taken s leader number block l (replica_of p l).applied p) (copy_marked-settles s l (replica_of p l).applied _ _)
+own-settles s leader number block l p = none-when _ p (mark_taken s leader number block l (replica_of p l).applied p)
+    (copy_marked-settles s l (replica_of p l).applied _ _)
 
 each-settles : (f : ℕ → Process → ProcessStep) (ls : List ℕ) (p : Process) → ((l : ℕ) (q : Process) → (f l q).settled ≡ []) → (for_each ls f p).settled ≡ []
 each-settles f [] p none = refl
@@ -210,7 +238,8 @@ node-stays s node many = ap (λ (ls : List (List Message)). record node { links 
   same : links_after s node.process.known [] node.links ≡ node.links
   same =
       ap (λ (n : ℕ). map (λ x. link_after (knows_dead node.process.known (process_at s x)) (at [] node.links x) []) (range_with_len 0 n)) (sym many)
-      ∙ sym (map-indices (λ (l : List Message). l) [] (λ x. link_after (knows_dead node.process.known (process_at s x)) (at [] node.links x) []) node.links 0 each) ∙ map-id node.links
+      ∙ sym (map-indices (λ (l : List Message). l) [] (λ x. link_after (knows_dead node.process.known (process_at s x))
+      (at [] node.links x) []) node.links 0 each) ∙ map-id node.links
 
 -- what a step of the group leaves, by its answer
 abbrev Walked : List Node → GroupStep → Answer → Type 0
@@ -231,7 +260,8 @@ module _ (w : World) (size : length w.nodes ≡ w.shape.k + w.shape.m) (wide : I
   put_back : with_node w.shape p (node_after w.shape (quiet (process_of w p)) (node_of w p)) w.nodes ≡ w.nodes
   put_back = ap (λ (n : Node). with_node w.shape p n w.nodes) (node-stays w.shape (node_of w p) (wide.links p pin)) ∙ stays
 
-  walked-retry : (b : ℕ) (o : Option Oldest) → Walked w.nodes (step_of (retry_block w.shape b o (process_of w p))) (retry_block w.shape b o (process_of w p)).answer
+  walked-retry : (b : ℕ) (o : Option Oldest) → Walked w.nodes (step_of (retry_block w.shape b o (process_of w p)))
+      (retry_block w.shape b o (process_of w p)).answer
   walked-retry b (Some o) = (put_back, refl)
   walked-retry b None = none-when _ (process_of w p) (start_session w.shape b (process_of w p)) (session-settles w.shape b (process_of w p))
 
@@ -252,11 +282,15 @@ module _ (w : World) (size : length w.nodes ≡ w.shape.k + w.shape.m) (wide : I
   walked-head : (name : CallName) (op : Asked) (d : ℕ) (o : Option Head)
       → Walked w.nodes (step_of (ask_head w.shape name op d (process_of w p) o)) (ask_head w.shape name op d (process_of w p) o).answer
   walked-head name op d None = (put_back, refl)
-  walked-head name op d (Some h) = walked-act name op d h (decide (space_of w.shape) h.inherited (replica_of (process_of w p) d) op (found_at w.shape d (process_of w p) (process_of w p).name))
+  walked-head name op d (Some h) =
+      walked-act name op d h (decide (space_of w.shape) h.inherited (replica_of (process_of w p) d) op
+      (found_at w.shape d (process_of w p) (process_of w p).name))
 
   walked : (caller : ℕ) (op : Asked) → Walked w.nodes (group_step w (Ask caller op p)) (group_step w (Ask caller op p)).answer
   walked caller op = by (node_of w p).down (node_of w p).dead where
-    by : (down dead : Bool) → let t : NodeStep = if_up down dead (node_of w p) (treated w.shape (node_of w p) (ask_process w.shape (next_name w caller) op (process_of w p))) in
+    by : (down dead : Bool) → let t : NodeStep =
+        if_up down dead (node_of w p)
+        (treated w.shape (node_of w p) (ask_process w.shape (next_name w caller) op (process_of w p))) in
         Walked w.nodes (record { nodes = with_node w.shape p t.node w.nodes; answer = t.answer; settled = t.settled }) t.answer
     by true dead = (stays, refl)
     by false true = (stays, refl)
@@ -278,7 +312,9 @@ world_with w c nodes settled answer =
     }
 
 module _ (w : World) (wide : IsWide w) (c : Call) (other : Each (λ t. t.name ≢ c.name) w.tickets) where
-  ledger-is : (tickets : List Ticket) (logged : List Entry) (settled : List Settlement) → settled ≡ [] → ledger_after tickets settled (range_with_len 0 w.shape.k) (record { logged = logged; places = w.places }) ≡ record { logged = logged; places = w.places }
+  ledger-is : (tickets : List Ticket) (logged : List Entry) (settled : List Settlement) → settled ≡ []
+      → ledger_after tickets settled (range_with_len 0 w.shape.k) (record { logged = logged; places = w.places })
+      ≡ record { logged = logged; places = w.places }
   ledger-is tickets logged settled none =
       ap (λ (t : List Settlement). ledger_after tickets t (range_with_len 0 w.shape.k) (record { logged = logged; places = w.places })) none
       ∙ ledger-stays tickets w.shape.k 0 (record { logged = logged; places = w.places }) (let many = wide.places in omega (arith, many))
@@ -307,7 +343,8 @@ module _ (w : World) (wide : IsWide w) (c : Call) (other : Each (λ t. t.name �
 
   leaves : (g : GroupStep) (answer : Answer) → Walked w.nodes g answer → AskLeaves w (world_with w c g.nodes g.settled answer) answer
   leaves g (says.Ticket n) walks = tt
-  leaves g (says.Reply reply) walks = λ refuses. let both = walks refuses in let kept = refused g.nodes g.settled reply both.1 refuses in (both.0, kept.0, kept.1)
+  leaves g (says.Reply reply) walks = λ refuses. let both = walks refuses in let kept =
+      refused g.nodes g.settled reply both.1 refuses in (both.0, kept.0, kept.1)
   leaves g (says.Retry (cause.Block b)) walks = keeps g.nodes g.settled (says.Retry (cause.Block b)) walks refl refl
   leaves g (says.Retry (cause.Pending d n)) walks = (walks.0, keeps g.nodes g.settled (says.Retry (cause.Pending d n)) walks.1 refl refl)
   leaves g says.NotYet walks = (walks.0, keeps g.nodes g.settled says.NotYet walks.1 refl refl)
@@ -328,17 +365,20 @@ tickets-other : (log : List Entry) (asked : List ℕ) (c : Call) (calls : List C
 tickets-other log asked c [] [] next all are = tt
 tickets-other log asked c [] (t ∷ ts) next all are = absurd are
 tickets-other log asked c (x ∷ xs) [] next all are = absurd are
-tickets-other log asked c (x ∷ xs) (t ∷ ts) next all are = ((λ same. next-new asked c x.name next all.0 (sym are.0 ∙ same)), tickets-other log asked c xs ts next all.1 are.2)
+tickets-other log asked c (x ∷ xs) (t ∷ ts) next all are =
+    ((λ same. next-new asked c x.name next all.0 (sym are.0 ∙ same)), tickets-other log asked c xs ts next all.1 are.2)
 
 pub asks_leave_always : AsksLeaveAlways
 asks_leave_always s es run caller op p may =
     let b : Book = book_of s es in
     let world : b.history.world ≡ after s es = book-world s es in
-    let size : length (after s es).nodes ≡ (after s es).shape.k + (after s es).shape.m = subst (λ (w : World). length w.nodes ≡ w.shape.k + w.shape.m) world (book-framed s es run).nodes_many in
+    let size : length (after s es).nodes ≡ (after s es).shape.k + (after s es).shape.m =
+    subst (λ (w : World). length w.nodes ≡ w.shape.k + w.shape.m) world (book-framed s es run).nodes_many in
     let logs : LogsOf b = logs_always s (stands-always s (whole-always s)) es run in
     let wide : IsWide (after s es) = wide_always s es run in
     let other : Each (λ t. t.name ≢ next_name (after s es) caller) (after s es).tickets
     = subst (λ (w : World). Each (λ t. t.name ≢ next_name w caller) w.tickets) world
-    (tickets-other b.history.world.log b.history.world.asked (next_call b.history.world caller op) b.issued b.history.world.tickets refl (asked_always s es run) logs.has_tickets) in
+    (tickets-other b.history.world.log b.history.world.asked (next_call b.history.world caller op) b.issued
+    b.history.world.tickets refl (asked_always s es run) logs.has_tickets) in
     leaves (after s es) wide (next_call (after s es) caller op) other (group_step (after s es) (Ask caller op p))
     (group_step (after s es) (Ask caller op p)).answer (walked (after s es) size wide p may.1 caller op)

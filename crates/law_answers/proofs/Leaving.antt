@@ -18,12 +18,17 @@ use Rattle.group_calls.specs.Turns.{CallName}
 use Rattle.group_calls.specs.declared.decision.Decision.{Decision}
 use Rattle.group_calls.specs.declared.decision.Decision.TheVariants as decides
 use Rattle.group_run.specs.Applying.{ProcessStep, apply_to, for_each, head_at, held_at, quiet, replica_of, when, with_head, with_replica}
-use Rattle.group_run.specs.Asking.{Oldest, act_on, ask_head, collect_from, collect_held, found_at, handed_out, is_call, issued, oldest_inherited, retry_block, ticketed, update_of}
+use Rattle.group_run.specs.Asking.{Oldest, act_on, ask_head, collect_from, collect_held, found_at, handed_out, is_call}
+use Rattle.group_run.specs.Asking.{issued, oldest_inherited, retry_block, ticketed, update_of}
 use Rattle.group_run.specs.Deciding.{decide}
 use Rattle.group_run.specs.Heading.{acknowledge, acknowledged, judge, judge_head}
-use Rattle.group_run.specs.Leaders.{block_comes, block_gathered, close_sessions, copy_kept, copy_marked, gathered_when, is_complete, lost_of, mark_comes, mark_taken, open_session, own_mark, rebuilt_block, rebuilt_unless, row_comes, row_finished, row_gathered, session_opened, start_session, with_decoded, without_session}
+use Rattle.group_run.specs.Leaders.{block_comes, block_gathered, close_sessions, copy_kept, copy_marked, gathered_when}
+use Rattle.group_run.specs.Leaders.{is_complete, lost_of, mark_comes, mark_taken, open_session, own_mark, rebuilt_block}
+use Rattle.group_run.specs.Leaders.{rebuilt_unless, row_comes, row_finished, row_gathered, session_opened}
+use Rattle.group_run.specs.Leaders.{start_session, with_decoded, without_session}
 use Rattle.group_run.specs.Process.{Copy, Gathering, Head, Held, LeaderState, Process}
-use Rattle.group_run.specs.Receiving.{ack_to, death_known, enthroned, log_adopted, notice_comes, read_comes, receive, take_over_if, taken_over, takes_over, update_taken}
+use Rattle.group_run.specs.Receiving.{ack_to, death_known, enthroned, log_adopted, notice_comes, read_comes, receive}
+use Rattle.group_run.specs.Receiving.{take_over_if, taken_over, takes_over, update_taken}
 use Rattle.group_run.specs.Replica.{with_update}
 use Rattle.group_run.specs.Rows.{accepts_mark, begin_copy, copy_begun, copy_in, is_marked, marked, parity_number, with_copies, without_copy}
 use Rattle.law_moves.proofs.Moves.{Asks, Collects, Flushes, Treats}
@@ -111,7 +116,8 @@ module _ (s : Dimensions) where
       let q : Process = apply_to s d n begun in
       rests-when (accepts_mark p l number r d) p (mark_taken s l number block d n p)
       (rests-then p begun (mark_taken s l number block d n p).process (rests-begun (is_some (copy_in p.as_row.copies l number)) l number block p)
-      (rests-then begun q (mark_taken s l number block d n p).process (record { known = refl; last = refl }) (rests-marked d n (copy_in q.as_row.copies l number) q)))
+      (rests-then begun q (mark_taken s l number block d n p).process (record { known = refl; last = refl })
+      (rests-marked d n (copy_in q.as_row.copies l number) q)))
 
   rests-read : (session : Session) (block : ℕ) (rows : List ℕ) (p : Process) (name : ProcessId) → Rests p (read_comes s session block rows p name).process
   rests-read session block rows p (ParityNode i) = rests-self p
@@ -119,11 +125,15 @@ module _ (s : Dimensions) where
 
   -- a message that isn't a notice
   pub rests-received : (x : ProcessId) (m : Message) (p : Process) → is_notice m ≡ false → Rests p (receive s x m p).process
-  rests-received x (tells.Update r d u stable) p plain = rests-when (nat_le (at 0 p.ranks d.0) r.0) p (ack_to x r.0 d.0 u.number (update_taken s d.0 u stable p))
+  rests-received x (tells.Update r d u stable) p plain = rests-when (nat_le (at 0 p.ranks d.0) r.0) p
+      (ack_to x r.0 d.0 u.number (update_taken s d.0 u stable p))
       (record { known = refl; last = refl })
-  rests-received x (tells.Stable r d n) p plain = rests-when (nat_le (at 0 p.ranks d.0) r.0) p (quiet (apply_to s d.0 n p)) (record { known = refl; last = refl })
+  rests-received x (tells.Stable r d n) p plain = rests-when (nat_le (at 0 p.ranks d.0) r.0) p
+      (quiet (apply_to s d.0 n p)) (record { known = refl; last = refl })
   rests-received x (tells.Adopt r d base list) p plain =
-      rests-when (nat_le (at 0 p.ranks d.0) r.0) p (ack_to x r.0 d.0 (base + length list) (log_adopted s r.0 d.0 base list p)) (record { known = refl; last = refl })
+      rests-when (nat_le (at 0 p.ranks d.0) r.0) p
+      (ack_to x r.0 d.0 (base + length list) (log_adopted s r.0 d.0 base list p))
+      (record { known = refl; last = refl })
   rests-received (DataNode e) (tells.Ack r d n) p plain = rests-self p
   rests-received (ParityNode i) (tells.Ack r d n) p plain = rests-acknowledge i r.0 d.0 n (head_at p d.0) p
   rests-received x (tells.ReadBlock session block rows) p plain = rests-read session block rows p p.name
@@ -190,7 +200,8 @@ module _ (s : Dimensions) where
   rests-ticketed true d u t = rests-self t.process
   rests-ticketed false d u t = record { known = refl; last = refl }
 
-  starts-act : (name : CallName) (op : Asked) (d : ℕ) (h : Head) (p : Process) (decision : Decision) → StartsOne p (act_on s name op d h p decision).step.process
+  starts-act : (name : CallName) (op : Asked) (d : ℕ) (h : Head) (p : Process) (decision : Decision)
+      → StartsOne p (act_on s name op d h p decision).step.process
   starts-act name op d h p (decides.Answer reply) = starts-none p p (rests-self p)
   starts-act name op d h p (decides.Retry n) = starts-none p p (rests-self p)
   starts-act name op d h p decides.NoSpace = starts-none p p (rests-self p)

@@ -1,5 +1,6 @@
 -- No number rises above that of the events.
-use Rattle.std.proofs.Common.{ℕ, suc, ◌≡◌, ◌≢◌, ◌<◌, ◌≤◌, ◌%◌, Bool, true, false, List, [], ◌∷◌, ◌++◌, length, take, All, Option, Some, None, ◌⊎◌, inl, inr, refl, sym, ap, subst, ◌∙◌, arith}
+use Rattle.std.proofs.Common.{ℕ, suc, ◌≡◌, ◌≢◌, ◌<◌, ◌≤◌, ◌%◌, Bool, true, false, List, [], ◌∷◌, ◌++◌, length, take}
+use Rattle.std.proofs.Common.{All, Option, Some, None, ◌⊎◌, inl, inr, refl, sym, ap, subst, ◌∙◌, arith}
 use Rattle.std.proofs.lemmas.Bool.{cases_eq}
 use Rattle.std.proofs.lemmas.List.{length-append, length-take-le}
 use Rattle.std.specs.Prelude.{slice_index_or}
@@ -164,10 +165,12 @@ module _ (s : Dimensions) (shaped : IsShape s) where
   }
   moved n v w (Failed p keep pin died) low = record {
     members = (members.keeps s shaped).dies v w p keep pin low.members died;
-    reach = reaching.dies (Short (suc n)) (short-laws (suc n)) s shaped v w p keep pin (reach-weaker (Short n) (Short (suc n)) (short-more n) s v low.reach) died;
+    reach = reaching.dies (Short (suc n)) (short-laws (suc n)) s shaped v w p keep pin
+        (reach-weaker (Short n) (Short (suc n)) (short-more n) s v low.reach) died;
     elsewhere = λ y yin living d. subst (λ (q : Process). Keeps s y d ⊎ (last_of (replica_of q d) ≡ 0)) (sym (died.processes y yin))
         (low.elsewhere y yin (lived y yin living) d);
-    sessions = λ y yin. let is = ap (λ (q : Process). q.as_leader.last_session) (died.processes y yin) in let was = low.sessions y yin in omega (arith, is, was);
+    sessions = λ y yin. let is = ap (λ (q : Process). q.as_leader.last_session) (died.processes y yin) in let was =
+        low.sessions y yin in omega (arith, is, was);
   } where
     lived : (y : ProcessId) → IsProcess s y → w.dead y ≡ false → v.dead y ≡ false
     lived y yin living = by (same-cases y p) where

@@ -1,5 +1,6 @@
 -- The oldest inherited update that is unfinished at a process.
-use Rattle.std.proofs.Common.{ℕ, zero, suc, ◌≡◌, ◌≢◌, ◌<◌, ◌≤◌, ◌+◌, nat_lt, Bool, true, false, Option, Some, None, ◌⊎◌, inl, inr, if◌then◌else◌, refl, sym, subst, arith}
+use Rattle.std.proofs.Common.{ℕ, zero, suc, ◌≡◌, ◌≢◌, ◌<◌, ◌≤◌, ◌+◌, nat_lt, Bool, true, false, Option, Some, None, ◌⊎◌}
+use Rattle.std.proofs.Common.{inl, inr, if◌then◌else◌, refl, sym, subst, arith}
 use Rattle.std.proofs.lemmas.Bool.{cases_eq}
 use Rattle.std.proofs.lemmas.Grind.{common_steps}
 use Rattle.std.specs.List.{range_with_len}
@@ -37,7 +38,13 @@ is-oldest p (suc n) a o is = by (head_at p a) refl is (is-oldest p n (a + 1) o) 
   here h heads true test is rest =
       let same : record { partition = a; number = suc (replica_of p a).applied } ≡ o = cc is in
       subst (IsOldest p a (suc n)) same
-      (record { from = omega arith; to = omega arith; has = (h, heads, grind (arith, common_steps)); lowest = λ e low high has. absurd (omega (arith, low, high)); number = refl })
+      (record {
+        from = omega arith;
+        to = omega arith;
+        has = (h, heads, grind (arith, common_steps));
+        lowest = λ e low high has. absurd (omega (arith, low, high));
+        number = refl;
+      })
   here h heads false test is rest = later not_here (rest is) where
     not_here : ¬ (HasInherited p a)
     not_here (k, heads_k, short) =

@@ -1,5 +1,6 @@
 -- Why a head decides so, walked through once.
-use Rattle.std.proofs.Common.{ℕ, suc, ◌≡◌, ◌+◌, ◌<◌, ◌≤◌, nat_le, nat_lt, Bool, true, false, ◌&&◌, List, length, Option, Some, None, ◌⊎◌, inl, inr, if◌then◌else◌, refl, sym, ap, ◌∙◌, arith}
+use Rattle.std.proofs.Common.{ℕ, suc, ◌≡◌, ◌+◌, ◌<◌, ◌≤◌, nat_le, nat_lt, Bool, true, false, ◌&&◌, List, length, Option}
+use Rattle.std.proofs.Common.{Some, None, ◌⊎◌, inl, inr, if◌then◌else◌, refl, sym, ap, ◌∙◌, arith}
 use Rattle.std.proofs.lemmas.Grind.{common_steps}
 use Rattle.std.proofs.lemmas.List.{length-replicate}
 use Rattle.erasure_code.specs.Spaces.{bytes_at}
@@ -16,7 +17,10 @@ use Rattle.memc_table.specs.declared.ruling.Ruling.TheVariants.{Refused, Accepte
 use Rattle.group_message.specs.declared.update.Outcome.{Outcome}
 use Rattle.group_calls.specs.declared.decision.Decision.{Decision}
 use Rattle.group_calls.specs.declared.decision.Decision.TheVariants.{Answer, Retry, NoSpace, NeedBlock, Issue}
-use Rattle.group_run.specs.Deciding.{Bytes, Found, Missing, blind_reply, decide_accepted, decide_blind, decide_found, decide_left, decide_placed, decide_ruled, decide_written, held_as, is_blind, is_touch, item_found, length_of, outcome_of, reads_bytes, ruling_with, run_needed, unseen, window}
+use Rattle.group_run.specs.Deciding.{Bytes, Found, Missing, blind_reply, decide_accepted, decide_blind, decide_found}
+use Rattle.group_run.specs.Deciding.{decide_left, decide_placed, decide_ruled, decide_written, held_as, is_blind}
+use Rattle.group_run.specs.Deciding.{is_touch, item_found, length_of, outcome_of, reads_bytes, ruling_with, run_needed}
+use Rattle.group_run.specs.Deciding.{unseen, window}
 use Rattle.group_run.specs.Free.{place_for}
 use Rattle.group_run.specs.Replica.{Replica, last_of, run_in, slot_in}
 use Rattle.law_updates.specs.Decisions.{ReadsFrom}
@@ -97,7 +101,8 @@ Caused space r op read real (Retry n) = FindsFull r op read real n
 Caused space r op read real NoSpace = FindsNone space r op read real
 Caused space r op read real (NeedBlock b) = MissesItem r op read real b ⊎ MissesPlace space r op read real b
 
-module _ (space : ℕ) (r : Replica) (store : Store) (op : Asked) (read : Run → Found) (long : length store.space ≡ space) (reads : ReadsFrom store.space read) where
+module _ (space : ℕ) (r : Replica) (store : Store) (op : Asked) (read : Run → Found) (long : length store.space ≡ space)
+    (reads : ReadsFrom store.space read) where
   -- what the table makes of the op
   abbrev pub real : Ruling
   real = ruling_in store (suc (last_of r)) op
@@ -116,12 +121,24 @@ module _ (space : ℕ) (r : Replica) (store : Store) (op : Asked) (read : Run �
 
         written : (run : Run) → place_for space r (length h.item.value) ≡ Some run → (found : Found) → read run ≡ found
             → Caused space r op read real (decide_written (outcome_of reply) h run found)
-        written run place (Missing b) found = inr (record { run = run; missing = found; written = valued; value = k; takes = takes; place = place-same ∙ place; reads = can; few = few })
+        written run place (Missing b) found =
+            inr (record {
+              run = run;
+              missing = found;
+              written = valued;
+              value = k;
+              takes = takes;
+              place = place-same
+                  ∙ place;
+              reads = can;
+              few = few;
+            })
         written run place (Bytes under) found = issues (λ x is touch. (run, of x is, λ b missing. cc (found, missing))) where
           of : (x : Holding) → leaves ≡ Some x → place_for space r (length x.item.value) ≡ Some run
           of x is = let one : x ≡ k = cc (is, left) in ap (λ (y : Holding). place_for space r (length y.item.value)) one ∙ place-same ∙ place
 
-        placed : (place : Option Run) → place_for space r (length h.item.value) ≡ place → Caused space r op read real (decide_placed read (outcome_of reply) h place)
+        placed : (place : Option Run) → place_for space r (length h.item.value) ≡ place
+            → Caused space r op read real (decide_placed read (outcome_of reply) h place)
         placed None is = record { written = valued; value = k; takes = takes; none = place-same ∙ is; reads = can; few = few }
         placed (Some run) is = written run is (read run) refl
 
@@ -139,17 +156,21 @@ module _ (space : ℕ) (r : Replica) (store : Store) (op : Asked) (read : Run �
     accepted mine alike false full = left (let few : length r.log < window = grind (arith, common_steps) in few) (is_touch op.act) refl mine leaves refl alike
 
   -- a ruling that is alike to the table's
-  caused-ruled : (mine theirs : Ruling) → Alike (is_touch op.act) mine theirs → real ≡ theirs → Readable r op read → Caused space r op read real (decide_ruled space r op read mine)
+  caused-ruled : (mine theirs : Ruling) → Alike (is_touch op.act) mine theirs → real ≡ theirs → Readable r op read
+      → Caused space r op read real (decide_ruled space r op read mine)
   caused-ruled (Refused a) (Refused b) alike ruled can = (ruled ∙ ap Refused (sym alike), inr can)
   caused-ruled (Refused a) (Accepted b m) alike ruled can = absurd alike
   caused-ruled (Accepted a l) (Refused b) alike ruled can = absurd alike
-  caused-ruled (Accepted a l) (Accepted b m) alike ruled can = accepted a m (ruled ∙ ap (λ (x : Reply). Accepted x m) (sym alike.0)) can l alike.1 (nat_le window (length r.log)) refl
+  caused-ruled (Accepted a l) (Accepted b m) alike ruled can =
+      accepted a m (ruled ∙ ap (λ (x : Reply). Accepted x m) (sym alike.0)) can l alike.1 (nat_le window (length r.log))
+      refl
 
   -- the ruling on an item with these bytes
   abbrev ruling_on : Slot → List ℕ → Ruling
   ruling_on = unread.ruling_on r store op
 
-  module _ (slot : Slot) (is : slot_in store.items (key_of op.act) ≡ Some slot) (own_is : slot_in r.items (key_of op.act) ≡ Some slot) (within : slot.at + slot.len ≤ length store.space) where
+  module _ (slot : Slot) (is : slot_in store.items (key_of op.act) ≡ Some slot)
+      (own_is : slot_in r.items (key_of op.act) ≡ Some slot) (within : slot.at + slot.len ≤ length store.space) where
     abbrev own : List ℕ
     own = unread.own r store op slot is within
 
@@ -162,7 +183,8 @@ module _ (space : ℕ) (r : Replica) (store : Store) (op : Asked) (read : Run �
     needed-is o need run is = sym need ∙ ap (run_needed op) (sym own_is) ∙ is
 
     needed-found : ((reply : Reply) → real ≡ Refused reply → ¬ (is_blind (item_length r op) reply ≡ true))
-        → run_needed op (Some slot) ≡ Some (run_in slot) → (found : Found) → read (run_in slot) ≡ found → Caused space r op read real (decide_found space r op read (Some slot) found)
+        → run_needed op (Some slot) ≡ Some (run_in slot) → (found : Found) → read (run_in slot) ≡ found
+        → Caused space r op read real (decide_found space r op read (Some slot) found)
     needed-found seeing need (Missing b) found = inl (record { run = run_in slot; missing = found; needed = ap (run_needed op) own_is ∙ need; seeing = seeing })
     needed-found seeing need (Bytes bytes) found =
         let same : bytes ≡ own = reads (run_in slot) bytes within found in
@@ -173,7 +195,8 @@ module _ (space : ℕ) (r : Replica) (store : Store) (op : Asked) (read : Run �
         there : (run : Run) (b : ℕ) → Some (run_in slot) ≡ Some run → ¬ (read run ≡ Missing b)
         there run b one missing = let same : run_in slot ≡ run = cc one in absurd (cc (found, ap read same, missing))
 
-    needed : ((reply : Reply) → real ≡ Refused reply → ¬ (is_blind (item_length r op) reply ≡ true)) → (b : Bool) → (reads_bytes op.act && is_live op.moment slot.until && nat_lt 0 slot.len) ≡ b
+    needed : ((reply : Reply) → real ≡ Refused reply → ¬ (is_blind (item_length r op) reply ≡ true)) → (b : Bool)
+        → (reads_bytes op.act && is_live op.moment slot.until && nat_lt 0 slot.len) ≡ b
         → Caused space r op read real (decide_found space r op read (Some slot) (item_found read (Some slot) (if b then Some (run_in slot) else None)))
     needed seeing true need = needed-found seeing (ap (λ (b : Bool). if b then Some (run_in slot) else None) need) (read (run_in slot)) refl
     needed seeing false none =
@@ -181,7 +204,8 @@ module _ (space : ℕ) (r : Replica) (store : Store) (op : Asked) (read : Run �
         (unread.unneeded r store op slot is within (reads_bytes op.act) (is_live op.moment slot.until) refl none) (unread.real-on r store op slot is)
         (λ run b needs missing. absurd (cc (needed-is None (ap (λ (b : Bool). if b then Some (run_in slot) else None) none) run needs)))
 
-    item : (blind : Option Reply) → blind_reply slot.len (ruling_on slot (unseen (Some slot))) ≡ blind → Caused space r op read real (decide_blind space r op read (Some slot) blind)
+    item : (blind : Option Reply) → blind_reply slot.len (ruling_on slot (unseen (Some slot))) ≡ blind
+        → Caused space r op read real (decide_blind space r op read (Some slot) blind)
     item (Some reply) blind = (
       unread.blind-item r store op slot is within reply blind,
       inl (ap (λ (n : ℕ). is_blind n reply) item-long ∙ (blind-refused slot.len (ruling_on slot (unseen (Some slot))) reply blind).1),
@@ -195,7 +219,8 @@ module _ (space : ℕ) (r : Replica) (store : Store) (op : Asked) (read : Run �
           = ap (blind_reply slot.len) zeros ∙ ap (λ (b : Bool). if b then Some reply else None) blind_there in
           absurd (cc (blind, some))
 
-  no-item : slot_in store.items (key_of op.act) ≡ None → slot_in r.items (key_of op.act) ≡ None → (blind : Option Reply) → blind_reply 0 (ruling_of op.moment (suc (last_of r)) op.act None) ≡ blind
+  no-item : slot_in store.items (key_of op.act) ≡ None → slot_in r.items (key_of op.act) ≡ None → (blind : Option Reply)
+      → blind_reply 0 (ruling_of op.moment (suc (last_of r)) op.act None) ≡ blind
       → Caused space r op read real (decide_blind space r op read None blind)
   no-item is own_is (Some reply) blind =
       let refused = blind-refused 0 (ruling_of op.moment (suc (last_of r)) op.act None) reply blind in (
@@ -203,11 +228,13 @@ module _ (space : ℕ) (r : Replica) (store : Store) (op : Asked) (read : Run �
         inl (ap (λ (x : Option Slot). is_blind (length_of x) reply) own_is ∙ refused.1),
       )
   no-item is own_is None blind =
-      caused-ruled (ruling_of op.moment (suc (last_of r)) op.act None) (ruling_of op.moment (suc (last_of r)) op.act None) (alike-same (is_touch op.act) _ _ refl)
+      caused-ruled (ruling_of op.moment (suc (last_of r)) op.act None)
+      (ruling_of op.moment (suc (last_of r)) op.act None) (alike-same (is_touch op.act) _ _ refl)
       (ap (λ (x : Option Slot). ruling_of op.moment (suc (last_of r)) op.act (live_at op.moment (held_in store.space x))) is)
       (λ run b needs missing. absurd (cc (ap (run_needed op) (sym own_is) ∙ needs)))
 
-  pub caused : (slot : Option Slot) → slot_in store.items (key_of op.act) ≡ slot → slot_in r.items (key_of op.act) ≡ slot → OfSlot (λ x. x.at + x.len ≤ space) slot
+  pub caused : (slot : Option Slot) → slot_in store.items (key_of op.act) ≡ slot → slot_in r.items (key_of op.act)
+      ≡ slot → OfSlot (λ x. x.at + x.len ≤ space) slot
       → Caused space r op read real (decide_blind space r op read slot (blind_reply (length_of slot) (ruling_with r op slot (unseen slot))))
   caused None is own_is within = no-item is own_is (blind_reply 0 (ruling_of op.moment (suc (last_of r)) op.act None)) refl
   caused (Some slot) is own_is within = item slot is own_is (omega (arith, long, within)) (blind_reply slot.len (ruling_on slot (unseen (Some slot)))) refl

@@ -34,7 +34,8 @@ numbers-alike t n m (Replace key flags expiry value) None = refl
 numbers-alike t n m (Replace key flags expiry value) (Some h) = (refl, refl)
 numbers-alike t n m (Cas key flags expiry cas value) None = refl
 numbers-alike t n m (Cas key flags expiry cas value) (Some h) = by (h.item.cas == cas) where
-  by : (b : Bool) → SameButNumber (if b then anew t n flags expiry value else Refused reply.Exists) (if b then anew t m flags expiry value else Refused reply.Exists)
+  by : (b : Bool) → SameButNumber (if b then anew t n flags expiry value else Refused reply.Exists)
+      (if b then anew t m flags expiry value else Refused reply.Exists)
   by true = (refl, refl)
   by false = refl
 numbers-alike t n m (Delete key) None = refl

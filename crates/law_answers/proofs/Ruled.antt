@@ -1,5 +1,6 @@
 -- What a head decided, by the rules in their order, where nothing stands in the way on the key.
-use Rattle.std.proofs.Common.{ℕ, zero, suc, ◌≡◌, ◌+◌, ◌<◌, ◌≤◌, nat_lt, Bool, true, false, List, length, Option, Some, None, ◌⊎◌, inl, inr, if◌then◌else◌, refl, sym, ap, subst, ◌∙◌, arith}
+use Rattle.std.proofs.Common.{ℕ, zero, suc, ◌≡◌, ◌+◌, ◌<◌, ◌≤◌, nat_lt, Bool, true, false, List, length, Option, Some}
+use Rattle.std.proofs.Common.{None, ◌⊎◌, inl, inr, if◌then◌else◌, refl, sym, ap, subst, ◌∙◌, arith}
 use Rattle.std.proofs.lemmas.Grind.{common_steps}
 use Rattle.std.proofs.lemmas.Bool.{cases_lt}
 use Rattle.std.specs.List.{range_with_len}
@@ -26,7 +27,8 @@ use Rattle.group_run.specs.Asking.{Oldest, act_on, inherited_or, issued, oldest_
 use Rattle.group_run.specs.Heading.{partition}
 use Rattle.group_message.specs.declared.update.Outcome.{Outcome}
 use Rattle.group_message.specs.declared.update.Update.{Update}
-use Rattle.group_run.specs.Causes.{FindsNoRun, FindsWindowFull, HasInherited, Leaves, MissesBlock, NeedsItem, NeedsPlace, WaitsForKey, home_in, replica_for, table_now}
+use Rattle.group_run.specs.Causes.{FindsNoRun, FindsWindowFull, HasInherited, Leaves, MissesBlock, NeedsItem}
+use Rattle.group_run.specs.Causes.{NeedsPlace, WaitsForKey, home_in, replica_for, table_now}
 use Rattle.group_run.specs.Deciding.{Found, Missing, is_blind, is_touch, outcome_of, run_needed, window}
 use Rattle.group_run.specs.Free.{is_free, place_for}
 use Rattle.group_run.specs.Meaning.{process_of}
@@ -35,7 +37,8 @@ use Rattle.group_run.specs.Replica.{Replica, last_of, slot_in}
 use Rattle.group_run.specs.World.{World}
 use Rattle.law_updates.specs.Placing.{IsPlaced}
 use Rattle.law_updates.proofs.Placing.{places_are_best}
-use Rattle.law_answers.specs.Rules.{CanRead, CanWrite, FollowsRules, HasWindow, IsIssued, IsOldestInherited, IsUnhindered, Refuses, RefusesBlindly, WaitsForBlock, bytes_of}
+use Rattle.law_answers.specs.Rules.{CanRead, CanWrite, FollowsRules, HasWindow, IsIssued, IsOldestInherited}
+use Rattle.law_answers.specs.Rules.{IsUnhindered, Refuses, RefusesBlindly, WaitsForBlock, bytes_of}
 use Rattle.law_answers.proofs.Oldest.{IsOldest, is-oldest}
 use Rattle.law_answers.proofs.Reasons.{Accepts, Caused, FindsFull, FindsNone, HasPlace, Issues, MissesItem, MissesPlace, Readable, item_length}
 
@@ -69,7 +72,9 @@ none-inherited p (suc n) a none d low high has = by (head_at p a) refl none (non
   later : (o : Option Head) → inherited_or p a o (oldest_inherited p (range_with_len (a + 1) n)) ≡ None → oldest_inherited p (range_with_len (a + 1) n) ≡ None
   later None none = none
   later (Some h) none = by-test (nat_lt (replica_of p a).applied h.inherited) none where
-    by-test : (b : Bool) → (if b then Some (record { partition = a; number = suc (replica_of p a).applied }) else oldest_inherited p (range_with_len (a + 1) n)) ≡ None
+    by-test : (b : Bool)
+        → (if b then Some (record { partition = a; number = suc (replica_of p a).applied }) else oldest_inherited p
+        (range_with_len (a + 1) n)) ≡ None
         → oldest_inherited p (range_with_len (a + 1) n) ≡ None
     by-test true none = cc none
     by-test false none = none
@@ -86,7 +91,9 @@ module _ (w : World) (p : ProcessId) (op : Asked) where
   pub waits-for-block : (b : ℕ) (o : Option Oldest) → oldest_inherited (process_of w p) (range_with_len 0 w.shape.k) ≡ o
       → WaitsForBlock w p b (retry_block w.shape b o (process_of w p)).answer
   waits-for-block b None is = record {
-    inherited = λ d n oldest. absurd (none-inherited (process_of w p) w.shape.k 0 is d.0 (omega arith) (let low = oldest.partition in omega (arith, low)) oldest.has);
+    inherited = λ d n oldest.
+        absurd (none-inherited (process_of w p) w.shape.k 0 is d.0 (omega arith) (let low = oldest.partition in
+        omega (arith, low)) oldest.has);
     none = λ none. refl;
   }
   waits-for-block b (Some o) is = record {
@@ -103,7 +110,8 @@ module _ (w : World) (p : ProcessId) (op : Asked) where
           let number : o.number ≡ n = first.number ∙ ap (λ (x : ℕ). suc (replica_of (process_of w p) x).applied) e ∙ sym oldest.oldest in
           (λ i. says.Retry (cause.Pending (partition (e i)) (number i)))
 
-      by : (o.partition < d.0) ⊎ (d.0 ≤ o.partition) → (d.0 < o.partition) ⊎ (o.partition ≤ d.0) → says.Retry (cause.Pending (partition o.partition) o.number) ≡ says.Retry (cause.Pending d n)
+      by : (o.partition < d.0) ⊎ (d.0 ≤ o.partition) → (d.0 < o.partition) ⊎ (o.partition ≤ d.0)
+          → says.Retry (cause.Pending (partition o.partition) o.number) ≡ says.Retry (cause.Pending d n)
       by (inl less) other = absurd (oldest.lowest o.partition less first.has)
       by (inr most) (inl less) = absurd (first.lowest d.0 (omega arith) less oldest.has)
       by (inr most) (inr least) = one (omega (arith, most, least))
@@ -111,7 +119,8 @@ module _ (w : World) (p : ProcessId) (op : Asked) where
 -- what the table makes of the op, and what the head's ruling says of it
 pub record Agrees (w : World) (p : ProcessId) (op : Asked) (read : Run → Found) (real : Ruling) : Type 0 where
   pub refusal : (reply : Reply) → real ≡ Refused reply → (reply ≡ reply_of (table_now w) op) × (accepts reply ≡ false)
-  pub accepted : (reply : Reply) (leaves : Option Holding) → real ≡ Accepted reply leaves → (reply ≡ reply_of (table_now w) op) × (accepts reply ≡ true) × (reply_from (outcome_of reply) ≡ reply)
+  pub accepted : (reply : Reply) (leaves : Option Holding) → real ≡ Accepted reply leaves
+      → (reply ≡ reply_of (table_now w) op) × (accepts reply ≡ true) × (reply_from (outcome_of reply) ≡ reply)
   pub left : (k : Holding) → Accepts real (Some k) → (v : Holding) × Leaves w op v × (length k.item.value ≡ length v.item.value)
   pub leaves : (v : Holding) → Leaves w op v → (k : Holding) × Accepts real (Some k)
   pub long : item_length (replica_for w p op) op ≡ bytes_of ((table_now w).items (key_of op.act))
@@ -146,14 +155,17 @@ module _ (w : World) (p : ProcessId) (op : Asked) (y : Head) (read : Run → Fou
   one-left : (u v : Holding) → Leaves w op u → Leaves w op v → u ≡ v
   one-left u v left other = let a = left.1 in let b = other.1 in cc (a, b)
 
-  place-one : (k : Holding) → Accepts real (Some k) → (v : Holding) → Leaves w op v → place_for space r (length k.item.value) ≡ place_for space r (length v.item.value)
+  place-one : (k : Holding) → Accepts real (Some k) → (v : Holding) → Leaves w op v
+      → place_for space r (length k.item.value) ≡ place_for space r (length v.item.value)
   place-one k takes v leaves = by (agrees.left k takes) where
-    by : (u : Holding) × Leaves w op u × (length k.item.value ≡ length u.item.value) → place_for space r (length k.item.value) ≡ place_for space r (length v.item.value)
+    by : (u : Holding) × Leaves w op u × (length k.item.value ≡ length u.item.value)
+        → place_for space r (length k.item.value) ≡ place_for space r (length v.item.value)
     by (u, left, long) = ap (place_for space r) (long ∙ ap (λ (x : Holding). length x.item.value) (one-left u v left leaves))
 
   -- a run that was found leaves no room for want of one
   not-full-space : (k : Holding) → Accepts real (Some k) → (run : Run) → place_for space r (length k.item.value) ≡ Some run → FindsNoRun w p op → ⊥
-  not-full-space k takes run place finds = place-found space r (length finds.value.item.value) run finds.some (sym (place-one k takes finds.value finds.leaves) ∙ place) finds.none
+  not-full-space k takes run place finds = place-found space r (length finds.value.item.value) run finds.some
+      (sym (place-one k takes finds.value finds.leaves) ∙ place) finds.none
 
   finds-none : FindsNone space r op read real → FindsNoRun w p op
   finds-none finds = by (agrees.left finds.value finds.takes) where
@@ -188,7 +200,8 @@ module _ (w : World) (p : ProcessId) (op : Asked) (y : Head) (read : Run → Fou
       refuses : Refuses w op
       refuses = ap accepts (sym replied) ∙ (agrees.refusal reply is).1
 
-      item : (is_blind (item_length r op) reply ≡ true) ⊎ Readable r op read → ¬ (RefusesBlindly w op) → (run : Run) (b : ℕ) → NeedsItem w p op run → MissesBlock w p op run b → ⊥
+      item : (is_blind (item_length r op) reply ≡ true) ⊎ Readable r op read → ¬ (RefusesBlindly w op)
+          → (run : Run) (b : ℕ) → NeedsItem w p op run → MissesBlock w p op run b → ⊥
       item (inl blind) sighted run b needs misses = sighted (refuses, (λ i. is_blind ((sym agrees.long) i) ((sym replied) i)) ∙ blind)
       item (inr can) sighted run b needs misses = not-read can run b needs misses
 
@@ -216,7 +229,9 @@ module _ (w : World) (p : ProcessId) (op : Asked) (y : Head) (read : Run → Fou
       refusal = λ free can refuses. absurd (not-both refuses (Some finds.value) finds.takes);
       full = λ free can d m full. absurd (let few = finds.few in let most = full.full in omega (arith, few, most));
       space = λ free can room none. refl;
-      place = λ free can room run b needs misses. absurd (let a = place-one finds.value finds.takes needs.value needs.leaves in let b = needs.place in let c = finds.none in cc (a, b, c));
+      place = λ free can room run b needs misses.
+          absurd (let a = place-one finds.value finds.takes needs.value needs.leaves in let b = needs.place in
+          let c = finds.none in cc (a, b, c));
       issue = λ free can room placed writes takes. absurd (placed (finds-none finds));
     }
 
@@ -268,7 +283,14 @@ module _ (w : World) (p : ProcessId) (op : Asked) (y : Head) (read : Run → Fou
       unwritten writes = by (agrees.left under.value under.takes) where
         by : (v : Holding) × Leaves w op v × (length under.value.item.value ≡ length v.item.value) → ⊥
         by (v, leaves, long) =
-            writes under.run b (record { written = under.written; value = v; leaves = leaves; place = ap (place_for space r) (sym long) ∙ under.place }) (agrees.misses under.run b under.missing)
+            writes under.run b
+            (record {
+              written = under.written;
+              value = v;
+              leaves = leaves;
+              place = ap (place_for space r) (sym long)
+                  ∙ under.place;
+            }) (agrees.misses under.run b under.missing)
 
     issued-so : (outcome : Outcome) (answer : Answer) → Issues space r op read real outcome → IsIssued w p op answer → FollowsRules w p op answer
     issued-so outcome answer issues is = record {
@@ -303,7 +325,9 @@ module _ (w : World) (p : ProcessId) (op : Asked) (y : Head) (read : Run → Fou
             placed.2 c (ap read same ∙ agrees.missing run c misses)
 
     -- an update that was issued is answered so
-    answered-so : (u : Update) → u.number ≡ suc (last_of r) → reply_from u.outcome ≡ reply_of (table_now w) op → (b : Bool) → IsIssued w p op (ticketed b (home_in w op) u (issued w.shape (home_in w op) y u (process_of w p))).answer
+    answered-so : (u : Update) → u.number ≡ suc (last_of r) → reply_from u.outcome ≡ reply_of (table_now w) op
+        → (b : Bool) → IsIssued w p op
+        (ticketed b (home_in w op) u (issued w.shape (home_in w op) y u (process_of w p))).answer
     answered-so u next replied true = inr (ap says.Reply replied)
     answered-so u next replied false = inl (ap says.Ticket next)
 

@@ -1,5 +1,6 @@
 -- What one message, or a flush, makes a process send to one other.
-use Rattle.std.proofs.Common.{ℕ, suc, ◌≡◌, ◌≢◌, ◌<◌, ◌≤◌, ◌+◌, ◌*◌, ◌==◌, nat_le, Bool, true, false, not, ◌&&◌, List, [], ◌∷◌, ◌++◌, length, AllPairs, Option, Some, None, refl, ap, arith}
+use Rattle.std.proofs.Common.{ℕ, suc, ◌≡◌, ◌≢◌, ◌<◌, ◌≤◌, ◌+◌, ◌*◌, ◌==◌, nat_le, Bool, true, false, not, ◌&&◌, List}
+use Rattle.std.proofs.Common.{[], ◌∷◌, ◌++◌, length, AllPairs, Option, Some, None, refl, ap, arith}
 use Rattle.std.proofs.lemmas.List.FromFn.{length-range_with_len}
 use Rattle.std.specs.List.{range_with_len}
 use Rattle.group_types.specs.Dimensions.{Dimensions}
@@ -16,7 +17,8 @@ use Rattle.group_run.specs.Fitting.{Fits}
 use Rattle.group_run.specs.Heading.{acknowledge, acknowledged, judge, judge_head, other_parities, partition, rank, tell_stable, tell_stables, to_others}
 use Rattle.group_run.specs.Leaders.{close_sessions, copy_kept, copy_marked, mark_comes, mark_taken, row_finished, session_of}
 use Rattle.group_run.specs.Process.{Copy, Gathering, Head, Process}
-use Rattle.group_run.specs.Receiving.{ack_to, data_marks, death_known, enthroned, log_adopted, notice_comes, read_comes, receive, take_over_if, taken_over, takes_over, update_taken}
+use Rattle.group_run.specs.Receiving.{ack_to, data_marks, death_known, enthroned, log_adopted, notice_comes, read_comes}
+use Rattle.group_run.specs.Receiving.{receive, take_over_if, taken_over, takes_over, update_taken}
 use Rattle.group_run.specs.Rows.{accepts_mark, begin_copy, block_in, copy_in, is_marked, marked, parity_number, marks_of, with_copies, without_copy}
 use Rattle.group_run.specs.Locality.{times}
 use Rattle.law_answers.proofs.Counts.{count-append, count-flat, count-one, count-parities, count_to, once-differing, once-range, times-filtered}
@@ -117,7 +119,8 @@ module _ (s : Dimensions) (q : ProcessId) where
       let judged : ProcessStep = for_each (range_with_len 0 s.k) (judge s) closed.process in
       let taken : ProcessStep = for_each (range_with_len 0 s.k) (take_over_if s) judged.process in
       let one = close-sends known.as_leader.sessions known in
-      let two = sent-each 0 (range_with_len 0 s.k) (judge s) closed.process (λ d r. let none = ap (count_to q) (judge-sends d r (head_at r d)) in omega (arith, none)) in
+      let two = sent-each 0 (range_with_len 0 s.k) (judge s) closed.process
+      (λ d r. let none = ap (count_to q) (judge-sends d r (head_at r d)) in omega (arith, none)) in
       let three = sent-each 1 (range_with_len 0 s.k) (take_over_if s) judged.process take-sends in
       let front = count-append q closed.sent judged.sent in
       let whole = count-append q (closed.sent ++ judged.sent) taken.sent in

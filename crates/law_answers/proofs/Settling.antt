@@ -1,5 +1,6 @@
 -- What one step settles.
-use Rattle.std.proofs.Common.{ℕ, zero, suc, ◌≡◌, ◌≤◌, ◌+◌, ◌-◌, ◌==◌, nat_le, Bool, true, false, not, List, [], ◌∷◌, ◌++◌, length, take, drop, find, Option, Some, None, refl, ap, ◌∙◌, arith}
+use Rattle.std.proofs.Common.{ℕ, zero, suc, ◌≡◌, ◌≤◌, ◌+◌, ◌-◌, ◌==◌, nat_le, Bool, true, false, not, List, [], ◌∷◌}
+use Rattle.std.proofs.Common.{◌++◌, length, take, drop, find, Option, Some, None, refl, ap, ◌∙◌, arith}
 use Rattle.std.proofs.lemmas.List.{length-append, length-map, take-append-drop}
 use Rattle.std.proofs.lemmas.List.Sums.{sum_by-cons}
 use Rattle.std.specs.List.{list_any, range_with_len}
@@ -19,12 +20,15 @@ use Rattle.group_calls.specs.Turns.{CallName}
 use Rattle.group_calls.specs.declared.decision.Decision.{Decision}
 use Rattle.group_calls.specs.declared.decision.Decision.TheVariants as decides
 use Rattle.group_run.specs.Applying.{ProcessStep, Settlement, and_then, apply_to, for_each, head_at, held_at, quiet, replica_of, when, with_head, with_replica}
-use Rattle.group_run.specs.Asking.{Oldest, act_on, ask_head, collect_from, collect_held, found_at, handed_out, is_call, issued, oldest_inherited, retry_block, ticketed, update_of}
+use Rattle.group_run.specs.Asking.{Oldest, act_on, ask_head, collect_from, collect_held, found_at, handed_out, is_call}
+use Rattle.group_run.specs.Asking.{issued, oldest_inherited, retry_block, ticketed, update_of}
 use Rattle.group_run.specs.Deciding.{decide}
 use Rattle.group_run.specs.Heading.{acknowledge, acknowledged, judge, judge_head, least_acked, other_parities, settle_to, settlements}
-use Rattle.group_run.specs.Leaders.{close_sessions, copy_kept, copy_marked, lost_of, mark_comes, mark_taken, own_mark, row_finished, session_opened, start_session}
+use Rattle.group_run.specs.Leaders.{close_sessions, copy_kept, copy_marked, lost_of, mark_comes, mark_taken, own_mark}
+use Rattle.group_run.specs.Leaders.{row_finished, session_opened, start_session}
 use Rattle.group_run.specs.Process.{Copy, Gathering, Head, Held, Process}
-use Rattle.group_run.specs.Receiving.{ack_to, death_known, enthroned, log_adopted, notice_comes, read_comes, receive, take_over_if, taken_over, takes_over, update_taken}
+use Rattle.group_run.specs.Receiving.{ack_to, death_known, enthroned, log_adopted, notice_comes, read_comes, receive}
+use Rattle.group_run.specs.Receiving.{take_over_if, taken_over, takes_over, update_taken}
 use Rattle.group_run.specs.Replica.{Replica, applied_to, empty_replica, last_of, up_to, with_update}
 use Rattle.group_run.specs.Rows.{accepts_mark, begin_copy, copy_in, is_marked, marked, parity_number, with_copies, without_copy}
 use Rattle.law_answers.specs.Steps.{AlwaysSettlesFew, waiting}

@@ -1,5 +1,6 @@
 -- What one call makes a process send to one other: an update, or what starts a session.
-use Rattle.std.proofs.Common.{ℕ, suc, ◌≡◌, ◌<◌, ◌≤◌, ◌==◌, nat_le, Bool, true, false, not, ◌&&◌, List, [], ◌∷◌, ◌++◌, length, map, filter, flat_map, find, Option, Some, None, refl, sym, ap, ◌∙◌, arith, cond}
+use Rattle.std.proofs.Common.{ℕ, suc, ◌≡◌, ◌<◌, ◌≤◌, ◌==◌, nat_le, Bool, true, false, not, ◌&&◌, List, [], ◌∷◌, ◌++◌}
+use Rattle.std.proofs.Common.{length, map, filter, flat_map, find, Option, Some, None, refl, sym, ap, ◌∙◌, arith, cond}
 use Rattle.std.proofs.lemmas.Grind.{common_steps}
 use Rattle.std.proofs.lemmas.List.FromFn.{length-range_with_len}
 use Rattle.std.specs.Prelude.{is_some}
@@ -22,10 +23,13 @@ use Rattle.group_calls.specs.Turns.{CallName}
 use Rattle.group_calls.specs.declared.decision.Decision.{Decision}
 use Rattle.group_calls.specs.declared.decision.Decision.TheVariants as decides
 use Rattle.group_run.specs.Applying.{ProcessStep, Sent, apply_to, for_each, head_at, held_at, replica_of, when, with_replica}
-use Rattle.group_run.specs.Asking.{Oldest, act_on, ask_head, collect_from, collect_held, found_at, handed_out, is_call, issued, oldest_inherited, retry_block, ticketed, update_of}
+use Rattle.group_run.specs.Asking.{Oldest, act_on, ask_head, collect_from, collect_held, found_at, handed_out, is_call}
+use Rattle.group_run.specs.Asking.{issued, oldest_inherited, retry_block, ticketed, update_of}
 use Rattle.group_run.specs.Deciding.{Missing, decide}
 use Rattle.group_run.specs.Heading.{judge, partition, rank, to_others}
-use Rattle.group_run.specs.Leaders.{copy_kept, copy_marked, leader_marks, left_of, lost_of, mark_comes, mark_taken, own_mark, row_finished, rows_of, session_of, session_opened, session_starts, start_session}
+use Rattle.group_run.specs.Leaders.{copy_kept, copy_marked, leader_marks, left_of, lost_of, mark_comes, mark_taken}
+use Rattle.group_run.specs.Leaders.{own_mark, row_finished, rows_of, session_of, session_opened, session_starts}
+use Rattle.group_run.specs.Leaders.{start_session}
 use Rattle.group_run.specs.Process.{Copy, Head, Held, Process}
 use Rattle.group_run.specs.Replica.{Replica, with_update}
 use Rattle.group_run.specs.Rows.{accepts_mark, begin_copy, copy_begun, copy_in, is_copy, is_marked, marked, parity_number, with_copies, without_copy}
@@ -63,7 +67,8 @@ copy-led copies leader number c is = by (c.leader == leader) (c.number == number
 module _ (s : Dimensions) (q : ProcessId) where
   -- a leader's mark in its own row is not sent
   row-silent : (c : Copy) (p : Process) → p.name ≡ ParityNode c.leader → (row_finished (same_process p.name (ParityNode c.leader)) s c p).sent ≡ []
-  row-silent c p own = ap (λ (b : Bool). (row_finished b s c p).sent) (ap (λ (x : ProcessId). same_process x (ParityNode c.leader)) own ∙ same-refl (ParityNode c.leader))
+  row-silent c p own = ap (λ (b : Bool). (row_finished b s c p).sent)
+      (ap (λ (x : ProcessId). same_process x (ParityNode c.leader)) own ∙ same-refl (ParityNode c.leader))
 
   kept-silent : (all : Bool) (c : Copy) (p : Process) → p.name ≡ ParityNode c.leader → (copy_kept all s c p).sent ≡ []
   kept-silent true c p own = row-silent c (with_copies (without_copy c.leader c.number p.as_row.copies) p) own
@@ -108,7 +113,8 @@ module _ (s : Dimensions) (q : ProcessId) where
     of c is = copy-led after.as_row.copies leader number c is
 
     by : (b : Bool)
-        → ((when b p (mark_taken s leader number block d n p)).sent ≡ []) × ((when b p (mark_taken s leader number block d n p)).process.name ≡ ParityNode leader)
+        → ((when b p (mark_taken s leader number block d n p)).sent ≡ [])
+        × ((when b p (mark_taken s leader number block d n p)).process.name ≡ ParityNode leader)
     by true = (
       marked-silent d n (copy_in after.as_row.copies leader number) after leader name of,
       marked-name d n
@@ -116,7 +122,8 @@ module _ (s : Dimensions) (q : ProcessId) where
     )
     by false = (refl, own)
 
-  pub owns-silent : (leader number block : ℕ) (ls : List ℕ) (p : Process) → p.name ≡ ParityNode leader → (for_each ls (own_mark s leader number block) p).sent ≡ []
+  pub owns-silent : (leader number block : ℕ) (ls : List ℕ) (p : Process) → p.name ≡ ParityNode leader
+      → (for_each ls (own_mark s leader number block) p).sent ≡ []
   owns-silent leader number block [] p own = refl
   owns-silent leader number block (l ∷ ls) p own =
       let here = own-silent leader number (at 0 p.ranks l) block l (replica_of p l).applied p own in
@@ -148,7 +155,8 @@ module _ (s : Dimensions) (q : ProcessId) where
       omega (arith, left, marks, many, all, both)
     where
       once : (j : ℕ) → times j (left_of s p) ≤ 1
-      once j = let less = times-filtered (λ d. not (knows_dead p.known (DataNode d))) j (range_with_len 0 s.k) in let one = once-range j 0 s.k in omega (arith, less, one)
+      once j = let less = times-filtered (λ d. not (knows_dead p.known (DataNode d))) j (range_with_len 0 s.k) in
+          let one = once-range j 0 s.k in omega (arith, less, one)
 
   start-sends : (block : ℕ) (p : Process) → IsParity p.name → count_to q (start_session s block p).sent ≤ suc s.k
   start-sends block p parity =

@@ -1,5 +1,7 @@
 -- Each ticket is of a call that was asked, and no two are of one call.
-use Rattle.std.proofs.Common.{ℕ, zero, suc, ◌≡◌, ◌≢◌, ◌<◌, ◌≤◌, Bool, true, false, List, [], ◌∷◌, ◌++◌, length, map, All, AllPairs, Option, Some, None, ◌⊎◌, inl, inr, refl, sym, ap, subst, ◌∙◌, arith, if◌then◌else◌}
+use Rattle.std.proofs.Common.{ℕ, zero, suc, ◌≡◌, ◌≢◌, ◌<◌, ◌≤◌, Bool, true, false, List, [], ◌∷◌, ◌++◌, length, map}
+use Rattle.std.proofs.Common.{All, AllPairs, Option, Some, None, ◌⊎◌, inl, inr, refl, sym, ap, subst, ◌∙◌, arith}
+use Rattle.std.proofs.Common.{if◌then◌else◌}
 use Rattle.std.proofs.lemmas.Bool.{cases_eq}
 use Rattle.std.specs.List.{list_any}
 use Rattle.group_types.specs.Lists.{at, put}
@@ -13,7 +15,8 @@ use Rattle.group_calls.specs.declared.event.Answer.{Answer}
 use Rattle.group_calls.specs.declared.event.Event.{Event}
 use Rattle.group_calls.specs.declared.event.Event.TheVariants.{Ask, Collect, Deliver, Fail, Flush, Trace}
 use Rattle.group_run.specs.Headline.{IsRun, MayCome}
-use Rattle.group_run.specs.World.{Call, Ticket, World, after, asked_after, call_of, group_step, is_issued, next_name, op_moved, ops_moved, same_call, step, ticket_if, tickets_after}
+use Rattle.group_run.specs.World.{Call, Ticket, World, after, asked_after, call_of, group_step, is_issued, next_name}
+use Rattle.group_run.specs.World.{op_moved, ops_moved, same_call, step, ticket_if, tickets_after}
 use Rattle.law_log.specs.Book.{book_of, booked}
 use Rattle.law_log.proofs.Books.{book-world, book_always}
 use Rattle.law_answers.specs.Tickets.{TicketsAlways, TicketsStand}
@@ -90,7 +93,8 @@ module _ (logged : List Entry) where
     by true = refl
     by false = refl
 
-  each-moved : (P Q : Ticket → Type 0) → ((t : Ticket) → P t → Q (op_moved logged t)) → (tickets : List Ticket) → Each P tickets → Each Q (map (op_moved logged) tickets)
+  each-moved : (P Q : Ticket → Type 0) → ((t : Ticket) → P t → Q (op_moved logged t)) → (tickets : List Ticket)
+      → Each P tickets → Each Q (map (op_moved logged) tickets)
   each-moved P Q turns [] all = tt
   each-moved P Q turns (t ∷ ts) all = (turns t all.0, each-moved P Q turns ts all.1)
 

@@ -1,5 +1,6 @@
 -- The cause of each answer to a trace.
-use Rattle.std.proofs.Common.{ℕ, zero, suc, ◌≡◌, ◌≢◌, ◌<◌, ◌≤◌, ◌+◌, nat_lt, Bool, true, false, not, ◌==◌, ◌&&◌, ◌||◌, if◌then◌else◌, ◌∷◌, Option, Some, None, ◌⊎◌, inl, inr, refl, sym, ap, subst, ◌∙◌, arith}
+use Rattle.std.proofs.Common.{ℕ, zero, suc, ◌≡◌, ◌≢◌, ◌<◌, ◌≤◌, ◌+◌, nat_lt, Bool, true, false, not, ◌==◌, ◌&&◌, ◌||◌}
+use Rattle.std.proofs.Common.{if◌then◌else◌, ◌∷◌, Option, Some, None, ◌⊎◌, inl, inr, refl, sym, ap, subst, ◌∙◌, arith}
 use Rattle.std.proofs.lemmas.Bool.{cases_eq}
 use Rattle.std.proofs.lemmas.Grind.{common_steps}
 use Rattle.std.specs.Prelude.{filter, is_some, option_map}
@@ -35,18 +36,23 @@ use Rattle.law_answers.proofs.Walks.{is-down, is-up, not-down}
 -- a test that all members pass that another one lets through
 every-other : (f g : ℕ → Bool) (n a i : ℕ) → a ≤ i → i < a + n → g i ≡ true → list_all f (filter g (range_with_len a n)) ≡ true → f i ≡ true
 every-other f g zero a i low high lets all = absurd (omega (arith, low, high))
-every-other f g (suc n) a i low high lets all = by (g a) refl all (cases_eq i a) (λ later. every-other f g n (a + 1) i (omega (arith, later)) (omega (arith, high)) lets) where
-  by : (b : Bool) → g a ≡ b → list_all f (if b then a ∷ filter g (range_with_len (a + 1) n) else filter g (range_with_len (a + 1) n)) ≡ true → (i ≡ a) ⊎ (i ≢ a)
-      → (a < i → list_all f (filter g (range_with_len (a + 1) n)) ≡ true → f i ≡ true) → f i ≡ true
-  by true test all (inl same) later = ap f same ∙ (both (f a) (list_all f (filter g (range_with_len (a + 1) n))) all).0
-  by true test all (inr other) later = later (omega (arith, low, other)) (both (f a) (list_all f (filter g (range_with_len (a + 1) n))) all).1
-  by false test all (inl same) later = absurd (let lets_it : g a ≡ true = ap g (sym same) ∙ lets in cc (lets_it, test))
-  by false test all (inr other) later = later (omega (arith, low, other)) all
+every-other f g (suc n) a i low high lets all =
+    by (g a) refl all (cases_eq i a) (λ later. every-other f g n (a + 1) i (omega (arith, later)) (omega (arith, high))
+    lets) where
+      by : (b : Bool) → g a ≡ b
+          → list_all f (if b then a ∷ filter g (range_with_len (a + 1) n) else filter g (range_with_len (a + 1) n))
+          ≡ true → (i ≡ a) ⊎ (i ≢ a)
+          → (a < i → list_all f (filter g (range_with_len (a + 1) n)) ≡ true → f i ≡ true) → f i ≡ true
+      by true test all (inl same) later = ap f same ∙ (both (f a) (list_all f (filter g (range_with_len (a + 1) n))) all).0
+      by true test all (inr other) later = later (omega (arith, low, other)) (both (f a) (list_all f (filter g (range_with_len (a + 1) n))) all).1
+      by false test all (inl same) later = absurd (let lets_it : g a ≡ true = ap g (sym same) ∙ lets in cc (lets_it, test))
+      by false test all (inr other) later = later (omega (arith, low, other)) all
 
 all-others : (f g : ℕ → Bool) (n a : ℕ) → ((i : ℕ) → a ≤ i → i < a + n → g i ≡ true → f i ≡ true) → list_all f (filter g (range_with_len a n)) ≡ true
 all-others f g zero a each = refl
 all-others f g (suc n) a each = by (g a) refl (all-others f g n (a + 1) (λ i low high. each i (omega (arith, low)) (omega (arith, high)))) where
-  by : (b : Bool) → g a ≡ b → list_all f (filter g (range_with_len (a + 1) n)) ≡ true → list_all f (if b then a ∷ filter g (range_with_len (a + 1) n) else filter g (range_with_len (a + 1) n)) ≡ true
+  by : (b : Bool) → g a ≡ b → list_all f (filter g (range_with_len (a + 1) n)) ≡ true
+      → list_all f (if b then a ∷ filter g (range_with_len (a + 1) n) else filter g (range_with_len (a + 1) n)) ≡ true
   by true test rest = ap (λ (b : Bool). b && list_all f (filter g (range_with_len (a + 1) n))) (each a (omega arith) (omega arith) test) ∙ rest
   by false test rest = rest
 
@@ -56,7 +62,8 @@ module _ (w : World) (p : ProcessId) (name : (process_of w p).name ≡ p) (h : H
 
   lets-it : (i : ℕ) → ParityNode i ≢ p → knows_dead (process_of w p).known (ParityNode i) ≡ false → lets i ≡ true
   lets-it i other living =
-      ap (λ (b : Bool). not b && not (knows_dead (process_of w p).known (ParityNode i))) (same-ne (process_of w p).name (ParityNode i) (λ same. other (sym same ∙ name)))
+      ap (λ (b : Bool). not b && not (knows_dead (process_of w p).known (ParityNode i)))
+      (same-ne (process_of w p).name (ParityNode i) (λ same. other (sym same ∙ name)))
       ∙ ap not living
 
   pub lets-is : (i : ℕ) → lets i ≡ true → (ParityNode i ≢ p) × (knows_dead (process_of w p).known (ParityNode i) ≡ false)
@@ -65,7 +72,12 @@ module _ (w : World) (p : ProcessId) (name : (process_of w p).name ≡ p) (h : H
         → (not a && not b) ≡ true → (ParityNode i ≢ p) × (knows_dead (process_of w p).known (ParityNode i) ≡ false)
     by true same b is e = absurd (cc e)
     by false same true is e = absurd (cc e)
-    by false same false is e = ((λ equal. let yes : same_process (process_of w p).name (ParityNode i) ≡ true = ap (λ (z : ProcessId). same_process z (ParityNode i)) (name ∙ sym equal) ∙ same-refl (ParityNode i) in cc (yes, same)), is)
+    by false same false is e = (
+      (λ equal. let yes : same_process (process_of w p).name (ParityNode i)
+          ≡ true = ap (λ (z : ProcessId). same_process z (ParityNode i)) (name ∙ sym equal) ∙ same-refl (ParityNode i) in
+          cc (yes, same)),
+      is,
+    )
 
   some-it : (o : Option ℕ) → is_some o ≡ true → o ≢ None
   some-it None is none = cc is
@@ -77,9 +89,14 @@ module _ (w : World) (p : ProcessId) (name : (process_of w p).name ≡ p) (h : H
 
   adopted-from : is_adopted w.shape (process_of w p) h ≡ true → IsAdopted w p h
   adopted-from is = by (h.rank == 0) refl is where
-    by : (b : Bool) → (h.rank == 0) ≡ b → (b || list_all (λ i. is_some (at None h.acks i)) (other_parities w.shape.m (process_of w p).name (process_of w p).known)) ≡ true → IsAdopted w p h
+    by : (b : Bool) → (h.rank == 0) ≡ b
+        → (b || list_all (λ i. is_some (at None h.acks i))
+        (other_parities w.shape.m (process_of w p).name (process_of w p).known)) ≡ true → IsAdopted w p h
     by true first all = inl (grind (arith, common_steps))
-    by false first all = inr (λ i low other living. some-it (at None h.acks i) (every-other (λ j. is_some (at None h.acks j)) lets w.shape.m 0 i (omega arith) (omega (arith, low)) (lets-it i other living) all))
+    by false first all =
+        inr (λ i low other living. some-it (at None h.acks i)
+        (every-other (λ j. is_some (at None h.acks j)) lets w.shape.m 0 i (omega arith) (omega (arith, low))
+        (lets-it i other living) all))
 
   adopted-is : IsAdopted w p h → is_adopted w.shape (process_of w p) h ≡ true
   adopted-is (inl first) =
@@ -95,25 +112,33 @@ module _ (w : World) (p : ProcessId) (name : (process_of w p).name ≡ p) (h : H
     either true = refl
     either false = all
 
-module _ (w : World) (p : ProcessId) (name : (process_of w p).name ≡ p) (caller call d : ℕ) (h : Head) (heads : head_at (process_of w p) d ≡ Some h) (up : IsUp w p) (ready : IsReady w p d) where
+module _ (w : World) (p : ProcessId) (name : (process_of w p).name ≡ p) (caller call d : ℕ) (h : Head)
+    (heads : head_at (process_of w p) d ≡ Some h) (up : IsUp w p) (ready : IsReady w p d) where
   open-fate : IsOpen w p caller call d → (b : Bool) → is_adopted w.shape (process_of w p) h ≡ b → TraceCause w p caller call d (gone_or b)
   open-fate is true adopted = (up, ready, (is, (h, heads, adopted-from w p name h adopted)))
   open-fate is false adopted = (up, ready, inr (is, (h, heads, λ all. let yes = adopted-is w p name h all in cc (yes, adopted))))
 
   module _ (unlogged : is_in_log caller call (replica_of (process_of w p) d).log ≡ false) where
     kept-fate : (kept : Kept) → kept_at w p d caller ≡ Some kept → (b c : Bool) → (kept.call == call) ≡ b → nat_lt call kept.call ≡ c
-        → TraceCause w p caller call d (if b then says.Reply (reply_from kept.outcome) else (if c then says.Stale kept.call else gone_or (is_adopted w.shape (process_of w p) h)))
+        → TraceCause w p caller call d
+        (if b then says.Reply (reply_from kept.outcome) else
+        (if c then says.Stale kept.call else gone_or (is_adopted w.shape (process_of w p) h)))
     kept-fate kept is true c test less = (up, ready, (unlogged, (kept, is, grind (arith, common_steps), refl)))
     kept-fate kept is false true test less = (up, ready, (unlogged, (kept, is, refl, grind (arith, common_steps))))
     kept-fate kept is false false test less =
         let apart : kept.call ≢ call = grind (arith, common_steps) in
         let most : kept.call ≤ call = grind (arith, common_steps) in
         open-fate
-        (record { not_in_log = unlogged; earlier = λ other there. let same : other ≡ kept = cc (there, is) in subst (λ (k : Kept). k.call < call) (sym same) (omega (arith, apart, most)) })
+        (record {
+          not_in_log = unlogged;
+          earlier = λ other there. let same : other ≡ kept = cc (there, is) in
+              subst (λ (k : Kept). k.call < call) (sym same) (omega (arith, apart, most));
+        })
         (is_adopted w.shape (process_of w p) h) refl
 
     fate-from : (o : Option Kept) → kept_at w p d caller ≡ o → TraceCause w p caller call d (fate_from (is_adopted w.shape (process_of w p) h) call o)
-    fate-from None is = open-fate (record { not_in_log = unlogged; earlier = λ other there. absurd (cc (there, is)) }) (is_adopted w.shape (process_of w p) h) refl
+    fate-from None is = open-fate (record { not_in_log = unlogged; earlier = λ other there. absurd (cc (there, is)) })
+        (is_adopted w.shape (process_of w p) h) refl
     fate-from (Some kept) is = kept-fate kept is (kept.call == call) (nat_lt call kept.call) refl refl
 
   fate-cause : (b : Bool) → is_in_log caller call (replica_of (process_of w p) d).log ≡ b
@@ -127,17 +152,21 @@ module _ (h : History) (framed : FramedHistory h) (members : Members h.world.sha
 
   traces : TracesHaveCauses h.world
   traces caller call d p may = by (node_of h.world p).down (node_of h.world p).dead refl refl where
-    by_head : IsUp h.world p → (o : Option Head) → head_at (process_of h.world p) d.0 ≡ o → TraceCause h.world p caller call d.0 (fate_of h.world.shape caller call d.0 (process_of h.world p) o)
+    by_head : IsUp h.world p → (o : Option Head) → head_at (process_of h.world p) d.0 ≡ o
+        → TraceCause h.world p caller call d.0 (fate_of h.world.shape caller call d.0 (process_of h.world p) o)
     by_head up None heads = (up, λ ready. no_seat (seat-from-ready h members p d.0 may.3 up.process may.2 ready)) where
       no_seat : (r : ℕ) × (seat_of (process_of h.world p) d.0 ≡ Some r) → ⊥
       no_seat seat = absurd (cc (seat.1, ap (option_map (λ (y : Head). y.rank)) heads))
     by_head up (Some y) heads =
-        fate-cause h.world p (members.named p may.3) caller call d.0 y heads up (ready-from h members p d.0 may.3 up.process may.2 y.rank (seat-head (process_of h.world p) d.0 y heads))
+        fate-cause h.world p (members.named p may.3) caller call d.0 y heads up
+        (ready-from h members p d.0 may.3 up.process may.2 y.rank (seat-head (process_of h.world p) d.0 y heads))
         (is_in_log caller call (replica_of (process_of h.world p) d.0).log) refl
 
     by : (down dead : Bool) → (node_of h.world p).down ≡ down → (node_of h.world p).dead ≡ dead
         → TraceCause h.world p caller call d.0
-        (if_up down dead (node_of h.world p) (unchanged (fate_of h.world.shape caller call d.0 (process_of h.world p) (head_at (process_of h.world p) d.0)) (node_of h.world p))).answer
+        (if_up down dead (node_of h.world p)
+        (unchanged (fate_of h.world.shape caller call d.0 (process_of h.world p) (head_at (process_of h.world p) d.0))
+        (node_of h.world p))).answer
     by true dead isdown isdead = is-down h.world h.settled framed p may.3 isdown
     by false true isdown isdead = (not-down h.world h.settled framed p may.3 isdown, isdead)
     by false false isdown isdead = by_head (is-up h.world h.settled framed p may.3 isdown isdead) (head_at (process_of h.world p) d.0) refl

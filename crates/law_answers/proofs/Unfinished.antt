@@ -1,5 +1,7 @@
 -- An update that gets a ticket is unfinished after the step.
-use Rattle.std.proofs.Common.{ℕ, zero, suc, ◌≡◌, ◌≢◌, ◌<◌, ◌≤◌, ◌+◌, ◌-◌, nat_le, Bool, true, false, not, ◌&&◌, [], ◌∷◌, ◌++◌, length, take, drop, Option, Some, ◌⊎◌, inl, inr, if◌then◌else◌, refl, ap, subst, ◌∙◌, arith}
+use Rattle.std.proofs.Common.{ℕ, zero, suc, ◌≡◌, ◌≢◌, ◌<◌, ◌≤◌, ◌+◌, ◌-◌, nat_le, Bool, true, false, not, ◌&&◌, [], ◌∷◌}
+use Rattle.std.proofs.Common.{◌++◌, length, take, drop, Option, Some, ◌⊎◌, inl, inr, if◌then◌else◌, refl, ap, subst}
+use Rattle.std.proofs.Common.{◌∙◌, arith}
 use Rattle.std.proofs.lemmas.Bool.{cases_lt}
 use Rattle.std.proofs.lemmas.Grind.{common_steps}
 use Rattle.std.proofs.lemmas.List.{length-append, take-append-drop, take_all}
@@ -26,7 +28,8 @@ least-lags : (h : Head) (last : ℕ) (test : ℕ → Bool) (n a : ℕ) → least
     → (i : ℕ) × (a ≤ i) × (i < a + n) × (test i ≡ true) × (acked_by h i < last)
 least-lags h last test zero a lags = absurd (omega (arith, lags))
 least-lags h last test (suc n) a lags = by (test a) refl lags (λ less. more (least-lags h last test n (a + 1) less)) where
-  more : (i : ℕ) × (a + 1 ≤ i) × (i < a + 1 + n) × (test i ≡ true) × (acked_by h i < last) → (i : ℕ) × (a ≤ i) × (i < a + suc n) × (test i ≡ true) × (acked_by h i < last)
+  more : (i : ℕ) × (a + 1 ≤ i) × (i < a + 1 + n) × (test i ≡ true) × (acked_by h i < last) → (i : ℕ) × (a ≤ i)
+      × (i < a + suc n) × (test i ≡ true) × (acked_by h i < last)
   more (i, low, high, lets, less) = (i, omega (arith, low), omega (arith, high), lets, less)
 
   here : test a ≡ true → least_acked h last (a ∷ filter test (range_with_len (a + 1) n)) < last → (acked_by h a < last) ⊎ (last ≤ acked_by h a)
@@ -79,11 +82,13 @@ module _ (s : Dimensions) (d : ℕ) (h : Head) (u : Update) (p : Process) (heads
     by (inr most) =
         let long = length-append r.log (u ∷ []) in
         let last = last-grown in
-        let all : take (least - r.applied) (r.log ++ u ∷ []) ≡ r.log ++ u ∷ [] = take_all (least - r.applied) (r.log ++ u ∷ []) (omega (arith, long, last, most, next)) in
+        let all : take (least - r.applied) (r.log ++ u ∷ []) ≡ r.log ++ u ∷ [] =
+        take_all (least - r.applied) (r.log ++ u ∷ []) (omega (arith, long, last, most, next)) in
         let size : length (take (least - r.applied) (r.log ++ u ∷ [])) ≡ length (r.log ++ u ∷ []) = ap length all in
         absurd (omega (arith, size, long, short, next))
 
-  module _ (w after : World) (q : ProcessId) (is : p ≡ process_of w q) (name : (process_of w q).name ≡ q) (same : process_of after q ≡ holding d u (issued s d h u p).process)
+  module _ (w after : World) (q : ProcessId) (is : p ≡ process_of w q) (name : (process_of w q).name ≡ q)
+      (same : process_of after q ≡ holding d u (issued s d h u p).process)
       (waits : nat_le u.number (replica_of (issued s d h u p).process d).applied ≡ false) (many : s.m ≡ after.shape.m) where
     process-is : process_of after q ≡ holding d u (apply_to s d least grown)
     process-is = same ∙ ap (holding d u) issued-is
@@ -93,24 +98,39 @@ module _ (s : Dimensions) (d : ℕ) (h : Head) (u : Update) (p : Process) (heads
 
     short : (applied_to least (with_update u r)).applied < u.number
     short =
-        let e : (replica_of (issued s d h u p).process d).applied ≡ (applied_to least (with_update u r)).applied = ap (λ (x : Process). (replica_of x d).applied) issued-is
+        let e : (replica_of (issued s d h u p).process d).applied ≡ (applied_to least (with_update u r)).applied =
+        ap (λ (x : Process). (replica_of x d).applied) issued-is
         ∙ ap (λ (x : Replica). x.applied) replica-after in
         let low : (replica_of (issued s d h u p).process d).applied < u.number = grind (arith, common_steps) in
         omega (arith, e, low)
 
-    lagging : (i : ℕ) × (0 ≤ i) × (i < 0 + s.m) × ((not (same_process p.name (ParityNode i)) && not (knows_dead p.known (ParityNode i))) ≡ true) × (acked_by h i < last_of (replica_of grown d))
-    lagging = least-lags h (last_of (replica_of grown d)) (λ i. not (same_process p.name (ParityNode i)) && not (knows_dead p.known (ParityNode i))) s.m 0 (least-low short)
+    lagging : (i : ℕ) × (0 ≤ i) × (i < 0 + s.m)
+        × ((not (same_process p.name (ParityNode i)) && not (knows_dead p.known (ParityNode i))) ≡ true)
+        × (acked_by h i < last_of (replica_of grown d))
+    lagging = least-lags h (last_of (replica_of grown d))
+        (λ i. not (same_process p.name (ParityNode i)) && not (knows_dead p.known (ParityNode i))) s.m 0
+        (least-low short)
 
     not-acked : (i : ℕ) → acked_by h i < last_of (replica_of grown d) → ¬ (HasAcked h i u.number)
     not-acked i less (a, acked, most) =
         let e : acked_by h i ≡ a = ap (λ (o : Option ℕ). unwrap_or o 0) acked in
         let last = last-grown in absurd (omega (arith, e, last, less, most))
 
-    waiting : (i : ℕ) × (0 ≤ i) × (i < 0 + s.m) × ((not (same_process p.name (ParityNode i)) && not (knows_dead p.known (ParityNode i))) ≡ true) × (acked_by h i < last_of (replica_of grown d))
+    waiting : (i : ℕ) × (0 ≤ i) × (i < 0 + s.m)
+        × ((not (same_process p.name (ParityNode i)) && not (knows_dead p.known (ParityNode i))) ≡ true)
+        × (acked_by h i < last_of (replica_of grown d))
         → (i : ℕ) × (i < after.shape.m) × (ParityNode i ≢ q) × (knows_dead (process_of after q).known (ParityNode i) ≡ false) × (¬ (HasAcked h i u.number))
     waiting (i, low, high, lets, less) =
-        let both = lets-is w q name h i (subst (λ (x : Process). (not (same_process x.name (ParityNode i)) && not (knows_dead x.known (ParityNode i))) ≡ true) is lets) in
-        (i, omega (arith, high, many), both.0, ap (λ (x : Process). knows_dead x.known (ParityNode i)) process-is ∙ ap (λ (x : Process). knows_dead x.known (ParityNode i)) is ∙ both.1, not-acked i less)
+        let both = lets-is w q name h i
+        (subst (λ (x : Process). (not (same_process x.name (ParityNode i)) && not (knows_dead x.known (ParityNode i)))
+        ≡ true) is lets) in (
+          i,
+          omega (arith, high, many),
+          both.0,
+          ap (λ (x : Process). knows_dead x.known (ParityNode i)) process-is
+              ∙ ap (λ (x : Process). knows_dead x.known (ParityNode i)) is ∙ both.1,
+          not-acked i less,
+        )
 
     pub unfinished : IsUnfinished after q d u.number h
     unfinished = record {

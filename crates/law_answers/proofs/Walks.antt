@@ -1,5 +1,7 @@
 -- The causes that are read off the nodes alone: of deliveries, failures, flushes and collects.
-use Rattle.std.proofs.Common.{cond, ℕ, zero, suc, ◌≡◌, ◌≢◌, ◌<◌, ◌≤◌, ◌+◌, nat_le, nat_lt, Bool, true, false, List, [], ◌∷◌, length, slice_index_or, Option, Some, None, ◌⊎◌, inl, inr, refl, sym, ap, subst, ◌∙◌, arith}
+use Rattle.std.proofs.Common.{cond, ℕ, zero, suc, ◌≡◌, ◌≢◌, ◌<◌, ◌≤◌, ◌+◌, nat_le, nat_lt, Bool, true, false, List, []}
+use Rattle.std.proofs.Common.{◌∷◌, length, slice_index_or, Option, Some, None, ◌⊎◌, inl, inr, refl, sym, ap, subst, ◌∙◌}
+use Rattle.std.proofs.Common.{arith}
 use Rattle.std.proofs.lemmas.Grind.{common_steps}
 use Rattle.std.proofs.lemmas.Bool.{cases_eq}
 use Rattle.std.specs.Prelude.{Contains, find}
@@ -20,10 +22,12 @@ use Rattle.group_run.specs.Process.{Held}
 use Rattle.group_run.specs.World.{World, after, all_change, dead_nodes, delivered, flush_process, if_up, node_of, treated}
 use Rattle.law_moves.proofs.Events.{Framed, FramedHistory}
 use Rattle.law_moves.proofs.Runs.{framed-from, framed-opening, world-from}
-use Rattle.law_answers.specs.Laws.{CollectsAlways, CollectsHaveCauses, DeliveriesAlways, DeliveriesHaveCauses, FailuresAlways, FailuresHaveCauses, FlushesAlways, FlushesHaveCauses}
+use Rattle.law_answers.specs.Laws.{CollectsAlways, CollectsHaveCauses, DeliveriesAlways, DeliveriesHaveCauses}
+use Rattle.law_answers.specs.Laws.{FailuresAlways, FailuresHaveCauses, FlushesAlways, FlushesHaveCauses}
 
 -- the frame of the group after a run
-pub framed-after : (s : Dimensions) (es : List Event) → IsRun s es → (w : World) → w ≡ after s es → (settled : List (List Update)) × Framed w.shape w.nodes settled
+pub framed-after : (s : Dimensions) (es : List Event) → IsRun s es → (w : World) → w ≡ after s es
+    → (settled : List (List Update)) × Framed w.shape w.nodes settled
 framed-after s es run w is =
     let h : History = history_of s es in
     let framed : FramedHistory h = framed-from (no_history s) es (framed-opening s) run.1 in
@@ -37,7 +41,8 @@ found-there test (y ∷ ys) x is = by (test y) refl is (found-there test ys x) w
   later : Contains ys x × (test x ≡ true) → Contains (y ∷ ys) x × (test x ≡ true)
   later ((k, low, there), passes) = ((suc k, omega (arith, low), there), passes)
 
-  by : (b : Bool) → test y ≡ b → cond b (Some y) (find test ys) ≡ Some x → (find test ys ≡ Some x → Contains ys x × (test x ≡ true)) → Contains (y ∷ ys) x × (test x ≡ true)
+  by : (b : Bool) → test y ≡ b → cond b (Some y) (find test ys) ≡ Some x
+      → (find test ys ≡ Some x → Contains ys x × (test x ≡ true)) → Contains (y ∷ ys) x × (test x ≡ true)
   by true passes is there = let same : y ≡ x = cc is in ((0, omega arith, same), ap test (sym same) ∙ passes)
   by false fails is there = later (there is)
 
@@ -108,7 +113,8 @@ module _ (w : World) (settled : List (List Update)) (framed : Framed w.shape w.n
             absurd (cc (not, holds.named))
 
       by : (o : Option Held) → find (is_call caller call) (held_at (process_of w p) a) ≡ o
-          → (((d : ℕ) (h : Held) → d < a + 1 → ¬ (HoldsCall w p caller call d h)) → CollectCause w p caller call (collect_from caller call (process_of w p) (range_with_len (a + 1) n)).answer)
+          → (((d : ℕ) (h : Held) → d < a + 1 → ¬ (HoldsCall w p caller call d h)) → CollectCause w p caller call
+          (collect_from caller call (process_of w p) (range_with_len (a + 1) n)).answer)
           → CollectCause w p caller call (collect_held a o (process_of w p) (collect_from caller call (process_of w p) (range_with_len (a + 1) n))).answer
       by None found later = later (still found)
       by (Some x) found later =
@@ -118,7 +124,10 @@ module _ (w : World) (settled : List (List Update)) (framed : Framed w.shape w.n
   pub collects : CollectsHaveCauses w
   collects caller call p may = by (node_of w p).down (node_of w p).dead refl refl where
     by : (down dead : Bool) → (node_of w p).down ≡ down → (node_of w p).dead ≡ dead
-        → CollectCause w p caller call (if_up down dead (node_of w p) (treated w.shape (node_of w p) (collect_from caller call (process_of w p) (range_with_len 0 w.shape.k)))).answer
+        → CollectCause w p caller call
+        (if_up down dead (node_of w p)
+        (treated w.shape (node_of w p)
+        (collect_from caller call (process_of w p) (range_with_len 0 w.shape.k)))).answer
     by true dead isdown isdead = is-down p may.1 isdown
     by false true isdown isdead = (not-down p may.1 isdown, isdead)
     by false false isdown isdead = collect-walk p caller call (is-up p may.1 isdown isdead) w.shape.k 0 (omega arith) (λ d h low. absurd (omega (arith, low)))

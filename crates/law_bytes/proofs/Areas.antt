@@ -1,5 +1,7 @@
 -- Differences that are added to lists of bytes, address by address.
-use Rattle.std.proofs.Common.{◌≡◌, ℕ, ◌+◌, ◌-◌, ◌<◌, ◌≤◌, nat_le, Bool, true, false, List, [], ◌∷◌, ◌++◌, length, take, drop, get_or, replicate, bit_xor, ◌⊎◌, inl, inr, sym, ap, ap₂, ◌∙◌, refl, arith, if◌then◌else◌}
+use Rattle.std.proofs.Common.{◌≡◌, ℕ, ◌+◌, ◌-◌, ◌<◌, ◌≤◌, nat_le, Bool, true, false, List, [], ◌∷◌, ◌++◌, length, take}
+use Rattle.std.proofs.Common.{drop, get_or, replicate, bit_xor, ◌⊎◌, inl, inr, sym, ap, ap₂, ◌∙◌, refl, arith}
+use Rattle.std.proofs.Common.{if◌then◌else◌}
 use Rattle.std.specs.Int.Bits.{xor_zero_r}
 use Rattle.std.proofs.lemmas.Bool.{cases_lt}
 use Rattle.std.proofs.lemmas.Grind.{common_steps}
@@ -17,7 +19,8 @@ shifted-before at delta x early = get_or_append_left (replicate at 0) delta 0 x 
 
 -- from there on it adds its bytes
 pub shifted-from : (at : ℕ) (delta : List ℕ) (i : ℕ) → shifted at delta (at + i) ≡ get_or delta i 0
-shifted-from at delta i = ap (λ k. get_or (replicate at 0 ++ delta) (k + i) 0) (sym (length-replicate {A = ℕ} at 0)) ∙ get_or-append-add (replicate at 0) delta i 0
+shifted-from at delta i = ap (λ k. get_or (replicate at 0 ++ delta) (k + i) 0) (sym (length-replicate {A = ℕ} at 0))
+    ∙ get_or-append-add (replicate at 0) delta i 0
 
 -- a difference that lies in the list, or is empty, leaves its length
 pub added-long : (at : ℕ) (delta space : List ℕ) → at + length delta ≤ length space → length (added_at at delta space) ≡ length space
@@ -46,26 +49,33 @@ module _ (from at : ℕ) (delta area : List ℕ) where
   pub area_long : length (area_added from at delta area) ≡ length area
   unfolding early late
   area_long = by (nat_le at from) where
-    by : (b : Bool) → length (if b then added_at 0 (take (length area) (drop (from - at) delta)) area else added_at (at - from) (take (length area - (at - from)) delta) area) ≡ length area
+    by : (b : Bool)
+        → length (if b then added_at 0 (take (length area) (drop (from - at) delta)) area else added_at (at - from)
+        (take (length area - (at - from)) delta) area) ≡ length area
     by true = length-added 0 (take (length area) (drop (from - at) delta)) area early_within
     by false = fits (cases_lt (length area) (at - from)) where
       fits : (length area < at - from) ⊎ (at - from ≤ length area) → length (added_at (at - from) (take (length area - (at - from)) delta) area) ≡ length area
-      fits (inl behind) = ap length (added-none (at - from) (take (length area - (at - from)) delta) area (omega (arith, length-take (length area - (at - from)) delta, behind)))
-      fits (inr reach) = length-added (at - from) (take (length area - (at - from)) delta) area (omega (arith, length-take (length area - (at - from)) delta, reach))
+      fits (inl behind) =
+          ap length (added-none (at - from) (take (length area - (at - from)) delta) area
+          (omega (arith, length-take (length area - (at - from)) delta, behind)))
+      fits (inr reach) = length-added (at - from) (take (length area - (at - from)) delta) area
+          (omega (arith, length-take (length area - (at - from)) delta, reach))
 
   pub area_byte : (x : ℕ) → x < length area → get_or (area_added from at delta area) x 0 ≡ bit_xor (get_or area x 0) (shifted at delta (from + x))
   unfolding early late
   area_byte x below = by (nat_le at from) refl where
     by : (b : Bool) → nat_le at from ≡ b
         → get_or
-        (if b then added_at 0 (take (length area) (drop (from - at) delta)) area else added_at (at - from) (take (length area - (at - from)) delta) area) x 0 ≡ bit_xor
+        (if b then added_at 0 (take (length area) (drop (from - at) delta)) area else added_at (at - from)
+        (take (length area - (at - from)) delta) area) x 0 ≡ bit_xor
         (get_or area x 0) (shifted at delta (from + x))
     by true test =
         let order : at ≤ from = grind (arith, common_steps) in
         let place : at + (from - at + x) ≡ from + x = omega (arith, order) in
         byte_added 0 (take (length area) (drop (from - at) delta)) area early_within x
         ∙ ap (bit_xor (get_or area x 0))
-        (get_or-take (length area) (drop (from - at) delta) x 0 below ∙ get_or-drop (from - at) delta x 0 ∙ sym (shifted-from at delta (from - at + x)) ∙ ap (shifted at delta) place)
+        (get_or-take (length area) (drop (from - at) delta) x 0 below ∙ get_or-drop (from - at) delta x 0
+        ∙ sym (shifted-from at delta (from - at + x)) ∙ ap (shifted at delta) place)
     by false test = fits (cases_lt x (at - from)) (cases_lt (length area) (at - from)) where
       order : from < at
       order = grind (arith, common_steps)

@@ -1,6 +1,8 @@
 -- What steps leave of a leader's open session: the same lost partitions, of which it has applied no less, and heads
 -- with the same inherited numbers.
-use Rattle.std.proofs.Common.{◌≡◌, ◌≢◌, ℕ, suc, ◌≤◌, ◌==◌, nat_le, nat_lt, Bool, true, false, not, List, [], ◌∷◌, ◌++◌, find, is_some, Option, Some, None, IfSome, ◌⊎◌, inl, inr, sym, ap, subst, ◌∙◌, refl, arith, if◌then◌else◌}
+use Rattle.std.proofs.Common.{◌≡◌, ◌≢◌, ℕ, suc, ◌≤◌, ◌==◌, nat_le, nat_lt, Bool, true, false, not, List, [], ◌∷◌, ◌++◌}
+use Rattle.std.proofs.Common.{find, is_some, Option, Some, None, IfSome, ◌⊎◌, inl, inr, sym, ap, subst, ◌∙◌, refl}
+use Rattle.std.proofs.Common.{arith, if◌then◌else◌}
 use Rattle.std.specs.Prelude.{Contains}
 use Rattle.std.specs.List.{list_any, range_with_len}
 use Rattle.std.proofs.lemmas.Bool.{cases_eq}
@@ -23,10 +25,13 @@ use Rattle.group_calls.specs.Turns.{CallName}
 use Rattle.group_calls.specs.declared.decision.Decision.{Decision}
 use Rattle.group_calls.specs.declared.decision.Decision.TheVariants as decides
 use Rattle.group_run.specs.Applying.{ProcessStep, apply_to, for_each, head_at, held_at, quiet, replica_of, when, with_head, with_replica}
-use Rattle.group_run.specs.Asking.{Oldest, act_on, ask_head, collect_from, collect_held, found_at, handed_out, inherited_or, is_call, issued, oldest_inherited, retry_block, ticketed, update_of}
+use Rattle.group_run.specs.Asking.{Oldest, act_on, ask_head, collect_from, collect_held, found_at, handed_out}
+use Rattle.group_run.specs.Asking.{inherited_or, is_call, issued, oldest_inherited, retry_block, ticketed, update_of}
 use Rattle.group_run.specs.Deciding.{decide}
 use Rattle.group_run.specs.Heading.{acknowledge, acknowledged, judge, judge_head}
-use Rattle.group_run.specs.Leaders.{block_comes, block_gathered, close_sessions, copy_kept, copy_marked, is_complete, lost_of, mark_comes, mark_taken, new_session, open_session, own_mark, row_comes, row_finished, row_gathered, session_opened, start_session}
+use Rattle.group_run.specs.Leaders.{block_comes, block_gathered, close_sessions, copy_kept, copy_marked, is_complete}
+use Rattle.group_run.specs.Leaders.{lost_of, mark_comes, mark_taken, new_session, open_session, own_mark, row_comes}
+use Rattle.group_run.specs.Leaders.{row_finished, row_gathered, session_opened, start_session}
 use Rattle.group_run.specs.Process.{Copy, Gathering, Head, Held, LeaderState, Process}
 use Rattle.group_run.specs.Receiving.{adopting, death_known, enthroned, notice_comes, read_comes, receive, take_over_if, taken_over, takes_over, with_rank}
 use Rattle.group_run.specs.Replica.{Replica, applied_to, empty_replica, with_update}
@@ -70,7 +75,8 @@ module _ (s : Dimensions) (n : ℕ) where
       }
 
   -- heads and sessions stay, and applied numbers don't fall
-  pub bears-same : (p q : Process) → q.heads ≡ p.heads → q.as_leader.sessions ≡ p.as_leader.sessions → ((e : ℕ) → (replica_of p e).applied ≤ (replica_of q e).applied) → Bears p q
+  pub bears-same : (p q : Process) → q.heads ≡ p.heads → q.as_leader.sessions ≡ p.as_leader.sessions
+      → ((e : ℕ) → (replica_of p e).applied ≤ (replica_of q e).applied) → Bears p q
   bears-same p q heads sessions applied g opens = record {
     session = g;
     opens = ap (λ (gs : List Gathering). find (λ x. x.number == n) gs) (sym sessions) ∙ opens;
@@ -79,7 +85,8 @@ module _ (s : Dimensions) (n : ℕ) where
     heads = λ e h is. (h, ap (λ (hs : List (Option Head)). at None hs e) (sym heads) ∙ is, refl);
   }
 
-  pub bears-replica : (p : Process) (d : ℕ) (r : Replica) → (replica_of p d).applied ≤ r.applied → (e : ℕ) → (replica_of p e).applied ≤ (at empty_replica (put empty_replica p.replicas d r) e).applied
+  pub bears-replica : (p : Process) (d : ℕ) (r : Replica) → (replica_of p d).applied ≤ r.applied → (e : ℕ)
+      → (replica_of p e).applied ≤ (at empty_replica (put empty_replica p.replicas d r) e).applied
   bears-replica p d r more e = by (cases_eq e d) where
     by : (e ≡ d) ⊎ (e ≢ d) → (replica_of p e).applied ≤ (at empty_replica (put empty_replica p.replicas d r) e).applied
     by (inl same) =
@@ -93,7 +100,8 @@ module _ (s : Dimensions) (n : ℕ) where
   pub bears-apply : (d k : ℕ) (p : Process) → Bears p (apply_to s d k p)
   bears-apply d k p = bears-same p (apply_to s d k p) refl refl (bears-replica p d (applied_to k (replica_of p d)) (omega arith))
 
-  bears-each : (xs : List ℕ) (f : ℕ → Process → ProcessStep) (p : Process) → ((x : ℕ) (q : Process) → Bears q (f x q).process) → Bears p (for_each xs f p).process
+  bears-each : (xs : List ℕ) (f : ℕ → Process → ProcessStep) (p : Process)
+      → ((x : ℕ) (q : Process) → Bears q (f x q).process) → Bears p (for_each xs f p).process
   bears-each = goes-each (λ p q. Bears p q) bears-self bears-then
 
   bears-when : (b : Bool) (p : Process) (step : ProcessStep) → Bears p step.process → Bears p (when b p step).process
@@ -106,7 +114,8 @@ module _ (s : Dimensions) (n : ℕ) where
     by (Some h) = bears-apply d _ p
 
   -- what comes in
-  kept-all : (state : LeaderState) (o : Option Gathering) → open_session state n ≡ o → IfSome o (λ g. (old : Gathering) × (open_session state n ≡ Some old) × (g.lost ≡ old.lost))
+  kept-all : (state : LeaderState) (o : Option Gathering) → open_session state n ≡ o
+      → IfSome o (λ g. (old : Gathering) × (open_session state n ≡ Some old) × (g.lost ≡ old.lost))
   kept-all state None is = tt
   kept-all state (Some g) is = (g, is, refl)
 
@@ -114,30 +123,35 @@ module _ (s : Dimensions) (n : ℕ) where
       → IfSome (open_session state n) (λ g. (old : Gathering) × (open_session p.as_leader n ≡ Some old) × (g.lost ≡ old.lost))
       → Bears p (record p { as_leader = state })
   bears-leader p state all g opens =
-      let one = if-some (λ (x : Gathering). (old : Gathering) × (open_session p.as_leader n ≡ Some old) × (x.lost ≡ old.lost)) (open_session state n) g opens all in
+      let one = if-some (λ (x : Gathering). (old : Gathering) × (open_session p.as_leader n ≡ Some old)
+      × (x.lost ≡ old.lost)) (open_session state n) g opens all in
       record { session = one.0; opens = one.1; lost = one.2; applied = λ e. omega arith; heads = λ e h is. (h, is, refl) }
 
   bears-row : (number i : ℕ) (bytes : List ℕ) (p : Process) → Bears p (row_comes s number i bytes p)
-  bears-row number i bytes p = bears-leader p (row_gathered s i bytes (open_session p.as_leader number) p.as_leader) (by (open_session p.as_leader number) refl) where
-    by : (o : Option Gathering) → open_session p.as_leader number ≡ o
-        → IfSome (open_session (row_gathered s i bytes o p.as_leader) n) (λ g. (old : Gathering) × (open_session p.as_leader n ≡ Some old) × (g.lost ≡ old.lost))
-    by None is = kept-all p.as_leader (open_session p.as_leader n) refl
-    by (Some g) is =
-        gathered-if s (λ x. (old : Gathering) × (open_session p.as_leader n ≡ Some old) × (x.lost ≡ old.lost)) (is_complete s (with_row i bytes g))
-        (with_row i bytes g) g p.as_leader n number is
-        (number-is g number (found-passes (λ x. x.number == number) p.as_leader.sessions g is)) (λ here. (g, ap (open_session p.as_leader) here ∙ is, refl))
-        (kept-all p.as_leader (open_session p.as_leader n) refl)
+  bears-row number i bytes p = bears-leader p (row_gathered s i bytes (open_session p.as_leader number) p.as_leader)
+      (by (open_session p.as_leader number) refl) where
+        by : (o : Option Gathering) → open_session p.as_leader number ≡ o
+            → IfSome (open_session (row_gathered s i bytes o p.as_leader) n)
+            (λ g. (old : Gathering) × (open_session p.as_leader n ≡ Some old) × (g.lost ≡ old.lost))
+        by None is = kept-all p.as_leader (open_session p.as_leader n) refl
+        by (Some g) is =
+            gathered-if s (λ x. (old : Gathering) × (open_session p.as_leader n ≡ Some old) × (x.lost ≡ old.lost)) (is_complete s (with_row i bytes g))
+            (with_row i bytes g) g p.as_leader n number is
+            (number-is g number (found-passes (λ x. x.number == number) p.as_leader.sessions g is)) (λ here. (g, ap (open_session p.as_leader) here ∙ is, refl))
+            (kept-all p.as_leader (open_session p.as_leader n) refl)
 
   bears-block : (number e : ℕ) (bytes : List ℕ) (p : Process) → Bears p (block_comes s number e bytes p)
-  bears-block number e bytes p = bears-leader p (block_gathered s e bytes (open_session p.as_leader number) p.as_leader) (by (open_session p.as_leader number) refl) where
-    by : (o : Option Gathering) → open_session p.as_leader number ≡ o
-        → IfSome (open_session (block_gathered s e bytes o p.as_leader) n) (λ g. (old : Gathering) × (open_session p.as_leader n ≡ Some old) × (g.lost ≡ old.lost))
-    by None is = kept-all p.as_leader (open_session p.as_leader n) refl
-    by (Some g) is =
-        gathered-if s (λ x. (old : Gathering) × (open_session p.as_leader n ≡ Some old) × (x.lost ≡ old.lost)) (is_complete s (with_block e bytes g))
-        (with_block e bytes g) g p.as_leader n number is
-        (number-is g number (found-passes (λ x. x.number == number) p.as_leader.sessions g is)) (λ here. (g, ap (open_session p.as_leader) here ∙ is, refl))
-        (kept-all p.as_leader (open_session p.as_leader n) refl)
+  bears-block number e bytes p = bears-leader p (block_gathered s e bytes (open_session p.as_leader number) p.as_leader)
+      (by (open_session p.as_leader number) refl) where
+        by : (o : Option Gathering) → open_session p.as_leader number ≡ o
+            → IfSome (open_session (block_gathered s e bytes o p.as_leader) n)
+            (λ g. (old : Gathering) × (open_session p.as_leader n ≡ Some old) × (g.lost ≡ old.lost))
+        by None is = kept-all p.as_leader (open_session p.as_leader n) refl
+        by (Some g) is =
+            gathered-if s (λ x. (old : Gathering) × (open_session p.as_leader n ≡ Some old) × (x.lost ≡ old.lost)) (is_complete s (with_block e bytes g))
+            (with_block e bytes g) g p.as_leader n number is
+            (number-is g number (found-passes (λ x. x.number == number) p.as_leader.sessions g is)) (λ here. (g, ap (open_session p.as_leader) here ∙ is, refl))
+            (kept-all p.as_leader (open_session p.as_leader n) refl)
 
   -- a mark
   pub bears-mark : (l number r block d k : ℕ) (p : Process) → Bears p (mark_comes s l number r block d k p).process
@@ -152,7 +166,8 @@ module _ (s : Dimensions) (n : ℕ) where
         begun false = bears-same p _ refl refl (λ e. omega arith)
 
         to_q : Bears p q
-        to_q = bears-then p (begin_copy s l number block p) q (begun (is_some (copy_in p.as_row.copies l number))) (bears-apply d k (begin_copy s l number block p))
+        to_q = bears-then p (begin_copy s l number block p) q (begun (is_some (copy_in p.as_row.copies l number)))
+            (bears-apply d k (begin_copy s l number block p))
 
         finished : (b : Bool) (c : Copy) (z : Process) → Bears z (row_finished b s c z).process
         finished true c z = bears-row c.number c.leader c.bytes z
@@ -161,7 +176,8 @@ module _ (s : Dimensions) (n : ℕ) where
         kept : (b : Bool) (c : Copy) → Bears q (copy_kept b s c q).process
         kept true c =
             let z : Process = with_copies (without_copy c.leader c.number q.as_row.copies) q in
-            bears-then q z (row_finished (same_process z.name (ParityNode c.leader)) s c z).process (bears-same q z refl refl (λ e. omega arith)) (finished (same_process z.name (ParityNode c.leader)) c z)
+            bears-then q z (row_finished (same_process z.name (ParityNode c.leader)) s c z).process
+            (bears-same q z refl refl (λ e. omega arith)) (finished (same_process z.name (ParityNode c.leader)) c z)
         kept false c = bears-same q _ refl refl (λ e. omega arith)
 
         found : (o : Option Copy) → Bears q (copy_marked s d k o q).process
@@ -171,15 +187,19 @@ module _ (s : Dimensions) (n : ℕ) where
   -- an acknowledgement
   bears-acked : (p : Process) (i r d k : ℕ) (o : Option Head) → head_at p d ≡ o → Bears p (acknowledge s i r d k o p).process
   bears-acked p i r d k None heads = bears-self p
-  bears-acked p i r d k (Some h) heads = bears-when (r == h.rank) p _ (let q : Process = with_head d (Some (acknowledged i k h)) p in bears-then p q (judge s d q).process to_q (bears-judge d q)) where
-    to_q : Bears p (with_head d (Some (acknowledged i k h)) p)
-    to_q g opens = record { session = g; opens = opens; lost = refl; applied = λ e. omega arith; heads = λ e j is. by e j is (cases_eq e d) } where
-      by : (e : ℕ) (j : Head) → at None (put None p.heads d (Some (acknowledged i k h))) e ≡ Some j → (e ≡ d) ⊎ (e ≢ d) → (old : Head) × (head_at p e ≡ Some old) × (j.inherited ≡ old.inherited)
-      by e j is (inl same) =
-          let now : Some (acknowledged i k h) ≡ Some j = sym (at-put None None p.heads d (Some (acknowledged i k h))) ∙ ap (at None (put None p.heads d (Some (acknowledged i k h)))) (sym same) ∙ is in
-          let head : acknowledged i k h ≡ j = cc now in
-          (h, ap (head_at p) same ∙ heads, ap (λ (x : Head). x.inherited) (sym head))
-      by e j is (inr other) = (j, sym (at-put-other None p.heads d e (Some (acknowledged i k h)) other) ∙ is, refl)
+  bears-acked p i r d k (Some h) heads =
+      bears-when (r == h.rank) p _ (let q : Process = with_head d (Some (acknowledged i k h)) p in
+      bears-then p q (judge s d q).process to_q (bears-judge d q)) where
+        to_q : Bears p (with_head d (Some (acknowledged i k h)) p)
+        to_q g opens = record { session = g; opens = opens; lost = refl; applied = λ e. omega arith; heads = λ e j is. by e j is (cases_eq e d) } where
+          by : (e : ℕ) (j : Head) → at None (put None p.heads d (Some (acknowledged i k h))) e ≡ Some j → (e ≡ d) ⊎ (e ≢ d)
+              → (old : Head) × (head_at p e ≡ Some old) × (j.inherited ≡ old.inherited)
+          by e j is (inl same) =
+              let now : Some (acknowledged i k h) ≡ Some j = sym (at-put None None p.heads d (Some (acknowledged i k h)))
+              ∙ ap (at None (put None p.heads d (Some (acknowledged i k h)))) (sym same) ∙ is in
+              let head : acknowledged i k h ≡ j = cc now in
+              (h, ap (head_at p) same ∙ heads, ap (λ (x : Head). x.inherited) (sym head))
+          by e j is (inr other) = (j, sym (at-put-other None p.heads d e (Some (acknowledged i k h)) other) ∙ is, refl)
 
   -- after a notice no session is open
   sessions-each : (xs : List ℕ) (f : ℕ → Process → ProcessStep) (p : Process)
@@ -219,14 +239,18 @@ module _ (s : Dimensions) (n : ℕ) where
 
   pub bears-receive : (x : ProcessId) (m : Message) (p : Process) → Bears p (receive s x m p).process
   bears-receive x (tells.Update r d u stable) p = bears-when (nat_le (at 0 p.ranks d.0) r.0) p _
-      (let q : Process = apply_to s d.0 stable p in bears-then p q (with_replica d.0 (with_update u (replica_of q d.0)) q) (bears-apply d.0 stable p) (bears-with q d.0 (with_update u (replica_of q d.0)) (omega arith)))
+      (let q : Process = apply_to s d.0 stable p in
+      bears-then p q (with_replica d.0 (with_update u (replica_of q d.0)) q) (bears-apply d.0 stable p)
+      (bears-with q d.0 (with_update u (replica_of q d.0)) (omega arith)))
   bears-receive (DataNode e) (tells.Ack r d k) p = bears-self p
   bears-receive (ParityNode i) (tells.Ack r d k) p = bears-acked p i r.0 d.0 k (head_at p d.0) refl
   bears-receive x (tells.Stable r d k) p = bears-when (nat_le (at 0 p.ranks d.0) r.0) p (quiet (apply_to s d.0 k p)) (bears-apply d.0 k p)
   bears-receive x (tells.Adopt r d base list) p = bears-when (nat_le (at 0 p.ranks d.0) r.0) p _
       (let ranked : Process = with_rank d.0 r.0 p in
       let q : Process = apply_to s d.0 base ranked in
-      bears-then p ranked _ (bears-same p ranked refl refl (λ e. omega arith)) (bears-then ranked q _ (bears-apply d.0 base ranked) (bears-with q d.0 (adopting base list (replica_of q d.0)) (omega arith))))
+      bears-then p ranked _ (bears-same p ranked refl refl (λ e. omega arith))
+      (bears-then ranked q _ (bears-apply d.0 base ranked)
+      (bears-with q d.0 (adopting base list (replica_of q d.0)) (omega arith))))
   bears-receive x (tells.ReadBlock session block rows) p = bears-read session block rows p p.name
   bears-receive (DataNode e) (tells.Block session bytes k) p = bears-block session.number e bytes p
   bears-receive (ParityNode i) (tells.Block session bytes k) p = bears-self p
@@ -243,7 +267,8 @@ module _ (s : Dimensions) (n : ℕ) where
       (g : Gathering) → open_session q.as_leader n ≡ Some g → (e : ℕ) → Contains g.lost e → ((replica_of p e).applied ≤ (replica_of q e).applied) ×
       ((h : Head) → head_at q e ≡ Some h → h.inherited ≤ (replica_of p e).applied)
 
-  pub oldest-none : (p : Process) (ds : List ℕ) → oldest_inherited p ds ≡ None → (e : ℕ) → Among e ds → (h : Head) → head_at p e ≡ Some h → h.inherited ≤ (replica_of p e).applied
+  pub oldest-none : (p : Process) (ds : List ℕ) → oldest_inherited p ds ≡ None → (e : ℕ) → Among e ds → (h : Head)
+      → head_at p e ≡ Some h → h.inherited ≤ (replica_of p e).applied
   oldest-none p [] none e there h heads = absurd there
   oldest-none p (d ∷ ds) none e there h heads = by (head_at p d) refl none there (λ rest deeper. oldest-none p ds rest e deeper h heads) where
     low : (a b : ℕ) → nat_lt a b ≡ false → b ≤ a
@@ -276,18 +301,27 @@ module _ (s : Dimensions) (n : ℕ) where
 
     bears-start : (block : ℕ) → oldest_inherited p (range_with_len 0 s.k) ≡ None → BearsOr (start_session s block p).process
     bears-start block none = by (cases_eq (suc p.as_leader.last_session) n) where
-      rest : Bears (session_opened s (suc p.as_leader.last_session) block p) (for_each (lost_of s p) (own_mark s (parity_number p.name) (suc p.as_leader.last_session) block) (session_opened s (suc p.as_leader.last_session) block p)).process
-      rest = bears-each (lost_of s p) (own_mark s (parity_number p.name) (suc p.as_leader.last_session) block) (session_opened s (suc p.as_leader.last_session) block p)
+      rest : Bears (session_opened s (suc p.as_leader.last_session) block p)
+          (for_each (lost_of s p) (own_mark s (parity_number p.name) (suc p.as_leader.last_session) block)
+          (session_opened s (suc p.as_leader.last_session) block p)).process
+      rest = bears-each (lost_of s p) (own_mark s (parity_number p.name) (suc p.as_leader.last_session) block)
+          (session_opened s (suc p.as_leader.last_session) block p)
           (λ e q. bears-mark (parity_number p.name) (suc p.as_leader.last_session) (at 0 q.ranks e) block e (replica_of q e).applied q)
 
       found : (find (λ g. g.number == n) (p.as_leader.sessions ++ new_session s (suc p.as_leader.last_session) block p ∷ []) ≡ open_session p.as_leader n)
-          ⊎ ((open_session p.as_leader n ≡ None) × (find (λ g. g.number == n) (p.as_leader.sessions ++ new_session s (suc p.as_leader.last_session) block p ∷ []) ≡ Some (new_session s (suc p.as_leader.last_session) block p)))
+          ⊎ ((open_session p.as_leader n ≡ None)
+          × (find (λ g. g.number == n) (p.as_leader.sessions ++ new_session s (suc p.as_leader.last_session) block p
+          ∷ []) ≡ Some (new_session s (suc p.as_leader.last_session) block p)))
       found = found-behind (λ g. g.number == n) p.as_leader.sessions (new_session s (suc p.as_leader.last_session) block p)
 
-      is-new : suc p.as_leader.last_session ≡ n → (g : Gathering) → open_session (session_opened s (suc p.as_leader.last_session) block p).as_leader n ≡ Some g → g.lost ≡ lost_of s p
+      is-new : suc p.as_leader.last_session ≡ n → (g : Gathering)
+          → open_session (session_opened s (suc p.as_leader.last_session) block p).as_leader n ≡ Some g
+          → g.lost ≡ lost_of s p
       is-new same g opens = turn found where
         turn : (find (λ g. g.number == n) (p.as_leader.sessions ++ new_session s (suc p.as_leader.last_session) block p ∷ []) ≡ open_session p.as_leader n)
-            ⊎ ((open_session p.as_leader n ≡ None) × (find (λ g. g.number == n) (p.as_leader.sessions ++ new_session s (suc p.as_leader.last_session) block p ∷ []) ≡ Some (new_session s (suc p.as_leader.last_session) block p)))
+            ⊎ ((open_session p.as_leader n ≡ None)
+            × (find (λ g. g.number == n) (p.as_leader.sessions ++ new_session s (suc p.as_leader.last_session) block p
+            ∷ []) ≡ Some (new_session s (suc p.as_leader.last_session) block p)))
             → g.lost ≡ lost_of s p
         turn (inl old) = absurd (cc (sym opens ∙ old ∙ fresh same))
         turn (inr both) =
@@ -298,18 +332,23 @@ module _ (s : Dimensions) (n : ℕ) where
       is-old : suc p.as_leader.last_session ≢ n → Bears p (session_opened s (suc p.as_leader.last_session) block p)
       is-old other g opens = turn found where
         turn : (find (λ g. g.number == n) (p.as_leader.sessions ++ new_session s (suc p.as_leader.last_session) block p ∷ []) ≡ open_session p.as_leader n)
-            ⊎ ((open_session p.as_leader n ≡ None) × (find (λ g. g.number == n) (p.as_leader.sessions ++ new_session s (suc p.as_leader.last_session) block p ∷ []) ≡ Some (new_session s (suc p.as_leader.last_session) block p)))
+            ⊎ ((open_session p.as_leader n ≡ None)
+            × (find (λ g. g.number == n) (p.as_leader.sessions ++ new_session s (suc p.as_leader.last_session) block p
+            ∷ []) ≡ Some (new_session s (suc p.as_leader.last_session) block p)))
             → Before p (session_opened s (suc p.as_leader.last_session) block p) g
         turn (inl old) = record { session = g; opens = sym old ∙ opens; lost = refl; applied = λ e. omega arith; heads = λ e h is. (h, is, refl) }
         turn (inr both) = absurd (other (number-is (new_session s (suc p.as_leader.last_session) block p) n
-            (found-passes (λ g. g.number == n) (p.as_leader.sessions ++ new_session s (suc p.as_leader.last_session) block p ∷ []) (new_session s (suc p.as_leader.last_session) block p) both.1)))
+            (found-passes (λ g. g.number == n) (p.as_leader.sessions ++ new_session s (suc p.as_leader.last_session)
+            block p ∷ []) (new_session s (suc p.as_leader.last_session) block p) both.1)))
 
       by : (suc p.as_leader.last_session ≡ n) ⊎ (suc p.as_leader.last_session ≢ n) → BearsOr (start_session s block p).process
       by (inl same) = inr (
         same,
         λ g opens e lost.
             let b = rest g opens in
-            let among : Among e (lost_of s p) = contains-among (lost_of s p) e (subst (λ (ls : List ℕ). Contains ls e) (b.lost ∙ is-new same b.session b.opens) lost) in
+            let among : Among e (lost_of s p) =
+            contains-among (lost_of s p) e
+            (subst (λ (ls : List ℕ). Contains ls e) (b.lost ∙ is-new same b.session b.opens) lost) in
             let ranged = (among-filter (λ d. knows_dead p.known (DataNode d)) e (range_with_len 0 s.k) among).0 in (
               b.applied e,
               λ h heads.
@@ -404,6 +443,7 @@ module _ (s : Dimensions) (l n : ℕ) where
         let more = is_new.0 in
         (omega (arith, more, number), heads e is_new.1 (head_at q e) refl)
       where
-        heads : (e : ℕ) → ((h : Head) → head_at q e ≡ Some h → h.inherited ≤ (replica_of p e).applied) → (o : Option Head) → head_at q e ≡ o → IfSome o (λ h. h.inherited ≤ plan.numbers e)
+        heads : (e : ℕ) → ((h : Head) → head_at q e ≡ Some h → h.inherited ≤ (replica_of p e).applied)
+            → (o : Option Head) → head_at q e ≡ o → IfSome o (λ h. h.inherited ≤ plan.numbers e)
         heads e low None is_it = tt
         heads e low (Some h) is_it = let less = low h is_it in let number = numbers e in omega (arith, less, number)

@@ -1,5 +1,7 @@
 -- An update whose run meets only rebuilt blocks changes no other.
-use Rattle.std.proofs.Common.{◌≡◌, ℕ, ◌+◌, ◌-◌, ◌*◌, ◌/◌, ◌<◌, ◌≤◌, Bool, false, not, List, [], ◌∷◌, ◌++◌, length, bit_xor, is_some, Option, None, ◌⊎◌, inl, inr, sym, ap, subst, ◌∙◌, refl, arith, if◌then◌else◌}
+use Rattle.std.proofs.Common.{◌≡◌, ℕ, ◌+◌, ◌-◌, ◌*◌, ◌/◌, ◌<◌, ◌≤◌, Bool, false, not, List, [], ◌∷◌, ◌++◌, length}
+use Rattle.std.proofs.Common.{bit_xor, is_some, Option, None, ◌⊎◌, inl, inr, sym, ap, subst, ◌∙◌, refl, arith}
+use Rattle.std.proofs.Common.{if◌then◌else◌}
 use Rattle.std.specs.Int.Bits.{xor_zero_r}
 use Rattle.std.proofs.Math.Nat.{div-mul-le_self}
 use Rattle.std.proofs.lemmas.Bool.{cases_lt, ne_eqb}
@@ -22,7 +24,8 @@ use Rattle.law_bytes.proofs.Rising.{among-range, each-among}
 use Rattle.law_bytes.proofs.Values.{value-append}
 
 -- the block of an address of a run is one of those that it meets
-pub block-met : (s : Dimensions) (run : Run) (b x : ℕ) → 0 < s.block → x < s.block → run.at ≤ b * s.block + x → b * s.block + x < run.at + run.len → Among b (blocks_met s run)
+pub block-met : (s : Dimensions) (run : Run) (b x : ℕ) → 0 < s.block → x < s.block → run.at ≤ b * s.block + x
+    → b * s.block + x < run.at + run.len → Among b (blocks_met s run)
 block-met s run b x some inside from to =
     subst (λ (c : Bool). Among b (if c then [] else range_with_len first (last - first + 1)))
     (sym (ne_eqb run.len 0 (λ none. absurd (omega (arith, from, to, none))))) (among-range b first (last - first + 1) low (omega (arith, high, low))) where
@@ -44,9 +47,11 @@ block-met s run b x some inside from to =
 
 module _ (s : Dimensions) (some : 0 < s.block) (d : ℕ) (l : LeaderState) (b : ℕ) (unbuilt : rebuilt_block l d b ≡ None) where
   -- a run none of whose blocks is missing adds nothing to a block that isn't rebuilt
-  pub run-apart : (run : Run) (delta : List ℕ) (x : ℕ) → missing_block s d run l ≡ None → length delta ≡ run.len → x < s.block → shifted run.at delta (b * s.block + x) ≡ 0
+  pub run-apart : (run : Run) (delta : List ℕ) (x : ℕ) → missing_block s d run l ≡ None → length delta ≡ run.len
+      → x < s.block → shifted run.at delta (b * s.block + x) ≡ 0
   run-apart run delta x none long inside = by (cases_lt (b * s.block + x) run.at) (cases_lt (b * s.block + x) (run.at + run.len)) where
-    by : (b * s.block + x < run.at) ⊎ (run.at ≤ b * s.block + x) → (b * s.block + x < run.at + run.len) ⊎ (run.at + run.len ≤ b * s.block + x) → shifted run.at delta (b * s.block + x) ≡ 0
+    by : (b * s.block + x < run.at) ⊎ (run.at ≤ b * s.block + x) → (b * s.block + x < run.at + run.len)
+        ⊎ (run.at + run.len ≤ b * s.block + x) → shifted run.at delta (b * s.block + x) ≡ 0
     by (inl before) _ = shifted-before run.at delta (b * s.block + x) before
     by (inr from) (inl to) =
         let fails : not (is_some (rebuilt_block l d b)) ≡ false =
@@ -55,7 +60,8 @@ module _ (s : Dimensions) (some : 0 < s.block) (d : ℕ) (l : LeaderState) (b : 
         absurd (cc (sym fails ∙ ap (λ (o : Option (List ℕ)). not (is_some o)) unbuilt))
     by (inr from) (inr past) =
         let place : run.at + (b * s.block + x - run.at) ≡ b * s.block + x = omega (arith, from) in
-        ap (shifted run.at delta) (sym place) ∙ shifted-from run.at delta (b * s.block + x - run.at) ∙ get_or_past delta (b * s.block + x - run.at) 0 (omega (arith, long, past, from))
+        ap (shifted run.at delta) (sym place) ∙ shifted-from run.at delta (b * s.block + x - run.at)
+        ∙ get_or_past delta (b * s.block + x - run.at) 0 (omega (arith, long, past, from))
 
   -- an update that writes only where blocks are rebuilt
   abbrev pub MeetsRebuilt : Body → Type 0
@@ -70,8 +76,12 @@ module _ (s : Dimensions) (some : 0 < s.block) (d : ℕ) (l : LeaderState) (b : 
 
   pub value-apart : (us : List Update) (x : ℕ) → Each (λ u. MeetsRebuilt u.body) us → x < s.block → value us (b * s.block + x) ≡ 0
   value-apart [] x meets inside = refl
-  value-apart (u ∷ us) x meets inside = ap (λ (y : ℕ). bit_xor y (value us (b * s.block + x))) (change-apart u.body x meets.0 inside) ∙ ap (bit_xor 0) (value-apart us x meets.1 inside)
+  value-apart (u ∷ us) x meets inside = ap (λ (y : ℕ). bit_xor y (value us (b * s.block + x)))
+      (change-apart u.body x meets.0 inside) ∙ ap (bit_xor 0) (value-apart us x meets.1 inside)
 
   -- such updates leave the values of the block
-  pub value-stays : (us news : List Update) (x : ℕ) → Each (λ u. MeetsRebuilt u.body) news → x < s.block → value (us ++ news) (b * s.block + x) ≡ value us (b * s.block + x)
-  value-stays us news x meets inside = value-append us news (b * s.block + x) ∙ ap (bit_xor (value us (b * s.block + x))) (value-apart news x meets inside) ∙ xor_zero_r (value us (b * s.block + x))
+  pub value-stays : (us news : List Update) (x : ℕ) → Each (λ u. MeetsRebuilt u.body) news → x < s.block
+      → value (us ++ news) (b * s.block + x) ≡ value us (b * s.block + x)
+  value-stays us news x meets inside = value-append us news (b * s.block + x)
+      ∙ ap (bit_xor (value us (b * s.block + x))) (value-apart news x meets inside)
+      ∙ xor_zero_r (value us (b * s.block + x))

@@ -1,5 +1,7 @@
 -- Every move keeps the bytes right.
-use Rattle.std.proofs.Common.{◌≡◌, ◌≢◌, ℕ, zero, suc, ◌+◌, ◌<◌, ◌≤◌, ◌*◌, ◌==◌, Bool, false, List, [], ◌++◌, length, take, replicate, Option, Some, None, ◌⊎◌, inl, inr, sym, ap, subst, ◌∙◌, refl, arith, if◌then◌else◌}
+use Rattle.std.proofs.Common.{◌≡◌, ◌≢◌, ℕ, zero, suc, ◌+◌, ◌<◌, ◌≤◌, ◌*◌, ◌==◌, Bool, false, List, [], ◌++◌, length}
+use Rattle.std.proofs.Common.{take, replicate, Option, Some, None, ◌⊎◌, inl, inr, sym, ap, subst, ◌∙◌, refl, arith}
+use Rattle.std.proofs.Common.{if◌then◌else◌}
 use Rattle.std.proofs.lemmas.Bool.{cases_eq}
 use Rattle.std.proofs.lemmas.Grind.{common_steps}
 use Rattle.std.proofs.lemmas.List.{length-append, length-replicate, take-append-le}
@@ -69,8 +71,10 @@ module _ (s : Dimensions) where
     } where
       copy : (c : Copy) → CopyHolds s before p c → CopyHolds s after p c
       copy c holds_copy = record {
-        bytes = area-same (c.block * s.block) _ (held s p.name (marked_stand before c.marks p)) (held s p.name (marked_stand after c.marks p)) c.bytes holds_copy.bytes
-            (λ x. held-same s p.name (marked_stand before c.marks p) (marked_stand after c.marks p) x inside (λ d below. prefix-same d (marked_at c.marks p d) below (bound d below (at None c.marks d) refl)));
+        bytes = area-same (c.block * s.block) _ (held s p.name (marked_stand before c.marks p))
+            (held s p.name (marked_stand after c.marks p)) c.bytes holds_copy.bytes
+            (λ x. held-same s p.name (marked_stand before c.marks p) (marked_stand after c.marks p) x inside
+            (λ d below. prefix-same d (marked_at c.marks p d) below (bound d below (at None c.marks d) refl)));
         marks = λ d n below is. longer d n below (holds_copy.marks d n below is);
       } where
         bound : (d : ℕ) → d < s.k → (o : Option ℕ) → at None c.marks d ≡ o → unwrap_or o (replica_of p d).applied ≤ length (before d)
@@ -112,17 +116,23 @@ module _ (s : Dimensions) where
   addressed v x q (tells.Notice dead) may = tt
 
   -- one process made a step
-  module _ (v u w : State) (p : ProcessId) (t : ProcessStep) (pin : IsProcess s p) (members : Members s v) (same : (q : ProcessId) → IsProcess s q → u.process q ≡ v.process q)
+  module _ (v u w : State) (p : ProcessId) (t : ProcessStep) (pin : IsProcess s p) (members : Members s v)
+      (same : (q : ProcessId) → IsProcess s q → u.process q ≡ v.process q)
       (same_dead : (q : ProcessId) → IsProcess s q → u.dead q ≡ v.dead q) (same_settled : (d : ℕ) → u.settled d ≡ v.settled d) (acts : Acted s u w p t) where
     pub prolongs : Prolongs s v.settled w.settled
-    prolongs d below = (new_ones (length (u.settled d)) (settled_in d t.settled), acts.settled d below ∙ ap (λ (us : List Update). us ++ new_ones (length (u.settled d)) (settled_in d t.settled)) (same_settled d))
+    prolongs d below = (
+      new_ones (length (u.settled d)) (settled_in d t.settled),
+      acts.settled d below
+          ∙ ap (λ (us : List Update). us ++ new_ones (length (u.settled d)) (settled_in d t.settled)) (same_settled d),
+    )
 
     pub others-hold : HoldsBytes s v → Holds s w.settled t.process → HoldsBytes s w
     others-hold holds here q qin lives = by (same-cases q p) where
       by : (q ≡ p) ⊎ (q ≢ p) → Holds s w.settled (w.process q)
       by (inl is) = subst (λ (y : ProcessId). Holds s w.settled (w.process y)) (sym is) (subst (Holds s w.settled) (sym acts.process) here)
       by (inr other) = subst (Holds s w.settled) (sym (acts.others q qin other ∙ same q qin))
-          (holds-grown v.settled w.settled (v.process q) (inside-of (v.process q) q (members.named q qin) qin) prolongs (holds q qin (sym (acts.dead q qin ∙ same_dead q qin) ∙ lives)))
+          (holds-grown v.settled w.settled (v.process q) (inside-of (v.process q) q (members.named q qin) qin) prolongs
+          (holds q qin (sym (acts.dead q qin ∙ same_dead q qin) ∙ lives)))
 
     pub before-holds : v.dead p ≡ false → HoldsBytes s v → Holds s w.settled (v.process p)
     before-holds lives holds = holds-grown v.settled w.settled (v.process p) (inside-of (v.process p) p (members.named p pin) pin) prolongs (holds p pin lives)
@@ -131,18 +141,26 @@ module _ (s : Dimensions) where
       → AppliesSettled s settled (v.process p) t → Ready s settled (v.process p)
   ready-before v settled p t pin lives members applies = record {
     goes = applies.log;
-    own = λ d h below heads. subst (λ (x : ProcessId). Concerns s x d) (sym (members.named p pin)) (own-head (v.process p) d h p below (members.sits p d pin lives below) heads);
+    own = λ d h below heads. subst (λ (x : ProcessId). Concerns s x d) (sym (members.named p pin))
+        (own-head (v.process p) d h p below (members.sits p d pin lives below) heads);
   }
 
   -- the start
   opening-held : (x : ProcessId) (us : ℕ → List Update) (y : ℕ) → ((d : ℕ) → us d ≡ []) → held s x us y ≡ 0
   opening-held (DataNode d) us y none = ap (λ (l : List Update). value l y) (none d)
-  opening-held (ParityNode i) us y none = sum_of_zeros s.k _ (λ d below. ap (λ (l : List Update). product (coefficient s.m i d) (value l y)) (none d) ∙ product_zero_r (coefficient s.m i d))
+  opening-held (ParityNode i) us y none =
+      sum_of_zeros s.k _ (λ d below. ap (λ (l : List Update). product (coefficient s.m i d) (value l y)) (none d)
+      ∙ product_zero_r (coefficient s.m i d))
 
   opening-holds : (settled : ℕ → List Update) (x : ProcessId) → Holds s settled (opening_process s x)
   opening-holds settled x = record {
     within = λ d below. subst (λ (n : ℕ). n ≤ length (settled d)) (sym (applied d)) (omega arith);
-    space = record { long = length-replicate (space_of s) 0; same = λ y below. get_or-zeros (space_of s) y ∙ sym (opening-held x (stand settled (opening_process s x)) (0 + y) (λ d. ap (λ (n : ℕ). take n (settled d)) (applied d))) };
+    space = record {
+      long = length-replicate (space_of s) 0;
+      same = λ y below. get_or-zeros (space_of s) y
+          ∙ sym (opening-held x (stand settled (opening_process s x)) (0 + y)
+          (λ d. ap (λ (n : ℕ). take n (settled d)) (applied d)));
+    };
     copies = tt;
     rebuilt = λ d b bytes below is. absurd (cc (is, none d b below));
   } where
@@ -163,14 +181,19 @@ bytes_kept s shaped = record {
   treats = λ v w p t pin lives treated members holds new right next acts.
       others-hold s v v w p t pin members (λ q qin. refl) (λ q qin. refl) (λ d. refl) acts holds
       (holds-from s w.settled (v.process p) t.process
-      (treats-hold s w.settled right.write (rebuilt_at (v.process p)) (v.process p) p t (record { name = members.named p pin; some = some; sits = λ d low. members.sits p d pin lives low }) pin (members.not_self p pin lives) treated (ready-before s v w.settled p t pin lives members right.applies) (inside-of s (v.process p) p (members.named p pin) pin) new right.applies next
-      (holding-from s w.settled (v.process p) (before-holds s v v w p t pin members (λ q qin. refl) (λ q qin. refl) (λ d. refl) acts lives holds))) right.rebuilds);
+      (treats-hold s w.settled right.write (rebuilt_at (v.process p)) (v.process p) p t
+      (record { name = members.named p pin; some = some; sits = λ d low. members.sits p d pin lives low }) pin
+      (members.not_self p pin lives) treated (ready-before s v w.settled p t pin lives members right.applies)
+      (inside-of s (v.process p) p (members.named p pin) pin) new right.applies next
+      (holding-from s w.settled (v.process p) (before-holds s v v w p t pin members (λ q qin. refl) (λ q qin. refl)
+      (λ d. refl) acts lives holds))) right.rebuilds);
   receives = λ v u w x p m xin pin apart lives members holds marks right pops acts.
       let t : ProcessStep = receive s x m (v.process p) in
       let may : MayStand s v x p m = (subst (Each (MayStand s v x p)) pops.first (members.may x p xin pin apart lives)).0 in
       others-hold s v u w p t pin members pops.processes pops.dead pops.settled acts holds
       (holds-from s w.settled (v.process p) t.process
-      (received-holds s w.settled right.write (rebuilt_at (v.process p)) x m (v.process p) (subst (Addresses s m) (sym (members.named p pin)) (addressed s v x p m may))
+      (received-holds s w.settled right.write (rebuilt_at (v.process p)) x m (v.process p)
+      (subst (Addresses s m) (sym (members.named p pin)) (addressed s v x p m may))
       (ready-before s v w.settled p t pin lives members right.applies) marks right.applies
       (holding-from s w.settled (v.process p) (before-holds s v u w p t pin members pops.processes pops.dead pops.settled acts lives holds))) right.rebuilds);
   dies = λ v w p keep pin holds died q qin lives.

@@ -1,5 +1,7 @@
 -- Copies, marks and rebuilt blocks of a process that holds its bytes.
-use Rattle.std.proofs.Common.{◌≡◌, ◌≢◌, ℕ, ◌+◌, ◌<◌, ◌≤◌, ◌*◌, Bool, true, false, not, List, [], ◌∷◌, ◌++◌, length, take, drop, replicate, is_some, Option, Some, None, IfSome, ◌⊎◌, inl, inr, sym, ap, ap₂, subst, ◌∙◌, refl, arith, if◌then◌else◌}
+use Rattle.std.proofs.Common.{◌≡◌, ◌≢◌, ℕ, ◌+◌, ◌<◌, ◌≤◌, ◌*◌, Bool, true, false, not, List, [], ◌∷◌, ◌++◌, length}
+use Rattle.std.proofs.Common.{take, drop, replicate, is_some, Option, Some, None, IfSome, ◌⊎◌, inl, inr, sym, ap, ap₂}
+use Rattle.std.proofs.Common.{subst, ◌∙◌, refl, arith, if◌then◌else◌}
 use Rattle.std.specs.Prelude.{unwrap_or}
 use Rattle.std.proofs.lemmas.Bool.{cases_eq}
 use Rattle.std.proofs.lemmas.List.{length-take, length-drop, get_or-take, get_or-drop}
@@ -13,7 +15,9 @@ use Rattle.group_types.specs.Each.{Each}
 use Rattle.group_types.proofs.Eaches.{each-append, each-weaker, each-map, each-filter}
 use Rattle.group_message.specs.declared.update.Update.{Update}
 use Rattle.group_run.specs.Applying.{replica_of}
-use Rattle.group_run.specs.Leaders.{block_gathered, copy_kept, copy_marked, decoded_of, gathered_when, is_complete, open_session, rebuilt_block, rebuilt_unless, row_finished, row_gathered, with_decoded, with_leader}
+use Rattle.group_run.specs.Leaders.{block_gathered, copy_kept, copy_marked, decoded_of, gathered_when, is_complete}
+use Rattle.group_run.specs.Leaders.{open_session, rebuilt_block, rebuilt_unless, row_finished, row_gathered}
+use Rattle.group_run.specs.Leaders.{with_decoded, with_leader}
 use Rattle.group_run.specs.Process.{Copy, Gathering, LeaderState, Process}
 use Rattle.group_run.specs.Rows.{block_in, copy_begun, copy_in, is_copy, is_marked, marked, new_copy, with_copies, with_copy, without_copy}
 use Rattle.law_bytes.specs.Areas.{IsArea, IsBlock, block_size, held, value}
@@ -43,7 +47,8 @@ module _ (s : Dimensions) (settled : ℕ → List Update) where
 
   marked-stand-same : (p q : Process) (marks : List (Option ℕ)) → SameStand p q → marked_stand settled marks q ≡ marked_stand settled marks p
   marked-stand-same p q marks same =
-      same-functions (marked_stand settled marks q) (marked_stand settled marks p) (λ d. ap (λ (k : ℕ). take (unwrap_or (at None marks d) k) (settled d)) (same.applied d))
+      same-functions (marked_stand settled marks q) (marked_stand settled marks p)
+      (λ d. ap (λ (k : ℕ). take (unwrap_or (at None marks d) k) (settled d)) (same.applied d))
 
   pub copy-same : (p q : Process) → SameStand p q → (c : Copy) → CopyHolds s settled p c → CopyHolds s settled q c
   copy-same p q same c holds = record {
@@ -56,7 +61,8 @@ module _ (s : Dimensions) (settled : ℕ → List Update) where
   copies-same p q same cs all = each-weaker (CopyHolds s settled p) (CopyHolds s settled q) (copy-same p q same) cs all
 
   -- a process with the same bytes, and copies that hold
-  pub holding-same : (old : ℕ → ℕ → Bool) (p q : Process) → SameBytes p q → Each (CopyHolds s settled p) q.as_row.copies → Holding s settled old p → Holding s settled old q
+  pub holding-same : (old : ℕ → ℕ → Bool) (p q : Process) → SameBytes p q → Each (CopyHolds s settled p) q.as_row.copies
+      → Holding s settled old p → Holding s settled old q
   holding-same old p q same copies holding = record {
     within = λ d below. subst (λ (k : ℕ). k ≤ length (settled d)) (sym (same.stand.applied d)) (holding.within d below);
     space = subst (λ (name : ProcessId). IsArea 0 (space_of s) (held s name (stand settled q)) q.space) (sym same.stand.name)
@@ -69,8 +75,11 @@ module _ (s : Dimensions) (settled : ℕ → List Update) where
     there = λ d b below is_old. ap is_some (same.rebuilt d b) ∙ holding.there d b below is_old;
   }
 
-  pub holding-copies : (old : ℕ → ℕ → Bool) (p : Process) (cs : List Copy) → Each (CopyHolds s settled p) cs → Holding s settled old p → Holding s settled old (with_copies cs p)
-  holding-copies old p cs all holding = holding-same old p (with_copies cs p) (record { stand = record { name = refl; applied = λ d. refl }; space = refl; rebuilt = λ d b. refl }) all holding
+  pub holding-copies : (old : ℕ → ℕ → Bool) (p : Process) (cs : List Copy) → Each (CopyHolds s settled p) cs
+      → Holding s settled old p → Holding s settled old (with_copies cs p)
+  holding-copies old p cs all holding =
+      holding-same old p (with_copies cs p)
+      (record { stand = record { name = refl; applied = λ d. refl }; space = refl; rebuilt = λ d b. refl }) all holding
 
   -- a block of the space
   pub block-of-space : (b : ℕ) (f : ℕ → ℕ) (space : List ℕ) → IsArea 0 (space_of s) f space → IsBlock s b f (block_in s b space)
@@ -79,11 +88,13 @@ module _ (s : Dimensions) (settled : ℕ → List Update) where
     same = λ x below.
         let inside : b * s.block + x < space_of s = omega (arith, below) in
         let place : 0 + (b * s.block + x) ≡ b * s.block + x = omega arith in
-        get_or-take s.block (drop (b * s.block) space) x 0 (omega (arith, below)) ∙ get_or-drop (b * s.block) space x 0 ∙ area.same (b * s.block + x) inside ∙ ap f place;
+        get_or-take s.block (drop (b * s.block) space) x 0 (omega (arith, below)) ∙ get_or-drop (b * s.block) space x 0
+        ∙ area.same (b * s.block + x) inside ∙ ap f place;
   }
 
   -- a copy that is begun
-  pub begun-holds : (old : ℕ → ℕ → Bool) (there : Bool) (leader number block : ℕ) (p : Process) → Holding s settled old p → Holding s settled old (copy_begun there s leader number block p)
+  pub begun-holds : (old : ℕ → ℕ → Bool) (there : Bool) (leader number block : ℕ) (p : Process)
+      → Holding s settled old p → Holding s settled old (copy_begun there s leader number block p)
   begun-holds old true leader number block p holding = holding
   begun-holds old false leader number block p holding =
       holding-copies old p (p.as_row.copies ++ new_copy s leader number block p.space ∷ [])
@@ -93,7 +104,8 @@ module _ (s : Dimensions) (settled : ℕ → List Update) where
       none d = at-replicate None s.k d
 
       stands : marked_stand settled (replicate s.k None) p ≡ stand settled p
-      stands = same-functions (marked_stand settled (replicate s.k None) p) (stand settled p) (λ d. ap (λ (o : Option ℕ). take (unwrap_or o (replica_of p d).applied) (settled d)) (none d))
+      stands = same-functions (marked_stand settled (replicate s.k None) p) (stand settled p)
+          (λ d. ap (λ (o : Option ℕ). take (unwrap_or o (replica_of p d).applied) (settled d)) (none d))
 
       fresh : CopyHolds s settled p (new_copy s leader number block p.space)
       fresh = record {
@@ -110,7 +122,8 @@ module _ (s : Dimensions) (settled : ℕ → List Update) where
     bytes =
         area-same (c.block * s.block) (block_size s c.block) (held s p.name (marked_stand settled c.marks p))
         (held s p.name (marked_stand settled (put None c.marks d (Some n)) p)) c.bytes holds.bytes
-        (λ x. held-same s p.name (marked_stand settled c.marks p) (marked_stand settled (put None c.marks d (Some n)) p) x inside (λ e low. same e (cases_eq e d)));
+        (λ x. held-same s p.name (marked_stand settled c.marks p) (marked_stand settled (put None c.marks d (Some n)) p)
+        x inside (λ e low. same e (cases_eq e d)));
     marks = λ e k low is. bound e k low is (cases_eq e d);
   } where
     same : (e : ℕ) → (e ≡ d) ⊎ (e ≢ d) → marked_stand settled (put None c.marks d (Some n)) p e ≡ marked_stand settled c.marks p e
@@ -164,14 +177,17 @@ module _ (s : Dimensions) where
   pub stays-row : (i : ℕ) (bytes : List ℕ) (o : Option Gathering) (state : LeaderState) → StaysRebuilt state (row_gathered s i bytes o state)
   stays-row i bytes None state d b there = refl
   stays-row i bytes (Some g) state d b there =
-      stays-gathered (is_complete s (record g { rows_in = put None g.rows_in i (Some bytes) })) (record g { rows_in = put None g.rows_in i (Some bytes) }) state d b there
+      stays-gathered (is_complete s (record g { rows_in = put None g.rows_in i (Some bytes) }))
+      (record g { rows_in = put None g.rows_in i (Some bytes) }) state d b there
 
   pub stays-block : (e : ℕ) (bytes : List ℕ) (o : Option Gathering) (state : LeaderState) → StaysRebuilt state (block_gathered s e bytes o state)
   stays-block e bytes None state d b there = refl
   stays-block e bytes (Some g) state d b there =
-      stays-gathered (is_complete s (record g { blocks_in = put None g.blocks_in e (Some bytes) })) (record g { blocks_in = put None g.blocks_in e (Some bytes) }) state d b there
+      stays-gathered (is_complete s (record g { blocks_in = put None g.blocks_in e (Some bytes) }))
+      (record g { blocks_in = put None g.blocks_in e (Some bytes) }) state d b there
 
-  pub holding-leader : (settled : ℕ → List Update) (old : ℕ → ℕ → Bool) (p : Process) (l : LeaderState) → StaysRebuilt p.as_leader l → Holding s settled old p → Holding s settled old (with_leader l p)
+  pub holding-leader : (settled : ℕ → List Update) (old : ℕ → ℕ → Bool) (p : Process) (l : LeaderState)
+      → StaysRebuilt p.as_leader l → Holding s settled old p → Holding s settled old (with_leader l p)
   holding-leader settled old p l stays holding = record {
     within = holding.within;
     space = holding.space;
@@ -188,20 +204,25 @@ module _ (s : Dimensions) where
         (stays-row c.leader c.bytes (open_session p.as_leader c.number) p.as_leader) holding
     finished-holds false c p holding = holding
 
-    pub kept-holds : (whole : Bool) (c : Copy) (p : Process) → CopyHolds s settled p c → Holding s settled old p → Holding s settled old (copy_kept whole s c p).process
+    pub kept-holds : (whole : Bool) (c : Copy) (p : Process) → CopyHolds s settled p c → Holding s settled old p
+        → Holding s settled old (copy_kept whole s c p).process
     kept-holds true c p holds holding =
         finished-holds (same_process p.name (ParityNode c.leader)) c (with_copies (without_copy c.leader c.number p.as_row.copies) p)
-        (holding-copies s settled old p (without_copy c.leader c.number p.as_row.copies) (each-filter (CopyHolds s settled p) (λ x. not (is_copy c.leader c.number x)) p.as_row.copies holding.copies) holding)
+        (holding-copies s settled old p (without_copy c.leader c.number p.as_row.copies)
+        (each-filter (CopyHolds s settled p) (λ x. not (is_copy c.leader c.number x)) p.as_row.copies holding.copies)
+        holding)
     kept-holds false c p holds holding = holding-copies s settled old p (with_copy c p.as_row.copies)
         (each-map (CopyHolds s settled p) (λ x. if is_copy c.leader c.number x then c else x) p.as_row.copies
-        (each-weaker (CopyHolds s settled p) (λ x. CopyHolds s settled p (if is_copy c.leader c.number x then c else x)) (λ x other. by x other (is_copy c.leader c.number x)) p.as_row.copies holding.copies)) holding
+        (each-weaker (CopyHolds s settled p) (λ x. CopyHolds s settled p (if is_copy c.leader c.number x then c else x))
+        (λ x other. by x other (is_copy c.leader c.number x)) p.as_row.copies holding.copies)) holding
       where
         by : (x : Copy) → CopyHolds s settled p x → (b : Bool) → CopyHolds s settled p (if b then c else x)
         by x other true = holds
         by x other false = other
 
     -- a partition is marked in a session's copy
-    pub mark-holds : (p : Process) (leader number d n : ℕ) → Inside s p.name → d < s.k → (replica_of p d).applied ≡ n → IfSome (copy_in p.as_row.copies leader number) (λ c. at None c.marks d ≡ None)
+    pub mark-holds : (p : Process) (leader number d n : ℕ) → Inside s p.name → d < s.k → (replica_of p d).applied ≡ n
+        → IfSome (copy_in p.as_row.copies leader number) (λ c. at None c.marks d ≡ None)
         → Holding s settled old p → Holding s settled old (copy_marked s d n (copy_in p.as_row.copies leader number) p).process
     mark-holds p leader number d n inside below stands free holding = by (copy_in p.as_row.copies leader number) refl where
       by : (o : Option Copy) → copy_in p.as_row.copies leader number ≡ o → Holding s settled old (copy_marked s d n o p).process
@@ -209,4 +230,6 @@ module _ (s : Dimensions) where
       by (Some c) is =
           let found = found-each (is_copy leader number) (CopyHolds s settled p) p.as_row.copies c is holding.copies in
           kept-holds (is_marked s (marked d n c)) (marked d n c) p
-          (marked-holds s settled p c d n inside below stands (holding.within d below) (if-some (λ (x : Copy). at None x.marks d ≡ None) (copy_in p.as_row.copies leader number) c is free) found.1) holding
+          (marked-holds s settled p c d n inside below stands (holding.within d below)
+          (if-some (λ (x : Copy). at None x.marks d ≡ None) (copy_in p.as_row.copies leader number) c is free)
+          found.1) holding

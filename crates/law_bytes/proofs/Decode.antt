@@ -1,5 +1,7 @@
 -- What is decoded from bytes that stand at one stamp.
-use Rattle.std.proofs.Common.{◌≡◌, ℕ, zero, suc, ◌+◌, ◌*◌, ◌<◌, ◌≤◌, ◌==◌, ◌&&◌, ◌||◌, Bool, true, false, List, [], ◌∷◌, ◌++◌, length, map, get_or, replicate, bit_xor, All, Contains, Option, Some, None, ◌⊎◌, inl, inr, sym, ap, subst, ◌∙◌, refl, arith, is_some}
+use Rattle.std.proofs.Common.{◌≡◌, ℕ, zero, suc, ◌+◌, ◌*◌, ◌<◌, ◌≤◌, ◌==◌, ◌&&◌, ◌||◌, Bool, true, false, List, [], ◌∷◌}
+use Rattle.std.proofs.Common.{◌++◌, length, map, get_or, replicate, bit_xor, All, Contains, Option, Some, None, ◌⊎◌}
+use Rattle.std.proofs.Common.{inl, inr, sym, ap, subst, ◌∙◌, refl, arith, is_some}
 use Rattle.std.specs.Int.Bits.{xor_zero_l}
 use Rattle.std.proofs.lemmas.Grind.{same_number_lists}
 use Rattle.std.proofs.lemmas.List.{length-map, length-replicate, get_or_default}
@@ -31,7 +33,9 @@ use Rattle.group_run.specs.Process.{Gathering}
 use Rattle.law_bytes.specs.Areas.{IsArea, IsBlock, WritesBytes, block_size, code, held, value, SettledWrite}
 use Rattle.law_bytes.specs.Decoding.{GathersRight, Rising, SessionsDecode, SpaceIs, SpacesStand, columns, values}
 use Rattle.law_bytes.specs.Held.{stand}
-use Rattle.law_bytes.proofs.Rising.{Differ, all-among, all-each, among-contains, among-left, among-range, among-right, any-among, contains-among, differ-append, differ-pairs, differ-rising, each-among, rising-same}
+use Rattle.law_bytes.proofs.Rising.{Differ, all-among, all-each, among-contains, among-left, among-range, among-right}
+use Rattle.law_bytes.proofs.Rising.{any-among, contains-among, differ-append, differ-pairs, differ-rising, each-among}
+use Rattle.law_bytes.proofs.Rising.{rising-same}
 use Rattle.law_bytes.proofs.Values.{IsAdded, space-added, value-byte}
 
 -- two areas of the same are one
@@ -51,10 +55,13 @@ pub record AreAreas (k from len : ℕ) (f : ℕ → ℕ → ℕ) (cs : List (Lis
   pub many : length cs ≡ k
   pub each : (d : ℕ) → d < k → IsArea from len (f d) (get_or cs d [])
 
-pub areas-of : (k from len : ℕ) (f : ℕ → ℕ → ℕ) (column : ℕ → List ℕ) → ((d : ℕ) → d < k → IsArea from len (f d) (column d)) → AreAreas k from len f (map column (range_with_len 0 k))
+pub areas-of : (k from len : ℕ) (f : ℕ → ℕ → ℕ) (column : ℕ → List ℕ)
+    → ((d : ℕ) → d < k → IsArea from len (f d) (column d)) → AreAreas k from len f (map column (range_with_len 0 k))
 areas-of k from len f column area = record {
   many = length-map-range_with_len column 0 k;
-  each = λ d below. subst (IsArea from len (f d)) (sym (get_or-map-range_with_len column 0 k d d [] below (let same : 0 + d ≡ d = omega arith in same))) (area d below);
+  each = λ d below. subst (IsArea from len (f d))
+      (sym (get_or-map-range_with_len column 0 k d d [] below (let same : 0 + d ≡ d = omega arith in same)))
+      (area d below);
 }
 
 module _ (k from len : ℕ) (f : ℕ → ℕ → ℕ) (cs : List (List ℕ)) (areas : AreAreas k from len f cs) where
@@ -84,7 +91,10 @@ module _ (k from len : ℕ) (f : ℕ → ℕ → ℕ) (cs : List (List ℕ)) (ar
 columns-each : (P : ℕ → List ℕ → Type 0) (a : ℕ) (parts : List (Option (List ℕ))) → ((j : ℕ) (bytes : List ℕ) → at None parts j ≡ Some bytes → P (a + j) bytes)
     → Each (λ c. P c.number c.bytes) (columns_from a parts)
 columns-each P a [] every = tt
-columns-each P a (None ∷ parts) every = columns-each P (suc a) parts (λ j bytes is. subst (λ (n : ℕ). P n bytes) (let same : a + suc j ≡ suc a + j = omega arith in same) (every (suc j) bytes is))
+columns-each P a (None ∷ parts) every =
+    columns-each P (suc a) parts
+    (λ j bytes is. subst (λ (n : ℕ). P n bytes) (let same : a + suc j ≡ suc a + j = omega arith in same)
+    (every (suc j) bytes is))
 columns-each P a (Some bytes ∷ parts) every = (
   subst (λ (n : ℕ). P n bytes) (let same : a + 0 ≡ a = omega arith in same) (every 0 bytes refl),
   columns-each P (suc a) parts (λ j more is. subst (λ (n : ℕ). P n more) (let same : a + suc j ≡ suc a + j = omega arith in same) (every (suc j) more is)),
@@ -98,23 +108,30 @@ columns-above b a (Some bytes ∷ parts) low = (low, columns-above b (suc a) par
 columns-rise : (a : ℕ) (parts : List (Option (List ℕ))) → Rising (numbers_of (columns_from a parts))
 columns-rise a [] = tt
 columns-rise a (None ∷ parts) = columns-rise (suc a) parts
-columns-rise a (Some bytes ∷ parts) = (each-weaker (λ y. suc a ≤ y) (λ y. a < y) (λ y above. omega (arith, above)) (numbers_of (columns_from (suc a) parts)) (columns-above (suc a) (suc a) parts (omega arith)), columns-rise (suc a) parts)
+columns-rise a (Some bytes ∷ parts) = (
+  each-weaker (λ y. suc a ≤ y) (λ y. a < y) (λ y above. omega (arith, above))
+      (numbers_of (columns_from (suc a) parts)) (columns-above (suc a) (suc a) parts (omega arith)),
+  columns-rise (suc a) parts,
+)
 
 columns-among : (a : ℕ) (parts : List (Option (List ℕ))) (j : ℕ) → is_some (at None parts j) ≡ true → Among (a + j) (numbers_of (columns_from a parts))
 columns-among a [] j there = absurd (cc there)
 columns-among a (None ∷ parts) zero there = absurd (cc there)
 columns-among a (None ∷ parts) (suc j) there =
-    subst (λ (n : ℕ). Among n (numbers_of (columns_from (suc a) parts))) (let same : suc a + j ≡ a + suc j = omega arith in same) (columns-among (suc a) parts j there)
+    subst (λ (n : ℕ). Among n (numbers_of (columns_from (suc a) parts))) (let same : suc a + j ≡ a + suc j = omega arith
+    in same) (columns-among (suc a) parts j there)
 columns-among a (Some bytes ∷ parts) zero there = inl (let same : a + 0 ≡ a = omega arith in same)
 columns-among a (Some bytes ∷ parts) (suc j) there =
-    inr (subst (λ (n : ℕ). Among n (numbers_of (columns_from (suc a) parts))) (let same : suc a + j ≡ a + suc j = omega arith in same) (columns-among (suc a) parts j there))
+    inr (subst (λ (n : ℕ). Among n (numbers_of (columns_from (suc a) parts)))
+    (let same : suc a + j ≡ a + suc j = omega arith in same) (columns-among (suc a) parts j there))
 
 numbers-each : (P : ℕ → Type 0) (cs : List Column) → Each (λ c. P c.number) cs → Each P (numbers_of cs)
 numbers-each P [] all = tt
 numbers-each P (c ∷ cs) all = (all.0, numbers-each P cs all.1)
 
 -- each number is lost or known
-pub each-below-of : (k : ℕ) (lost known : List ℕ) → Differ lost → Differ known → ((x : ℕ) → Among x lost → ¬ (Among x known)) → Each (λ x. x < k) lost → Each (λ x. x < k) known
+pub each-below-of : (k : ℕ) (lost known : List ℕ) → Differ lost → Differ known
+    → ((x : ℕ) → Among x lost → ¬ (Among x known)) → Each (λ x. x < k) lost → Each (λ x. x < k) known
     → ((d : ℕ) → d < k → Among d lost ⊎ Among d known) → IsEachBelow k (lost ++ known)
 each-below-of k lost known a b apart lost_in known_in either = record {
   different = differ-pairs (lost ++ known) (differ-append lost known a b apart);
@@ -142,44 +159,57 @@ module _ (s : Dimensions) (us : ℕ → List Update) (g : Gathering) (shaped : I
   rows : List Column
   rows = columns_from 0 g.rows_in
 
-  parts : (list_all (λ d. list_any (λ l. l == d) g.lost || is_some (at None g.blocks_in d)) (range_with_len 0 s.k) ≡ true) × (list_all (λ i. is_some (at None g.rows_in i)) g.rows ≡ true)
+  parts : (list_all (λ d. list_any (λ l. l == d) g.lost || is_some (at None g.blocks_in d)) (range_with_len 0 s.k)
+      ≡ true) × (list_all (λ i. is_some (at None g.rows_in i)) g.rows ≡ true)
   parts = and-parts _ _ complete
 
   known_each : Each (λ c. (c.number < s.k) × (¬ (Contains g.lost c.number)) × IsBlock s g.block (value (us c.number)) c.bytes) known
   unfolding known
   known_each = columns-each (λ d bytes. (d < s.k) × (¬ (Contains g.lost d)) × IsBlock s g.block (value (us d)) bytes) 0 g.blocks_in
-      (λ j bytes is. subst (λ (n : ℕ). (n < s.k) × (¬ (Contains g.lost n)) × IsBlock s g.block (value (us n)) bytes) (let same : j ≡ 0 + j = omega arith in same) (right.blocks j bytes is))
+      (λ j bytes is. subst (λ (n : ℕ). (n < s.k) × (¬ (Contains g.lost n)) × IsBlock s g.block (value (us n)) bytes)
+      (let same : j ≡ 0 + j = omega arith in same) (right.blocks j bytes is))
 
   rows_each : Each (λ c. Contains g.rows c.number × IsBlock s g.block (code s c.number us) c.bytes) rows
   unfolding rows
   rows_each = columns-each (λ i bytes. Contains g.rows i × IsBlock s g.block (code s i us) bytes) 0 g.rows_in
-      (λ j bytes is. subst (λ (n : ℕ). Contains g.rows n × IsBlock s g.block (code s n us) bytes) (let same : j ≡ 0 + j = omega arith in same) (right.codes j bytes is))
+      (λ j bytes is. subst (λ (n : ℕ). Contains g.rows n × IsBlock s g.block (code s n us) bytes)
+      (let same : j ≡ 0 + j = omega arith in same) (right.codes j bytes is))
 
   known_in : Each (λ d. (d < s.k) × (¬ (Contains g.lost d))) (numbers_of known)
   known_in =
       numbers-each (λ d. (d < s.k) × (¬ (Contains g.lost d))) known
-      (each-weaker (λ c. (c.number < s.k) × (¬ (Contains g.lost c.number)) × IsBlock s g.block (value (us c.number)) c.bytes) (λ c. (c.number < s.k) × (¬ (Contains g.lost c.number))) (λ c all. (all.0, all.1)) known known_each)
+      (each-weaker (λ c. (c.number < s.k) × (¬ (Contains g.lost c.number)) × IsBlock s g.block (value (us c.number))
+      c.bytes) (λ c. (c.number < s.k) × (¬ (Contains g.lost c.number))) (λ c all. (all.0, all.1)) known known_each)
 
   rows_are : numbers_of rows ≡ g.rows
   unfolding rows
   rows_are = rising-same (numbers_of rows) g.rows (columns-rise 0 g.rows_in) right.rows
       (λ i there. contains-among g.rows i (each-among (λ x. Contains g.rows x) (numbers_of rows) i
-      (numbers-each (λ x. Contains g.rows x) rows (each-weaker (λ c. Contains g.rows c.number × IsBlock s g.block (code s c.number us) c.bytes) (λ c. Contains g.rows c.number) (λ c all. all.0) rows rows_each)) there))
-      (λ i there. subst (λ (n : ℕ). Among n (numbers_of rows)) (let same : 0 + i ≡ i = omega arith in same) (columns-among 0 g.rows_in i (all-among (λ x. is_some (at None g.rows_in x)) g.rows i parts.1 there)))
+      (numbers-each (λ x. Contains g.rows x) rows
+      (each-weaker (λ c. Contains g.rows c.number × IsBlock s g.block (code s c.number us) c.bytes)
+      (λ c. Contains g.rows c.number) (λ c all. all.0) rows rows_each)) there))
+      (λ i there. subst (λ (n : ℕ). Among n (numbers_of rows)) (let same : 0 + i ≡ i = omega arith in same)
+      (columns-among 0 g.rows_in i (all-among (λ x. is_some (at None g.rows_in x)) g.rows i parts.1 there)))
 
   either : (d : ℕ) → d < s.k → Among d g.lost ⊎ Among d (numbers_of known)
   unfolding known
-  either d below = by (or-parts _ _ (all-among (λ d. list_any (λ l. l == d) g.lost || is_some (at None g.blocks_in d)) (range_with_len 0 s.k) d parts.0 (among-range d 0 s.k (omega arith) (omega (arith, below))))) where
-    by : (list_any (λ l. l == d) g.lost ≡ true) ⊎ (is_some (at None g.blocks_in d) ≡ true) → Among d g.lost ⊎ Among d (numbers_of (columns_from 0 g.blocks_in))
-    by (inl lost) = inl (any-among g.lost d lost)
-    by (inr there) = inr (subst (λ (n : ℕ). Among n (numbers_of (columns_from 0 g.blocks_in))) (let same : 0 + d ≡ d = omega arith in same) (columns-among 0 g.blocks_in d there))
+  either d below =
+      by (or-parts _ _ (all-among (λ d. list_any (λ l. l == d) g.lost || is_some (at None g.blocks_in d))
+      (range_with_len 0 s.k) d parts.0 (among-range d 0 s.k (omega arith) (omega (arith, below))))) where
+        by : (list_any (λ l. l == d) g.lost ≡ true) ⊎ (is_some (at None g.blocks_in d) ≡ true) → Among d g.lost
+            ⊎ Among d (numbers_of (columns_from 0 g.blocks_in))
+        by (inl lost) = inl (any-among g.lost d lost)
+        by (inr there) =
+            inr (subst (λ (n : ℕ). Among n (numbers_of (columns_from 0 g.blocks_in))) (let same : 0 + d ≡ d = omega arith in
+            same) (columns-among 0 g.blocks_in d there))
 
   can : CanDecode s.k s.m g.lost rows known
   unfolding known rows
   can = record {
     processes = let a = shaped.k in let b = shaped.m in omega (arith, a, b);
     partitions = each-below-of s.k g.lost (numbers_of known) (differ-rising g.lost right.lost) (differ-rising (numbers_of known) (columns-rise 0 g.blocks_in))
-        (λ x lost there. (each-among (λ d. (d < s.k) × (¬ (Contains g.lost d))) (numbers_of known) x known_in there).1 (among-contains g.lost x lost)) right.lost_in
+        (λ x lost there. (each-among (λ d. (d < s.k) × (¬ (Contains g.lost d))) (numbers_of known) x known_in there).1
+        (among-contains g.lost x lost)) right.lost_in
         (each-weaker (λ d. (d < s.k) × (¬ (Contains g.lost d))) (λ d. d < s.k) (λ d all. all.0) (numbers_of known) known_in) either;
     different = subst AreDifferent (sym rows_are) (differ-pairs g.rows (differ-rising g.rows right.rows));
     below = subst (All (λ i. i < s.m)) (sym rows_are) (all-each (λ i. i < s.m) g.rows right.rows_in);
@@ -197,7 +227,9 @@ module _ (s : Dimensions) (us : ℕ → List Update) (g : Gathering) (shaped : I
 
   areas : AreAreas s.k (g.block * s.block) s.block (λ d. value (us d)) whole
   unfolding whole
-  areas = areas-of s.k (g.block * s.block) s.block (λ d. value (us d)) (λ d. bytes_of (g.block * s.block) s.block (value (us d))) (λ d below. bytes-area (g.block * s.block) s.block (value (us d)))
+  areas = areas-of s.k (g.block * s.block) s.block (λ d. value (us d))
+      (λ d. bytes_of (g.block * s.block) s.block (value (us d)))
+      (λ d below. bytes-area (g.block * s.block) s.block (value (us d)))
 
   to_area : (f : ℕ → ℕ) (bytes : List ℕ) → IsBlock s g.block f bytes → IsArea (g.block * s.block) s.block f bytes
   to_area f bytes block = subst (λ (n : ℕ). IsArea (g.block * s.block) n f bytes) size block
@@ -208,12 +240,16 @@ module _ (s : Dimensions) (us : ℕ → List Update) (g : Gathering) (shaped : I
     long = areas-long s.k (g.block * s.block) s.block (λ d. value (us d)) whole areas;
     holds =
         all-each (λ c. get_or whole c.number [] ≡ c.bytes) known
-        (each-weaker (λ c. (c.number < s.k) × (¬ (Contains g.lost c.number)) × IsBlock s g.block (value (us c.number)) c.bytes) (λ c. get_or whole c.number [] ≡ c.bytes)
-        (λ c all. area-one (g.block * s.block) s.block (value (us c.number)) (get_or whole c.number []) c.bytes (areas.each c.number all.0) (to_area (value (us c.number)) c.bytes all.2)) known known_each);
+        (each-weaker (λ c. (c.number < s.k) × (¬ (Contains g.lost c.number)) × IsBlock s g.block (value (us c.number))
+        c.bytes) (λ c. get_or whole c.number [] ≡ c.bytes)
+        (λ c all. area-one (g.block * s.block) s.block (value (us c.number)) (get_or whole c.number []) c.bytes
+        (areas.each c.number all.0) (to_area (value (us c.number)) c.bytes all.2)) known known_each);
     codes =
         all-each (λ c. c.bytes ≡ coded s.m c.number s.block whole) rows
         (each-weaker (λ c. Contains g.rows c.number × IsBlock s g.block (code s c.number us) c.bytes) (λ c. c.bytes ≡ coded s.m c.number s.block whole)
-        (λ c all. area-one (g.block * s.block) s.block (code s c.number us) c.bytes (coded s.m c.number s.block whole) (to_area (code s c.number us) c.bytes all.1) (coded-area s.k (g.block * s.block) s.block (λ d. value (us d)) whole areas s.m c.number)) rows rows_each);
+        (λ c all. area-one (g.block * s.block) s.block (code s c.number us) c.bytes (coded s.m c.number s.block whole)
+        (to_area (code s c.number us) c.bytes all.1) (coded-area s.k (g.block * s.block) s.block (λ d. value (us d))
+        whole areas s.m c.number)) rows rows_each);
   }
 
   pub decoded-block : (l : ℕ) → Contains g.lost l → IsBlock s g.block (value (us l)) (decoded_of s g l)
@@ -222,8 +258,11 @@ module _ (s : Dimensions) (us : ℕ → List Update) (g : Gathering) (shaped : I
       let low : l < s.k = each-among (λ d. d < s.k) g.lost l right.lost_in (contains-among g.lost l there) in
       let all = lost_are_decoded s.k s.m s.block g.lost rows known whole can
       (areas-bytes s.k (g.block * s.block) s.block (λ d. value (us d)) whole areas (λ d x below. value-byte s (us d) x (right.write d below))) agree in
-      let is : get_or whole l [] ≡ decoded s.m s.block g.lost rows known l = subst (λ (x : ℕ). get_or whole x [] ≡ decoded s.m s.block g.lost rows known x) there.2 (all there.0 l there.1) in
-      subst (λ (n : ℕ). IsArea (g.block * s.block) n (value (us l)) (decoded_of s g l)) (sym size) (subst (IsArea (g.block * s.block) s.block (value (us l))) is (areas.each l low))
+      let is : get_or whole l [] ≡ decoded s.m s.block g.lost rows known l =
+      subst (λ (x : ℕ). get_or whole x [] ≡ decoded s.m s.block g.lost rows known x) there.2
+      (all there.0 l there.1) in
+      subst (λ (n : ℕ). IsArea (g.block * s.block) n (value (us l)) (decoded_of s g l)) (sym size)
+      (subst (IsArea (g.block * s.block) s.block (value (us l))) is (areas.each l low))
 
 pub sessions_decode : SessionsDecode
 sessions_decode s us g shaped right complete l there = decoded-block s us g shaped right complete l there
@@ -257,7 +296,8 @@ spaces_stand s settled p x name inside write holds = by x name inside where
   by : (y : ProcessId) → p.name ≡ y → IsProcess s y → SpaceIs s (columns s (stand settled p)) y p.space
   by (DataNode d) is below =
       slice_get-get_or (columns s (stand settled p)) d [] (subst (λ (n : ℕ). d < n) (sym areas.many) below)
-      ∙ ap Some (area-one 0 (space_of s) (value (stand settled p d)) (get_or (columns s (stand settled p)) d []) p.space (areas.each d below) (space_is (DataNode d) is))
+      ∙ ap Some (area-one 0 (space_of s) (value (stand settled p d)) (get_or (columns s (stand settled p)) d []) p.space
+      (areas.each d below) (space_is (DataNode d) is))
   by (ParityNode i) is below =
       area-one 0 (space_of s) (code s i (stand settled p)) p.space (coded s.m i (space_of s) (columns s (stand settled p))) (space_is (ParityNode i) is)
       (coded-area s.k 0 (space_of s) (λ d. value (stand settled p d)) (columns s (stand settled p)) areas s.m i)

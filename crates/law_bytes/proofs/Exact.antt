@@ -33,7 +33,8 @@ BlockIs s settled (ParityNode i) bytes n = Unit {0}
 -- a row is the code at its stamp, which is settled
 abbrev pub RowIs : Dimensions → (ℕ → List Update) → ProcessId → List ℕ → List ℕ → Type 0
 RowIs s settled (DataNode d) bytes stamp = Unit {0}
-RowIs s settled (ParityNode i) bytes stamp = ((d : ℕ) → d < s.k → at 0 stamp d ≤ length (settled d)) × ((b : ℕ) × IsBlock s b (code s i (stamp_stand settled stamp)) bytes)
+RowIs s settled (ParityNode i) bytes stamp = ((d : ℕ) → d < s.k → at 0 stamp d ≤ length (settled d))
+    × ((b : ℕ) × IsBlock s b (code s i (stamp_stand settled stamp)) bytes)
 
 -- a message from x carries what it should
 abbrev pub Exact : Dimensions → (ℕ → List Update) → ProcessId → Message → Type 0
@@ -49,10 +50,13 @@ MessagesExact s v = (x q : ProcessId) → IsProcess s x → IsProcess s q → x 
 -- every move keeps it, under the premises of the law of bytes
 pub record ExactKept (s : Dimensions) : Type 0 where
   pub opens : (v : State) → Opens s v → MessagesExact s v
-  pub treats : (v w : State) (p : ProcessId) (t : ProcessStep) → IsProcess s p → v.dead p ≡ false → Treats s (v.process p) t → Members s v → Members s w → HoldsBytes s v → MessagesExact s v
+  pub treats : (v w : State) (p : ProcessId) (t : ProcessStep) → IsProcess s p → v.dead p ≡ false
+      → Treats s (v.process p) t → Members s v → Members s w → HoldsBytes s v → MessagesExact s v
       → StepIsRight s w.settled (v.process p) t → Acted s v w p t → MessagesExact s w
-  pub receives : (v u w : State) (x p : ProcessId) (m : Message) → IsProcess s x → IsProcess s p → x ≢ p → v.dead p ≡ false → Members s v → Members s w → HoldsBytes s v → MessagesExact s v
-      → MarksNew m (v.process p) → StepIsRight s w.settled (v.process p) (receive s x m (v.process p)) → Popped s v u x p m → Acted s u w p (receive s x m (v.process p)) → MessagesExact s w
+  pub receives : (v u w : State) (x p : ProcessId) (m : Message) → IsProcess s x → IsProcess s p → x ≢ p
+      → v.dead p ≡ false → Members s v → Members s w → HoldsBytes s v → MessagesExact s v
+      → MarksNew m (v.process p) → StepIsRight s w.settled (v.process p) (receive s x m (v.process p))
+      → Popped s v u x p m → Acted s u w p (receive s x m (v.process p)) → MessagesExact s w
   pub dies : (v w : State) (p : ProcessId) (keep : ℕ) → IsProcess s p → MessagesExact s v → Died s v w p keep → MessagesExact s w
 
 -- so it is for every shape

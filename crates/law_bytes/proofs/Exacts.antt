@@ -52,7 +52,8 @@ module _ (s : Dimensions) where
       (
         exact.1.0,
         area-same (exact.1.0 * s.block) (block_size s exact.1.0) (code s i (stamp_stand before stamp)) (code s i (stamp_stand after stamp)) bytes exact.1.1
-            (λ y. held-same s (ParityNode i) (stamp_stand before stamp) (stamp_stand after stamp) y tt (λ d below. still d (at 0 stamp d) below (exact.0 d below))),
+            (λ y. held-same s (ParityNode i) (stamp_stand before stamp) (stamp_stand after stamp) y tt
+            (λ d below. still d (at 0 stamp d) below (exact.0 d below))),
       ),
     )
     exact-grown v x q (tells.Update r d u stable) inside may exact = tt
@@ -63,14 +64,16 @@ module _ (s : Dimensions) where
     exact-grown v x q (tells.Cease upto) inside may exact = tt
     exact-grown v x q (tells.Notice dead) inside may exact = tt
 
-    link-grown : (v : State) (x q : ProcessId) (ms : List Message) → IsProcess s x → Each (MayStand s v x q) ms → Each (Exact s before x) ms → Each (Exact s after x) ms
+    link-grown : (v : State) (x q : ProcessId) (ms : List Message) → IsProcess s x → Each (MayStand s v x q) ms
+        → Each (Exact s before x) ms → Each (Exact s after x) ms
     link-grown v x q ms inside may exact =
         each-weaker (λ m. MayStand s v x q m × Exact s before x m) (Exact s after x) (λ m both. exact-grown v x q m inside both.0 both.1) ms
         (each-both (MayStand s v x q) (Exact s before x) ms may exact)
 
   -- one process made a step, after which links are as they were but for what it sent
   acted-exact : (u w : State) (p : ProcessId) (step : ProcessStep) → IsProcess s p → u.dead p ≡ false → Members s w → Acted s u w p step
-      → ((x q : ProcessId) → IsProcess s x → IsProcess s q → x ≢ q → u.dead q ≡ false → Each (Exact s w.settled x) (u.link x q)) → SendsExact s w.settled p step → MessagesExact s w
+      → ((x q : ProcessId) → IsProcess s x → IsProcess s q → x ≢ q → u.dead q ≡ false → Each (Exact s w.settled x)
+      (u.link x q)) → SendsExact s w.settled p step → MessagesExact s w
   acted-exact u w p step pin lives after acts old sends x q xin qin apart living = by (same-cases x p) where
     lived : u.dead q ≡ false
     lived = sym (acts.dead q qin) ∙ living
@@ -81,23 +84,31 @@ module _ (s : Dimensions) where
         let other : q ≢ p = λ (same : q ≡ p). apart (is ∙ sym same) in
         subst (λ (y : ProcessId). Each (Exact s w.settled y) (w.link y q)) (sym is)
         (subst (Each (Exact s w.settled p)) (sym (acts.sends q qin (unknown s u w p step pin lives after acts q qin other lived)))
-        (each-append (Exact s w.settled p) (u.link p q) (sent_to q step.sent) (old p q pin qin (λ same. other (sym same)) lived) (each-sent_to (λ to m. Exact s w.settled p m) q step.sent sends)))
+        (each-append (Exact s w.settled p) (u.link p q) (sent_to q step.sent)
+        (old p q pin qin (λ same. other (sym same)) lived)
+        (each-sent_to (λ to m. Exact s w.settled p m) q step.sent sends)))
 
-  treated : (v w : State) (p : ProcessId) (t : ProcessStep) → IsProcess s p → v.dead p ≡ false → Treats s (v.process p) t → Members s v → Members s w → HoldsBytes s v → MessagesExact s v
+  treated : (v w : State) (p : ProcessId) (t : ProcessStep) → IsProcess s p → v.dead p ≡ false
+      → Treats s (v.process p) t → Members s v → Members s w → HoldsBytes s v → MessagesExact s v
       → StepIsRight s w.settled (v.process p) t → Acted s v w p t → MessagesExact s w
   treated v w p t pin lives treats members after holds exact right acts =
       acted-exact v w p t pin lives after acts
-      (λ x q xin qin apart living. link-grown v.settled w.settled grows v x q (v.link x q) xin (members.may x q xin qin apart living) (exact x q xin qin apart living))
-      (treats-sends s w.settled (v.process p) p (members.named p pin) (before-holds s v v w p t pin members (λ q qin. refl) (λ q qin. refl) (λ d. refl) acts lives holds) t treats)
+      (λ x q xin qin apart living. link-grown v.settled w.settled grows v x q (v.link x q) xin
+      (members.may x q xin qin apart living) (exact x q xin qin apart living))
+      (treats-sends s w.settled (v.process p) p (members.named p pin)
+      (before-holds s v v w p t pin members (λ q qin. refl) (λ q qin. refl) (λ d. refl) acts lives holds) t treats)
     where
       grows : Prolongs s v.settled w.settled
       grows = prolongs s v v w p t pin members (λ q qin. refl) (λ q qin. refl) (λ d. refl) acts
 
-  received : (v u w : State) (x p : ProcessId) (m : Message) → IsProcess s x → IsProcess s p → x ≢ p → v.dead p ≡ false → Members s v → Members s w → HoldsBytes s v → MessagesExact s v
-      → MarksNew m (v.process p) → StepIsRight s w.settled (v.process p) (receive s x m (v.process p)) → Popped s v u x p m → Acted s u w p (receive s x m (v.process p)) → MessagesExact s w
+  received : (v u w : State) (x p : ProcessId) (m : Message) → IsProcess s x → IsProcess s p → x ≢ p → v.dead p ≡ false
+      → Members s v → Members s w → HoldsBytes s v → MessagesExact s v
+      → MarksNew m (v.process p) → StepIsRight s w.settled (v.process p) (receive s x m (v.process p))
+      → Popped s v u x p m → Acted s u w p (receive s x m (v.process p)) → MessagesExact s w
   received v u w x p m xin pin apart lives members after holds exact new right pops acts =
       acted-exact u w p step pin (pops.dead p pin ∙ lives) after acts links
-      (receive-sends s w.settled right.write (rebuilt_at (v.process p)) x p m (v.process p) (members.named p pin) pin (addressed s v x p m may) (comes-to s v x p m may) here
+      (receive-sends s w.settled right.write (rebuilt_at (v.process p)) x p m (v.process p) (members.named p pin) pin
+      (addressed s v x p m may) (comes-to s v x p m may) here
       (holding-from s w.settled (v.process p) here) new right.applies)
     where
       step : ProcessStep
@@ -121,12 +132,15 @@ module _ (s : Dimensions) where
         old = link-grown v.settled w.settled grows v y q (v.link y q) yin (members.may y q yin qin between lived) (exact y q yin qin between lived)
 
         popped : Each (Exact s w.settled x) (u.link x p)
-        popped = (subst (Each (Exact s w.settled x)) pops.first (link-grown v.settled w.settled grows v x p (v.link x p) xin (members.may x p xin pin apart lives) (exact x p xin pin apart lives))).1
+        popped = (subst (Each (Exact s w.settled x)) pops.first
+            (link-grown v.settled w.settled grows v x p (v.link x p) xin (members.may x p xin pin apart lives)
+            (exact x p xin pin apart lives))).1
 
         cases : (y ≡ x) ⊎ (y ≢ x) → (q ≡ p) ⊎ (q ≢ p) → Each (Exact s w.settled y) (u.link y q)
         cases (inr other) _ = subst (Each (Exact s w.settled y)) (sym (pops.links y q yin qin (inl other))) old
         cases (inl is) (inr other) = subst (Each (Exact s w.settled y)) (sym (pops.links y q yin qin (inr other))) old
-        cases (inl is) (inl same) = subst (λ (z : ProcessId). Each (Exact s w.settled z) (u.link z q)) (sym is) (subst (λ (z : ProcessId). Each (Exact s w.settled x) (u.link x z)) (sym same) popped)
+        cases (inl is) (inl same) = subst (λ (z : ProcessId). Each (Exact s w.settled z) (u.link z q)) (sym is)
+            (subst (λ (z : ProcessId). Each (Exact s w.settled x) (u.link x z)) (sym same) popped)
 
   died : (v w : State) (p : ProcessId) (keep : ℕ) → IsProcess s p → MessagesExact s v → Died s v w p keep → MessagesExact s w
   died v w p keep pin exact dies x q xin qin apart living =
@@ -141,7 +155,9 @@ module _ (s : Dimensions) where
       by : (x ≡ p) ⊎ (x ≢ p) → Each (Exact s v.settled x) (w.link x q)
       by (inr from) = subst (Each (Exact s v.settled x)) (sym (dies.links x q xin qin from)) (exact x q xin qin apart lived)
       by (inl is) = subst (λ (y : ProcessId). Each (Exact s v.settled y) (w.link y q)) (sym is) (subst (Each (Exact s v.settled p)) (sym (dies.cut q qin))
-          (each-append (Exact s v.settled p) (take keep (v.link p q)) (tells.Notice p ∷ []) (each-take (Exact s v.settled p) keep (v.link p q) (exact p q pin qin (λ same. other (sym same)) lived)) (tt, tt)))
+          (each-append (Exact s v.settled p) (take keep (v.link p q)) (tells.Notice p ∷ [])
+          (each-take (Exact s v.settled p) keep (v.link p q) (exact p q pin qin (λ same. other (sym same)) lived))
+          (tt, tt)))
 
 pub exact_kept : ExactAlwaysKept
 exact_kept s shaped = record {

@@ -1,5 +1,6 @@
 -- What is found in lists whose members are turned, filtered or exchanged.
-use Rattle.std.proofs.Common.{◌≡◌, ◌&&◌, Bool, true, false, List, [], ◌∷◌, ◌++◌, map, filter, find, cond, Option, Some, None, option_map, ◌⊎◌, inl, inr, refl, sym, ap, ap₂, subst, ◌∙◌, if◌then◌else◌}
+use Rattle.std.proofs.Common.{◌≡◌, ◌&&◌, Bool, true, false, List, [], ◌∷◌, ◌++◌, map, filter, find, cond, Option, Some}
+use Rattle.std.proofs.Common.{None, option_map, ◌⊎◌, inl, inr, refl, sym, ap, ap₂, subst, ◌∙◌, if◌then◌else◌}
 
 pub and-split : (a b : Bool) → (a && b) ≡ true → (a ≡ true) × (b ≡ true)
 and-split true true both = (refl, refl)
@@ -17,14 +18,16 @@ module _ {X : Type 0} (test : X → Bool) where
   pub found-map : (f : X → X) (xs : List X) → ((x : X) → test (f x) ≡ test x) → find test (map f xs) ≡ option_map f (find test xs)
   found-map f [] same = refl
   found-map f (x ∷ xs) same = by (test x) (test (f x)) (same x) (found-map f xs same) where
-    by : (b c : Bool) → c ≡ b → find test (map f xs) ≡ option_map f (find test xs) → cond c (Some (f x)) (find test (map f xs)) ≡ option_map f (cond b (Some x) (find test xs))
+    by : (b c : Bool) → c ≡ b → find test (map f xs) ≡ option_map f (find test xs)
+        → cond c (Some (f x)) (find test (map f xs)) ≡ option_map f (cond b (Some x) (find test xs))
     by true true is rest = refl
     by false false is rest = rest
     by true false is rest = absurd (cc is)
     by false true is rest = absurd (cc is)
 
   -- all that pass are kept, or none
-  pub found-filter : (keep : X → Bool) (b : Bool) (xs : List X) → ((x : X) → test x ≡ true → keep x ≡ b) → find test (filter keep xs) ≡ (if b then find test xs else None)
+  pub found-filter : (keep : X → Bool) (b : Bool) (xs : List X) → ((x : X) → test x ≡ true → keep x ≡ b)
+      → find test (filter keep xs) ≡ (if b then find test xs else None)
   found-filter keep true [] all = refl
   found-filter keep false [] all = refl
   found-filter keep b (x ∷ xs) all = by (test x) (keep x) refl refl (found-filter keep b xs all) where
@@ -46,20 +49,24 @@ module _ {X : Type 0} (test : X → Bool) where
     by false false is k rest = rest
 
   -- members that don't pass are exchanged for one that doesn't
-  pub found-apart : (swap : X → Bool) (y : X) (xs : List X) → test y ≡ false → ((x : X) → swap x ≡ true → test x ≡ false) → find test (map (λ x. if swap x then y else x) xs) ≡ find test xs
+  pub found-apart : (swap : X → Bool) (y : X) (xs : List X) → test y ≡ false
+      → ((x : X) → swap x ≡ true → test x ≡ false) → find test (map (λ x. if swap x then y else x) xs) ≡ find test xs
   found-apart swap y [] out apart = refl
   found-apart swap y (x ∷ xs) out apart = by (swap x) refl (found-apart swap y xs out apart) where
     by : (b : Bool) → swap x ≡ b → find test (map (λ z. if swap z then y else z) xs) ≡ find test xs
-        → cond (test (if b then y else x)) (Some (if b then y else x)) (find test (map (λ z. if swap z then y else z) xs)) ≡ cond (test x) (Some x) (find test xs)
+        → cond (test (if b then y else x)) (Some (if b then y else x))
+        (find test (map (λ z. if swap z then y else z) xs)) ≡ cond (test x) (Some x) (find test xs)
     by true is rest =
-        ap (λ (c : Bool). cond c (Some y) (find test (map (λ z. if swap z then y else z) xs))) out ∙ rest ∙ sym (ap (λ (c : Bool). cond c (Some x) (find test xs)) (apart x is))
+        ap (λ (c : Bool). cond c (Some y) (find test (map (λ z. if swap z then y else z) xs))) out ∙ rest
+        ∙ sym (ap (λ (c : Bool). cond c (Some x) (find test xs)) (apart x is))
     by false is rest = ap (cond (test x) (Some x)) rest
 
   -- those that pass are exchanged for one that does
   pub found-exchanged : (y c : X) (xs : List X) → test y ≡ true → find test xs ≡ Some c → find test (map (λ x. if test x then y else x) xs) ≡ Some y
   found-exchanged y c [] passes is = absurd (cc is)
   found-exchanged y c (x ∷ xs) passes is = by (test x) refl is (λ there. found-exchanged y c xs passes there) where
-    by : (b : Bool) → test x ≡ b → cond b (Some x) (find test xs) ≡ Some c → (find test xs ≡ Some c → find test (map (λ z. if test z then y else z) xs) ≡ Some y)
+    by : (b : Bool) → test x ≡ b → cond b (Some x) (find test xs) ≡ Some c
+        → (find test xs ≡ Some c → find test (map (λ z. if test z then y else z) xs) ≡ Some y)
         → cond (test (if b then y else x)) (Some (if b then y else x)) (find test (map (λ z. if test z then y else z) xs)) ≡ Some y
     by true t here later = ap (λ (k : Bool). cond k (Some y) (find test (map (λ z. if test z then y else z) xs))) passes
     by false t there later = ap (λ (k : Bool). cond k (Some x) (find test (map (λ z. if test z then y else z) xs))) t ∙ later there
@@ -72,7 +79,8 @@ module _ {X : Type 0} (test : X → Bool) where
     by false = inl refl
   found-behind (x ∷ xs) y = by (test x) (found-behind xs y) where
     by : (b : Bool) → (find test (xs ++ y ∷ []) ≡ find test xs) ⊎ ((find test xs ≡ None) × (find test (xs ++ y ∷ []) ≡ Some y))
-        → (cond b (Some x) (find test (xs ++ y ∷ [])) ≡ cond b (Some x) (find test xs)) ⊎ ((cond b (Some x) (find test xs) ≡ None) × (cond b (Some x) (find test (xs ++ y ∷ [])) ≡ Some y))
+        → (cond b (Some x) (find test (xs ++ y ∷ [])) ≡ cond b (Some x) (find test xs))
+        ⊎ ((cond b (Some x) (find test xs) ≡ None) × (cond b (Some x) (find test (xs ++ y ∷ [])) ≡ Some y))
     by true rest = inl refl
     by false rest = rest
 

@@ -19,7 +19,9 @@ found-behind test P [] y front last = by (test y) where
   by true = last
   by false = tt
 found-behind test P (x ∷ xs) y front last = by (test x) front (λ there. found-behind test P xs y there last) where
-  by : (b : Bool) → IfSome (cond b (Some x) (find test xs)) P → (IfSome (find test xs) P → IfSome (find test (xs ++ y ∷ [])) P) → IfSome (cond b (Some x) (find test (xs ++ y ∷ []))) P
+  by : (b : Bool) → IfSome (cond b (Some x) (find test xs)) P
+      → (IfSome (find test xs) P → IfSome (find test (xs ++ y ∷ [])) P)
+      → IfSome (cond b (Some x) (find test (xs ++ y ∷ []))) P
   by true here later = here
   by false there later = later there
 
@@ -28,7 +30,9 @@ pub found-map : {X : Type 0} (test : X → Bool) (P : X → Type 0) (f : X → X
     → IfSome (find test xs) P → IfSome (find test (map f xs)) P
 found-map test P f [] same turns front = tt
 found-map test P f (x ∷ xs) same turns front = by (test x) (test (f x)) (same x) front (λ there. found-map test P f xs same turns there) where
-  by : (b c : Bool) → c ≡ b → IfSome (cond b (Some x) (find test xs)) P → (IfSome (find test xs) P → IfSome (find test (map f xs)) P) → IfSome (cond c (Some (f x)) (find test (map f xs))) P
+  by : (b c : Bool) → c ≡ b → IfSome (cond b (Some x) (find test xs)) P
+      → (IfSome (find test xs) P → IfSome (find test (map f xs)) P)
+      → IfSome (cond c (Some (f x)) (find test (map f xs))) P
   by true true is here later = turns x here
   by false false is there later = later there
   by true false is here later = absurd (cc is)
@@ -38,7 +42,8 @@ found-map test P f (x ∷ xs) same turns front = by (test x) (test (f x)) (same 
 pub found-none : {X : Type 0} (test : X → Bool) (xs : List X) → find test xs ≡ None → Each (λ x. test x ≡ false) xs
 found-none test [] none = tt
 found-none test (x ∷ xs) none = by (test x) refl none (λ there. found-none test xs there) where
-  by : (b : Bool) → test x ≡ b → cond b (Some x) (find test xs) ≡ None → (find test xs ≡ None → Each (λ x. test x ≡ false) xs) → Each (λ x. test x ≡ false) (x ∷ xs)
+  by : (b : Bool) → test x ≡ b → cond b (Some x) (find test xs) ≡ None
+      → (find test xs ≡ None → Each (λ x. test x ≡ false) xs) → Each (λ x. test x ≡ false) (x ∷ xs)
   by true passes here later = absurd (cc here)
   by false fails there later = (fails, later there)
 

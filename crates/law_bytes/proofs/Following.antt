@@ -1,5 +1,6 @@
 -- Steps of one process that leave what it has of a session following its plan, and send nothing of it.
-use Rattle.std.proofs.Common.{◌≡◌, ℕ, suc, ◌≤◌, ◌==◌, ◌&&◌, nat_le, Bool, true, false, not, List, [], ◌∷◌, filter, find, is_some, Option, Some, None, IfSome, sym, ap, ap₂, subst, ◌∙◌, refl, if◌then◌else◌}
+use Rattle.std.proofs.Common.{◌≡◌, ℕ, suc, ◌≤◌, ◌==◌, ◌&&◌, nat_le, Bool, true, false, not, List, [], ◌∷◌, filter, find}
+use Rattle.std.proofs.Common.{is_some, Option, Some, None, IfSome, sym, ap, ap₂, subst, ◌∙◌, refl, if◌then◌else◌}
 use Rattle.std.specs.Prelude.{Contains}
 use Rattle.std.specs.List.{range_with_len}
 use Rattle.group_types.specs.Dimensions.{Dimensions}
@@ -11,7 +12,8 @@ use Rattle.group_types.proofs.Eaches.{each-append, each-weaker}
 use Rattle.group_message.specs.declared.message.Message.{Message}
 use Rattle.group_message.specs.declared.message.Message.TheVariants as tells
 use Rattle.group_message.specs.declared.update.Update.{Update}
-use Rattle.group_run.specs.Applying.{ProcessStep, Sent, and_then, apply_to, block_after, copy_after, for_each, head_at, quiet, replica_of, sending, when, with_head}
+use Rattle.group_run.specs.Applying.{ProcessStep, Sent, and_then, apply_to, block_after, copy_after, for_each, head_at}
+use Rattle.group_run.specs.Applying.{quiet, replica_of, sending, when, with_head}
 use Rattle.group_run.specs.Heading.{acknowledge, acknowledged, judge, judge_head, settle_to}
 use Rattle.group_run.specs.Leaders.{close_sessions, open_session, with_leader}
 use Rattle.group_run.specs.Process.{Copy, Gathering, Head, LeaderState, Process, RowState}
@@ -30,7 +32,8 @@ pub any : Token
 any = record { leader = 0; number = 0; partition = 0; way = Own }
 
 -- what holds of the first that passes, holds where all that pass are kept, or none
-pub if-filter : {X : Type 0} (test keep : X → Bool) (P : X → Type 0) (b : Bool) (xs : List X) → ((x : X) → test x ≡ true → keep x ≡ b) → IfSome (find test xs) P → IfSome (find test (filter keep xs)) P
+pub if-filter : {X : Type 0} (test keep : X → Bool) (P : X → Type 0) (b : Bool) (xs : List X)
+    → ((x : X) → test x ≡ true → keep x ≡ b) → IfSome (find test xs) P → IfSome (find test (filter keep xs)) P
 if-filter test keep P b xs all holds = by b (found-filter test keep b xs all) where
   by : (c : Bool) → find test (filter keep xs) ≡ (if c then find test xs else None) → IfSome (find test (filter keep xs)) P
   by true is = subst (λ o. IfSome o P) (sym is) holds
@@ -54,7 +57,8 @@ module _ (s : Dimensions) (settled : ℕ → List Update) (l n : ℕ) (plan : Pl
   Sends x sent = Each (λ z. Follows s settled l n plan x z.to z.message) sent
 
   pub silent-sends : (x : ProcessId) (sent : List Sent) → Each (λ z. Silent z.message) sent → Sends x sent
-  silent-sends x sent silent = each-weaker (λ z. Silent z.message) (λ z. Follows s settled l n plan x z.to z.message) (λ z is. silent-follows x z.to z.message is) sent silent
+  silent-sends x sent silent = each-weaker (λ z. Silent z.message) (λ z. Follows s settled l n plan x z.to z.message)
+      (λ z is. silent-follows x z.to z.message is) sent silent
 
   -- what a process has still follows the plan
   pub record Still (p q : Process) : Type 0 where
@@ -72,12 +76,17 @@ module _ (s : Dimensions) (settled : ℕ → List Update) (l n : ℕ) (plan : Pl
   still-same p q name row leader = record {
     name = name;
     follows = λ is. record {
-      copy = λ r named. subst (λ (x : RowState). IfSome (copy_in x.copies l n) (λ c. Contains plan.rows r × CopyFollows s plan c)) (sym row) (is.copy r (sym name ∙ named));
-      session = λ named. subst (λ (x : LeaderState). IfSome (open_session x n) (λ g. (n ≤ x.last_session) × GatheringFollows s settled plan g)) (sym leader) (is.session (sym name ∙ named));
+      copy = λ r named.
+          subst (λ (x : RowState). IfSome (copy_in x.copies l n) (λ c. Contains plan.rows r × CopyFollows s plan c))
+          (sym row) (is.copy r (sym name ∙ named));
+      session = λ named.
+          subst (λ (x : LeaderState). IfSome (open_session x n) (λ g. (n ≤ x.last_session)
+          × GatheringFollows s settled plan g)) (sym leader) (is.session (sym name ∙ named));
     };
   }
 
-  pub copy-applied : (name : ProcessId) (e r : ℕ) (us : List Update) (c : Copy) → Contains plan.rows r × CopyFollows s plan c → Contains plan.rows r × CopyFollows s plan (copy_after s name e us c)
+  pub copy-applied : (name : ProcessId) (e r : ℕ) (us : List Update) (c : Copy) → Contains plan.rows r
+      × CopyFollows s plan c → Contains plan.rows r × CopyFollows s plan (copy_after s name e us c)
   copy-applied name e r us c follows = by (is_some (at None c.marks e)) where
     by : (b : Bool) → Contains plan.rows r × CopyFollows s plan (if b then c else record c { bytes = block_after s name e c.block us c.bytes })
     by true = follows
@@ -87,7 +96,8 @@ module _ (s : Dimensions) (settled : ℕ → List Update) (l n : ℕ) (plan : Pl
   still-apply d k p = record {
     name = refl;
     follows = λ is. record {
-      copy = λ r named. found-map (is_copy l n) (λ c. Contains plan.rows r × CopyFollows s plan c) (copy_after s p.name d (up_to k (replica_of p d))) p.as_row.copies
+      copy = λ r named. found-map (is_copy l n) (λ c. Contains plan.rows r × CopyFollows s plan c)
+          (copy_after s p.name d (up_to k (replica_of p d))) p.as_row.copies
           (λ c. copy-test s p.name d (up_to k (replica_of p d)) l n c) (copy-applied p.name d r (up_to k (replica_of p d))) (is.copy r named);
       session = is.session;
     };
@@ -138,8 +148,11 @@ module _ (s : Dimensions) (settled : ℕ → List Update) (l n : ℕ) (plan : Pl
     name = next.name ∙ first.name;
     follows = λ is.
         let one = first.follows is in
-        let two = next.follows one.0 in
-        (two.0, each-append (λ z. Follows s settled l n plan p.name z.to z.message) a.sent (f a.process).sent one.1 (subst (λ (x : ProcessId). Sends x (f a.process).sent) first.name two.1));
+        let two = next.follows one.0 in (
+          two.0,
+          each-append (λ z. Follows s settled l n plan p.name z.to z.message) a.sent (f a.process).sent one.1
+              (subst (λ (x : ProcessId). Sends x (f a.process).sent) first.name two.1),
+        );
   }
 
   pub passes-each : (xs : List ℕ) (f : ℕ → Process → ProcessStep) (p : Process) → ((x : ℕ) (q : Process) → Passes q (f x q)) → Passes p (for_each xs f p)
@@ -167,7 +180,8 @@ module _ (s : Dimensions) (settled : ℕ → List Update) (l n : ℕ) (plan : Pl
       let ended : Process = with_leader (record p.as_leader { sessions = [] }) p in
       still-passes p (close_sessions s (g ∷ gs) p)
       (still-then p ended (copies_ceased (parity_number p.name) p.as_leader.last_session ended)
-      (record { name = refl; follows = λ is. record { copy = is.copy; session = λ named. tt } }) (still-ceased (parity_number p.name) p.as_leader.last_session ended)) (silent-others any s p _ tt)
+      (record { name = refl; follows = λ is. record { copy = is.copy; session = λ named. tt } })
+      (still-ceased (parity_number p.name) p.as_leader.last_session ended)) (silent-others any s p _ tt)
 
   pub passes-notice : (dead : ProcessId) (p : Process) → Passes p (notice_comes s dead p)
   passes-notice dead p =
@@ -175,7 +189,8 @@ module _ (s : Dimensions) (settled : ℕ → List Update) (l n : ℕ) (plan : Pl
       let closed : ProcessStep = close_sessions s q.as_leader.sessions q in
       passes-from p q (notice_comes s dead p) (still-forgotten dead p)
       (passes-then q (and_then closed (for_each (range_with_len 0 s.k) (judge s))) (for_each (range_with_len 0 s.k) (take_over_if s))
-      (passes-then q closed (for_each (range_with_len 0 s.k) (judge s)) (passes-close q.as_leader.sessions q) (passes-each (range_with_len 0 s.k) (judge s) closed.process (λ x y. passes-judge x y)))
+      (passes-then q closed (for_each (range_with_len 0 s.k) (judge s)) (passes-close q.as_leader.sessions q)
+      (passes-each (range_with_len 0 s.k) (judge s) closed.process (λ x y. passes-judge x y)))
       (passes-each (range_with_len 0 s.k) (take_over_if s) _ (λ x y. passes-takes x y)))
 
   pub passes-acked : (p : Process) (i r d k : ℕ) (o : Option Head) → Passes p (acknowledge s i r d k o p)

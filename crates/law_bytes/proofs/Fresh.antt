@@ -1,5 +1,6 @@
 -- What a session's tokens say of marks.
-use Rattle.std.proofs.Common.{◌≡◌, ◌≢◌, ℕ, suc, ◌+◌, ◌<◌, ◌≤◌, nat_lt, Bool, true, false, is_some, List, ◌∷◌, Option, Some, None, IfSome, ◌⊎◌, inl, inr, sym, ap, subst, ◌∙◌, refl, arith, if◌then◌else◌}
+use Rattle.std.proofs.Common.{◌≡◌, ◌≢◌, ℕ, suc, ◌+◌, ◌<◌, ◌≤◌, nat_lt, Bool, true, false, is_some, List, ◌∷◌, Option}
+use Rattle.std.proofs.Common.{Some, None, IfSome, ◌⊎◌, inl, inr, sym, ap, subst, ◌∙◌, refl, arith, if◌then◌else◌}
 use Rattle.std.proofs.lemmas.Bool.{cases_lt, eq-eqb}
 use Rattle.std.proofs.lemmas.Grind.{common_steps}
 use Rattle.group_types.specs.Dimensions.{Dimensions}
@@ -59,44 +60,53 @@ module _ (s : Dimensions) (v : State) (carried : Carried s v) where
     high false = omega arith
 
     by : (t.leader < s.m) ⊎ (s.m ≤ t.leader) → tokens s v t ≤ 1
-    by (inl inside) = let less = carried.tokens t below inside in let one = high (nat_lt t.number (suc (v.process (ParityNode t.leader)).as_leader.last_session)) in omega (arith, less, one)
+    by (inl inside) = let less = carried.tokens t below inside in let one =
+        high (nat_lt t.number (suc (v.process (ParityNode t.leader)).as_leader.last_session)) in
+        omega (arith, less, one)
     by (inr outside) = let none = carried.strangers t below outside in omega (arith, none)
 
   -- a mark on its way isn't made yet
-  mark-unmarked : (x : ProcessId) (i l : ℕ) (session : Session) (rank block d n : ℕ) (rest : List Message) → IsProcess s x → i < s.m → x ≢ ParityNode i → v.dead (ParityNode i) ≡ false
+  mark-unmarked : (x : ProcessId) (i l : ℕ) (session : Session) (rank block d n : ℕ) (rest : List Message)
+      → IsProcess s x → i < s.m → x ≢ ParityNode i → v.dead (ParityNode i) ≡ false
       → session.leader ≡ ParityNode l → d < s.k
       → v.link x (ParityNode i) ≡ tells.Mark session (record { 0 = rank }) block (record { 0 = d }) n ∷ rest
       → (v.process (ParityNode i)).name ≡ ParityNode i
       → IfSome (copy_in (v.process (ParityNode i)).as_row.copies l session.number) (λ c. at None c.marks d ≡ None)
-  mark-unmarked x i l session rank block d n rest xin iin apart lives leads below first name = if-none d (copy_in (v.process (ParityNode i)).as_row.copies l session.number) never where
-    t : Token
-    t = record { leader = l; number = session.number; partition = d; way = Row i }
+  mark-unmarked x i l session rank block d n rest xin iin apart lives leads below first name =
+      if-none d (copy_in (v.process (ParityNode i)).as_row.copies l session.number) never where
+        t : Token
+        t = record { leader = l; number = session.number; partition = d; way = Row i }
 
-    comes : is_token t x (ParityNode i) (tells.Mark session (record { 0 = rank }) block (record { 0 = d }) n) ≡ true
-    comes = and-join _ _ (and-join _ _ (ap (λ (y : ProcessId). same_process y (ParityNode l)) leads ∙ same-refl (ParityNode l)) (eq-eqb session.number session.number refl))
-        (and-join _ _ (eq-eqb d d refl) (same-refl (ParityNode i)))
+        comes : is_token t x (ParityNode i) (tells.Mark session (record { 0 = rank }) block (record { 0 = d }) n) ≡ true
+        comes = and-join _ _
+            (and-join _ _ (ap (λ (y : ProcessId). same_process y (ParityNode l)) leads ∙ same-refl (ParityNode l))
+            (eq-eqb session.number session.number refl))
+            (and-join _ _ (eq-eqb d d refl) (same-refl (ParityNode i)))
 
-    never : is_marked_in d (copy_in (v.process (ParityNode i)).as_row.copies l session.number) ≡ true → ⊥
-    never marked =
-        let held = marked-at t i (ParityNode i) refl name marked in
-        let all = around-at t (ParityNode i) iin lives in
-        let most = few t below in
-        let link : between v t (ParityNode i) x ≡ in_link t x (ParityNode i)
-        (v.link x (ParityNode i)) = ap (λ (b : Bool). if b then 0 else in_link t x (ParityNode i) (v.link x (ParityNode i)))
-        (same-ne x (ParityNode i) apart) in
-        let has : in_link t x (ParityNode i) (v.link x (ParityNode i)) ≡ one_if
-        (is_token t x (ParityNode i) (tells.Mark session (record { 0 = rank }) block (record { 0 = d }) n)) + in_link t x
-        (ParityNode i) rest = ap (in_link t x (ParityNode i)) first in
-        let one = bit-on (is_token t x (ParityNode i) (tells.Mark session (record { 0 = rank }) block (record { 0 = d }) n)) comes in
-        let sum = sum-at (everyone s) (between v t (ParityNode i)) x (within-everyone s x xin) in
-        absurd (omega (arith, held, all, most, link, has, one, sum))
+        never : is_marked_in d (copy_in (v.process (ParityNode i)).as_row.copies l session.number) ≡ true → ⊥
+        never marked =
+            let held = marked-at t i (ParityNode i) refl name marked in
+            let all = around-at t (ParityNode i) iin lives in
+            let most = few t below in
+            let link : between v t (ParityNode i) x ≡ in_link t x (ParityNode i)
+            (v.link x (ParityNode i)) = ap (λ (b : Bool). if b then 0 else in_link t x (ParityNode i) (v.link x (ParityNode i)))
+            (same-ne x (ParityNode i) apart) in
+            let has : in_link t x (ParityNode i) (v.link x (ParityNode i)) ≡ one_if
+            (is_token t x (ParityNode i) (tells.Mark session (record { 0 = rank }) block (record { 0 = d }) n)) + in_link t x
+            (ParityNode i) rest = ap (in_link t x (ParityNode i)) first in
+            let one = bit-on (is_token t x (ParityNode i) (tells.Mark session (record { 0 = rank }) block (record { 0 = d }) n)) comes in
+            let sum = sum-at (everyone s) (between v t (ParityNode i)) x (within-everyone s x xin) in
+            absurd (omega (arith, held, all, most, link, has, one, sum))
 
   coming : (x p : ProcessId) (m : Message) (rest : List Message) → IsProcess s x → IsProcess s p → x ≢ p → v.dead p ≡ false → v.link x p ≡ m ∷ rest
       → MayStand s v x p m → Fact m → IsUnmarked m (v.process p)
   coming x (DataNode e) (tells.Mark session r block d n) rest xin pin apart lives first may fact = elim may.2 [ ]
   coming x (ParityNode i) (tells.Mark session r block d n) rest xin pin apart lives first may fact = by session.leader refl where
-    by : (y : ProcessId) → session.leader ≡ y → IfSome (copy_in (v.process (ParityNode i)).as_row.copies (parity_number y) session.number) (λ c. at None c.marks d.0 ≡ None)
-    by (ParityNode l) is = mark-unmarked x i l session r.0 block d.0 n rest xin pin apart lives is may.0.1.partition first (carried.members.named (ParityNode i) pin)
+    by : (y : ProcessId) → session.leader ≡ y
+        → IfSome (copy_in (v.process (ParityNode i)).as_row.copies (parity_number y) session.number)
+        (λ c. at None c.marks d.0 ≡ None)
+    by (ParityNode l) is = mark-unmarked x i l session r.0 block d.0 n rest xin pin apart lives is may.0.1.partition
+        first (carried.members.named (ParityNode i) pin)
     by (DataNode e) is = absurd (subst IsParity is fact)
   coming x p (tells.Update r d u stable) rest xin pin apart lives first may fact = tt
   coming x p (tells.Ack r d n) rest xin pin apart lives first may fact = tt
@@ -122,7 +132,8 @@ module _ (s : Dimensions) (v : State) (carried : Carried s v) where
         let all = around-at t p pin lives in
         let inside : l < s.m = subst (IsProcess s) here pin in
         let most = carried.tokens t below inside in
-        let last : (v.process (ParityNode l)).as_leader.last_session ≡ (v.process p).as_leader.last_session = ap (λ (y : ProcessId). (v.process y).as_leader.last_session) (sym here) in
+        let last : (v.process (ParityNode l)).as_leader.last_session ≡ (v.process p).as_leader.last_session =
+        ap (λ (y : ProcessId). (v.process y).as_leader.last_session) (sym here) in
         let none : one_if (nat_lt (suc (v.process p).as_leader.last_session) (suc (v.process (ParityNode l)).as_leader.last_session)) ≡ 0 = ap one_if
         (not-below (suc (v.process p).as_leader.last_session) (suc (v.process (ParityNode l)).as_leader.last_session) (omega (arith, last))) in
         absurd (omega (arith, held, all, most, none))
@@ -130,7 +141,8 @@ module _ (s : Dimensions) (v : State) (carried : Carried s v) where
         not-below : (a b : ℕ) → b ≤ a → nat_lt a b ≡ false
         not-below a b less = grind (arith, common_steps)
 
-    by : (o : Option Copy) → copy_in (v.process p).as_row.copies l (suc (v.process p).as_leader.last_session) ≡ o → IfSome o (λ c. (d : ℕ) → d < s.k → at None c.marks d ≡ None)
+    by : (o : Option Copy) → copy_in (v.process p).as_row.copies l (suc (v.process p).as_leader.last_session) ≡ o
+        → IfSome o (λ c. (d : ℕ) → d < s.k → at None c.marks d ≡ None)
     by None is = tt
     by (Some c) is = λ d below. no-mark (at None c.marks d) (λ marked. none-there d below (ap (is_marked_in d) is ∙ marked))
 

@@ -19,7 +19,8 @@ IsUnmarked _ p = Unit {0}
 
 -- marks are new
 pub record MarksAreNew (s : Dimensions) (v : State) : Type 0 where
-  pub coming : (x p : ProcessId) (m : Message) (rest : List Message) → IsProcess s x → IsProcess s p → x ≢ p → v.dead p ≡ false → v.link x p ≡ m ∷ rest → IsUnmarked m (v.process p)
+  pub coming : (x p : ProcessId) (m : Message) (rest : List Message) → IsProcess s x → IsProcess s p → x ≢ p
+      → v.dead p ≡ false → v.link x p ≡ m ∷ rest → IsUnmarked m (v.process p)
   pub next : (p : ProcessId) → IsProcess s p → v.dead p ≡ false → NextIsNew s (v.process p)
 
 -- so it is along every run

@@ -1,6 +1,7 @@
 -- What a leader newly rebuilds: only what comes in for an open session rebuilds a block, and where the session
 -- follows its plan the block is given at the plan's number.
-use Rattle.std.proofs.Common.{◌≡◌, ◌≢◌, ℕ, ◌+◌, ◌<◌, ◌≤◌, ◌==◌, Bool, true, false, List, [], ◌∷◌, is_some, Option, Some, None, IfSome, option_map, ◌⊎◌, inl, inr, sym, ap, subst, ◌∙◌, refl, arith}
+use Rattle.std.proofs.Common.{◌≡◌, ◌≢◌, ℕ, ◌+◌, ◌<◌, ◌≤◌, ◌==◌, Bool, true, false, List, [], ◌∷◌, is_some, Option, Some}
+use Rattle.std.proofs.Common.{None, IfSome, option_map, ◌⊎◌, inl, inr, sym, ap, subst, ◌∙◌, refl, arith}
 use Rattle.std.specs.Prelude.{Contains}
 use Rattle.std.specs.List.{range_with_len}
 use Rattle.std.proofs.lemmas.Bool.{cases_eq}
@@ -54,17 +55,25 @@ module _ (s : Dimensions) where
     us : List Update
     us = up_to k (replica_of p e)
 
-    by : (d ≡ e) ⊎ (d ≢ e) → at None (at [] (put [] p.as_leader.rebuilt e (rebuilt_after s e (up_to k (replica_of p e)) 0 (at [] p.as_leader.rebuilt e))) d) b ≡ None
+    by : (d ≡ e) ⊎ (d ≢ e)
+        → at None (at []
+        (put [] p.as_leader.rebuilt e (rebuilt_after s e (up_to k (replica_of p e)) 0 (at [] p.as_leader.rebuilt e))) d)
+        b ≡ None
     by (inl same) =
         ap (λ (j : ℕ). at None (at [] (put [] p.as_leader.rebuilt e (rebuilt_after s e (up_to k (replica_of p e)) 0 (at [] p.as_leader.rebuilt e))) j) b) same
-        ∙ ap (λ (bs : List (Option (List ℕ))). at None bs b) (at-put [] [] p.as_leader.rebuilt e (rebuilt_after s e (up_to k (replica_of p e)) 0 (at [] p.as_leader.rebuilt e)))
+        ∙ ap (λ (bs : List (Option (List ℕ))). at None bs b)
+        (at-put [] [] p.as_leader.rebuilt e
+        (rebuilt_after s e (up_to k (replica_of p e)) 0 (at [] p.as_leader.rebuilt e)))
         ∙ at-rebuilt s e (up_to k (replica_of p e)) 0 (at [] p.as_leader.rebuilt e) b
         ∙ ap (option_map (block_after s (DataNode e) e (0 + b) (up_to k (replica_of p e)))) (ap (λ (j : ℕ). rebuilt_block p.as_leader j b) (sym same) ∙ none)
     by (inr other) =
-        ap (λ (bs : List (Option (List ℕ))). at None bs b) (at-put-other [] p.as_leader.rebuilt e d (rebuilt_after s e (up_to k (replica_of p e)) 0 (at [] p.as_leader.rebuilt e)) other)
+        ap (λ (bs : List (Option (List ℕ))). at None bs b)
+        (at-put-other [] p.as_leader.rebuilt e d
+        (rebuilt_after s e (up_to k (replica_of p e)) 0 (at [] p.as_leader.rebuilt e)) other)
         ∙ none
 
-  none-each : (xs : List ℕ) (f : ℕ → Process → ProcessStep) (p : Process) → ((x : ℕ) (q : Process) → NoneStays q (f x q).process) → NoneStays p (for_each xs f p).process
+  none-each : (xs : List ℕ) (f : ℕ → Process → ProcessStep) (p : Process)
+      → ((x : ℕ) (q : Process) → NoneStays q (f x q).process) → NoneStays p (for_each xs f p).process
   none-each = goes-each (λ p q. NoneStays p q) none-self none-then
 
   pub none-when : (b : Bool) (p : Process) (step : ProcessStep) → NoneStays p step.process → NoneStays p (when b p step).process
@@ -92,8 +101,11 @@ module _ (s : Dimensions) where
       let q : Process = death_known dead p in
       let closed : Process = (close_sessions s q.as_leader.sessions q).process in
       let judged : Process = (for_each (range_with_len 0 s.k) (judge s) closed).process in
-      none-then p q (notice_comes s dead p).process (none-forgotten dead p) (none-then q closed (notice_comes s dead p).process (none-close q.as_leader.sessions q)
-      (none-then closed judged (notice_comes s dead p).process (none-each (range_with_len 0 s.k) (judge s) closed none-judge) (none-each (range_with_len 0 s.k) (take_over_if s) judged none-takes)))
+      none-then p q (notice_comes s dead p).process (none-forgotten dead p)
+      (none-then q closed (notice_comes s dead p).process (none-close q.as_leader.sessions q)
+      (none-then closed judged (notice_comes s dead p).process
+      (none-each (range_with_len 0 s.k) (judge s) closed none-judge)
+      (none-each (range_with_len 0 s.k) (take_over_if s) judged none-takes)))
 
   pub none-acked : (p : Process) (i r d k : ℕ) (o : Option Head) → NoneStays p (acknowledge s i r d k o p).process
   none-acked p i r d k None = none-self p
@@ -107,14 +119,19 @@ module _ (s : Dimensions) where
     pub sound : IsSound s g
     pub lost : (e : ℕ) → Contains g.lost e → knows_dead known (DataNode e) ≡ true
 
-  module _ (shaped : IsShape s) (settled : ℕ → List Update) (write : SettledWrite s settled) (l n : ℕ) (plan : Plan) (known : Membership) (p : Process) (name : p.name ≡ ParityNode l)
-      (session : IfSome (open_session p.as_leader n) (λ g. (n ≤ p.as_leader.last_session) × GatheringFollows s settled plan g)) (lost : LostFollows l n plan p) (sound : IfSome (open_session p.as_leader n) (SoundFor known)) where
+  module _ (shaped : IsShape s) (settled : ℕ → List Update) (write : SettledWrite s settled) (l n : ℕ) (plan : Plan)
+      (known : Membership) (p : Process) (name : p.name ≡ ParityNode l)
+      (session : IfSome (open_session p.as_leader n) (λ g. (n ≤ p.as_leader.last_session)
+      × GatheringFollows s settled plan g)) (lost : LostFollows l n plan p)
+      (sound : IfSome (open_session p.as_leader n) (SoundFor known)) where
     -- what a complete session gives
-    gives : (d b : ℕ) (bytes : List ℕ) (g : Gathering) (more : Gathering → Gathering) (gb : GivesBlock s p.as_leader n d b bytes more) → (more gb.session).lost ≡ gb.session.lost
+    gives : (d b : ℕ) (bytes : List ℕ) (g : Gathering) (more : Gathering → Gathering)
+        (gb : GivesBlock s p.as_leader n d b bytes more) → (more gb.session).lost ≡ gb.session.lost
         → (GatheringFollows s settled plan gb.session → GatheringFollows s settled plan (more gb.session))
         → (SoundFor known gb.session → IsSound s (more gb.session)) → GivenAt s settled known p d b bytes
     gives d b bytes g more gb same follows sounds =
-        let before = if-some (λ x. (n ≤ p.as_leader.last_session) × GatheringFollows s settled plan x) (open_session p.as_leader n) gb.session gb.opens session in
+        let before = if-some (λ x. (n ≤ p.as_leader.last_session) × GatheringFollows s settled plan x)
+        (open_session p.as_leader n) gb.session gb.opens session in
         let sound_for = if-some (SoundFor known) (open_session p.as_leader n) gb.session gb.opens sound in
         let has : Contains gb.session.lost d = subst (λ (ls : List ℕ). Contains ls d) same (among-contains (more gb.session).lost d gb.decoded.lost) in
         let at_lost = if-some
@@ -129,7 +146,9 @@ module _ (s : Dimensions) where
         }
 
     -- a row comes
-    pub row-given : (i : ℕ) (row : List ℕ) → Contains plan.rows i → IsBlock s plan.block (code s i (planned settled plan)) row → (d b : ℕ) (bytes : List ℕ) → rebuilt_block p.as_leader d b ≡ None
+    pub row-given : (i : ℕ) (row : List ℕ) → Contains plan.rows i
+        → IsBlock s plan.block (code s i (planned settled plan)) row → (d b : ℕ) (bytes : List ℕ)
+        → rebuilt_block p.as_leader d b ≡ None
         → rebuilt_block (row_comes s n i row p).as_leader d b ≡ Some bytes → GivenAt s settled known (row_comes s n i row p) d b bytes
     row-given i row among is d b bytes before after =
         let gb = row-gives s p.as_leader n i row d b bytes before after in
@@ -148,10 +167,12 @@ module _ (s : Dimensions) where
         record { number = given.number; values = given.values; lost = given.lost; applied = given.applied; inherited = given.inherited }
 
   -- a leader takes a mark in its own row
-  module _ (shaped : IsShape s) (settled : ℕ → List Update) (write : SettledWrite s settled) (l n : ℕ) (plan : Plan) (known : Membership) (p : Process) (name : p.name ≡ ParityNode l) (is : ProcessFollows s settled l n plan p)
+  module _ (shaped : IsShape s) (settled : ℕ → List Update) (write : SettledWrite s settled) (l n : ℕ) (plan : Plan)
+      (known : Membership) (p : Process) (name : p.name ≡ ParityNode l) (is : ProcessFollows s settled l n plan p)
       (lost : LostFollows l n plan p) (sound : IfSome (open_session p.as_leader n) (SoundFor known)) (leader block d k : ℕ) (below : d < s.k)
       (fits : leader ≡ l → n ≡ n → (block ≡ plan.block) × (k ≡ plan.numbers d) × AmongRows plan.rows p.name)
-      (holds : leader ≡ l → n ≡ n → (c : Copy) → copy_in (apply_to s d k (begin_copy s leader n block p)).as_row.copies leader n ≡ Some c → CopyHolds s settled (apply_to s d k (begin_copy s leader n block p)) (marked d k c)) where
+      (holds : leader ≡ l → n ≡ n → (c : Copy) → copy_in (apply_to s d k (begin_copy s leader n block p)).as_row.copies
+      leader n ≡ Some c → CopyHolds s settled (apply_to s d k (begin_copy s leader n block p)) (marked d k c)) where
     abbrev begun : Process
     begun = begin_copy s leader n block p
 
@@ -179,7 +200,9 @@ module _ (s : Dimensions) where
     none-marking e b none = none-apply d k begun e b (ap (λ (x : LeaderState). rebuilt_block x e b) begun-all.0 ∙ none)
 
     session-marking : IfSome (open_session marking.as_leader n) (λ g. (n ≤ marking.as_leader.last_session) × GatheringFollows s settled plan g)
-    session-marking = subst (λ (x : LeaderState). IfSome (open_session x n) (λ g. (n ≤ x.last_session) × GatheringFollows s settled plan g)) (sym begun-all.0) (is.session name)
+    session-marking =
+        subst (λ (x : LeaderState). IfSome (open_session x n) (λ g. (n ≤ x.last_session)
+        × GatheringFollows s settled plan g)) (sym begun-all.0) (is.session name)
 
     sound-marking : IfSome (open_session marking.as_leader n) (SoundFor known)
     sound-marking = subst (λ (x : LeaderState). IfSome (open_session x n) (SoundFor known)) (sym begun-all.0) sound
@@ -203,16 +226,24 @@ module _ (s : Dimensions) where
           → New (row_finished own s (marked d k c) (with_copies (without_copy c.leader c.number marking.as_row.copies) marking)).process
       finished false other whole = new-none _ none-marking
       finished true own whole = λ e b bytes before after.
-          subst (λ (x : ℕ). rebuilt_block (row_comes s x c.leader c.bytes (with_copies (without_copy c.leader c.number marking.as_row.copies) marking)).as_leader e b ≡ Some bytes
-          → GivenAt s settled known (row_comes s x c.leader c.bytes (with_copies (without_copy c.leader c.number marking.as_row.copies) marking)) e b bytes) (sym parts.1)
-          (row-given shaped settled write l n plan known (with_copies (without_copy c.leader c.number marking.as_row.copies) marking) (begun-all.1 ∙ name) session-marking (λ leads. lost-marking leads) sound-marking c.leader c.bytes row.0 row.1 e b bytes
+          subst (λ (x : ℕ).
+          rebuilt_block
+          (row_comes s x c.leader c.bytes (with_copies (without_copy c.leader c.number marking.as_row.copies)
+          marking)).as_leader e b ≡ Some bytes
+          → GivenAt s settled known
+          (row_comes s x c.leader c.bytes (with_copies (without_copy c.leader c.number marking.as_row.copies)
+          marking)) e b bytes) (sym parts.1)
+          (row-given shaped settled write l n plan known
+          (with_copies (without_copy c.leader c.number marking.as_row.copies) marking) (begun-all.1 ∙ name)
+          session-marking (λ leads. lost-marking leads) sound-marking c.leader c.bytes row.0 row.1 e b bytes
           (none-marking e b before)) after
         where
           named : marking.name ≡ ParityNode c.leader
           named = same-eq marking.name (ParityNode c.leader) own
 
           leads : leader ≡ l
-          leads = let names : ParityNode c.leader ≡ ParityNode l = sym named ∙ begun-all.1 ∙ name in let leaders : c.leader ≡ l = cc names in sym parts.0 ∙ leaders
+          leads = let names : ParityNode c.leader ≡ ParityNode l = sym named ∙ begun-all.1 ∙ name in
+              let leaders : c.leader ≡ l = cc names in sym parts.0 ∙ leaders
 
           row : RowFollows s settled plan (ParityNode c.leader) c.bytes (marks_of s (marked d k c))
           row = (mine_there s settled l n plan p leader n block d k below fits is holds c first leads refl c.leader named).row whole

@@ -1,5 +1,6 @@
 -- How moves change what a session has under way, from what one process's step makes of it.
-use Rattle.std.proofs.Common.{◌≡◌, ◌≢◌, ℕ, zero, suc, ◌+◌, ◌≤◌, Bool, true, false, List, [], ◌∷◌, ◌++◌, take, ◌⊎◌, inl, inr, sym, ap, subst, ◌∙◌, refl, arith, if◌then◌else◌}
+use Rattle.std.proofs.Common.{◌≡◌, ◌≢◌, ℕ, zero, suc, ◌+◌, ◌≤◌, Bool, true, false, List, [], ◌∷◌, ◌++◌, take, ◌⊎◌, inl}
+use Rattle.std.proofs.Common.{inr, sym, ap, subst, ◌∙◌, refl, arith, if◌then◌else◌}
 use Rattle.group_types.specs.Dimensions.{Dimensions}
 use Rattle.group_types.specs.Names.{IsProcess, same_process}
 use Rattle.group_types.specs.declared.process.ProcessId.{ProcessId}
@@ -33,7 +34,9 @@ in_sent-append t x [] b = omega arith
 in_sent-append t x (z ∷ zs) b = let rest = in_sent-append t x zs b in omega (arith, rest)
 
 -- each goes to one process
-front-link : (t : Token) (p q to : ProcessId) (m : Message) (rest : List Message) → in_link t p q (front_if (same_process to q) m rest) ≤ only_at to (one_if (is_token t p to m)) q + in_link t p q rest
+front-link : (t : Token) (p q to : ProcessId) (m : Message) (rest : List Message)
+    → in_link t p q (front_if (same_process to q) m rest) ≤ only_at to (one_if (is_token t p to m)) q + in_link t p q
+    rest
 front-link t p q to m rest = by (same-cases q to) where
   by : (q ≡ to) ⊎ (q ≢ to) → in_link t p q (front_if (same_process to q) m rest) ≤ only_at to (one_if (is_token t p to m)) q + in_link t p q rest
   by (inl same) =
@@ -43,7 +46,8 @@ front-link t p q to m rest = by (same-cases q to) where
       let one : one_if (is_token t p q m) ≡ one_if (is_token t p to m) = ap (λ (y : ProcessId). one_if (is_token t p y m)) same in
       omega (arith, here, is, one)
   by (inr other) =
-      let is : in_link t p q (front_if (same_process to q) m rest) ≡ in_link t p q rest = ap (λ (b : Bool). in_link t p q (front_if b m rest)) (same-ne to q (λ same. other (sym same))) in
+      let is : in_link t p q (front_if (same_process to q) m rest) ≡ in_link t p q rest =
+      ap (λ (b : Bool). in_link t p q (front_if b m rest)) (same-ne to q (λ same. other (sym same))) in
       omega (arith, is)
 
 sent-sum : (s : Dimensions) (t : Token) (p : ProcessId) (sent : List Sent) → sum_of (everyone s) (λ q. in_link t p q (sent_to q sent)) ≤ in_sent t p sent
@@ -74,18 +78,21 @@ module _ (s : Dimensions) (t : Token) where
 
   -- by whether a process is dead, in both states alike
   around-le : (v w : State) (q : ProcessId) (c : ℕ) → w.dead q ≡ v.dead q
-      → (v.dead q ≡ false → at_process t (w.process q) + sum_of (everyone s) (between w t q) ≤ at_process t (v.process q) + sum_of (everyone s) (between v t q) + c)
+      → (v.dead q ≡ false → at_process t (w.process q) + sum_of (everyone s) (between w t q)
+      ≤ at_process t (v.process q) + sum_of (everyone s) (between v t q) + c)
       → around s w t q ≤ around s v t q + c
   around-le v w q c same living = by (v.dead q) refl where
     by : (b : Bool) → v.dead q ≡ b → around s w t q ≤ around s v t q + c
     by true dead = let none = around-dead w q (same ∙ dead) in omega (arith, none)
-    by false lives = let before = around-living v q lives in let after = around-living w q (same ∙ lives) in let less = living lives in omega (arith, before, after, less)
+    by false lives = let before = around-living v q lives in let after = around-living w q (same ∙ lives) in let less =
+        living lives in omega (arith, before, after, less)
 
   -- a message is taken out
   pub popped-tokens : (v u : State) (x p : ProcessId) (m : Message) → IsProcess s x → IsProcess s p → x ≢ p → v.dead p ≡ false → Popped s v u x p m
       → tokens s u t + one_if (is_token t x p m) ≤ tokens s v t
   popped-tokens v u x p m xin pin apart lives pops =
-      sum-less (everyone s) (around s v t) (around s u t) p (one_if (is_token t x p m)) (within-everyone s p pin) (λ q there. every q (everyone-inside s q there)) here where
+      sum-less (everyone s) (around s v t) (around s u t) p (one_if (is_token t x p m)) (within-everyone s p pin)
+      (λ q there. every q (everyone-inside s q there)) here where
         link-less : (q y : ProcessId) → IsProcess s q → IsProcess s y → between u t q y ≤ between v t q y
         link-less q y qin yin = by (same-cases y x) (same-cases q p) where
           by : (y ≡ x) ⊎ (y ≢ x) → (q ≡ p) ⊎ (q ≢ p) → between u t q y ≤ between v t q y
@@ -94,7 +101,8 @@ module _ (s : Dimensions) (t : Token) where
           by (inl is) (inl here) =
               let a = between-other u p x apart in
               let b : between v t p x ≡ one_if (is_token t x p m) + in_link t x p (u.link x p) = between-other v p x apart ∙ ap (in_link t x p) pops.first in
-              subst (λ (z : ProcessId). between u t q z ≤ between v t q z) (sym is) (subst (λ (z : ProcessId). between u t z x ≤ between v t z x) (sym here) (omega (arith, a, b)))
+              subst (λ (z : ProcessId). between u t q z ≤ between v t q z) (sym is)
+              (subst (λ (z : ProcessId). between u t z x ≤ between v t z x) (sym here) (omega (arith, a, b)))
 
         every : (q : ProcessId) → IsProcess s q → around s u t q ≤ around s v t q
         every q qin =
@@ -120,7 +128,8 @@ module _ (s : Dimensions) (t : Token) where
       → ((q : ProcessId) → IsProcess s q → q ≢ p → v.dead q ≡ false → knows_dead step.process.known q ≡ false) → Acted s v w p step
       → tokens s w t + at_process t (v.process p) ≤ tokens s v t + at_process t step.process + in_sent t p step.sent
   acted-tokens v w p step pin lives unknown acts =
-      let moved = sum-less (everyone s) allowed (around s w t) p (at_process t (v.process p)) (within-everyone s p pin) (λ q there. every q (everyone-inside s q there)) here in
+      let moved = sum-less (everyone s) allowed (around s w t) p (at_process t (v.process p)) (within-everyone s p pin)
+      (λ q there. every q (everyone-inside s q there)) here in
       let one = sum-both (everyone s) (around s v t) (λ q. in_link t p q (sent_to q step.sent) + only_at p (at_process t step.process) q) in
       let two = sum-both (everyone s) (λ q. in_link t p q (sent_to q step.sent)) (only_at p (at_process t step.process)) in
       let three = sent-sum s t p step.sent in
@@ -130,11 +139,13 @@ module _ (s : Dimensions) (t : Token) where
       allowed : ProcessId → ℕ
       allowed q = around s v t q + (in_link t p q (sent_to q step.sent) + only_at p (at_process t step.process) q)
 
-      links-in : (q : ProcessId) → IsProcess s q → q ≢ p → v.dead q ≡ false → sum_of (everyone s) (between w t q) ≤ sum_of (everyone s) (between v t q) + in_link t p q (sent_to q step.sent)
+      links-in : (q : ProcessId) → IsProcess s q → q ≢ p → v.dead q ≡ false → sum_of (everyone s) (between w t q)
+          ≤ sum_of (everyone s) (between v t q) + in_link t p q (sent_to q step.sent)
       links-in q qin other living =
           let grown : w.link p q ≡ v.link p q ++ sent_to q step.sent = acts.sends q qin (unknown q qin other living) in
           let c : ℕ = in_link t p q (sent_to q step.sent) in
-          let less = sum-le (everyone s) (λ y. between v t q y + only_at p c y) (between w t q) (λ y there. each y (everyone-inside s y there) grown (same-cases y p)) in
+          let less = sum-le (everyone s) (λ y. between v t q y + only_at p c y) (between w t q)
+          (λ y there. each y (everyone-inside s y there) grown (same-cases y p)) in
           let split = sum-both (everyone s) (between v t q) (only_at p c) in
           let only = sum-only (everyone s) p c (everyone-once s) in
           omega (arith, less, split, only)
@@ -186,7 +197,9 @@ module _ (s : Dimensions) (t : Token) where
       by : (y ≡ q) ⊎ (y ≢ q) → between w t q y ≤ between v t q y
       by (inl self) = let none = between-self w q y self in omega (arith, none)
       by (inr apart) =
-          let cut : w.link y q ≡ take keep (v.link y q) ++ tells.Notice p ∷ [] = subst (λ (z : ProcessId). w.link z q ≡ take keep (v.link z q) ++ tells.Notice p ∷ []) (sym is) (died.cut q qin) in
+          let cut : w.link y q ≡ take keep (v.link y q) ++ tells.Notice p ∷ [] =
+          subst (λ (z : ProcessId). w.link z q ≡ take keep (v.link z q) ++ tells.Notice p ∷ []) (sym is)
+          (died.cut q qin) in
           let a = between-other w q y apart ∙ ap (in_link t y q) cut ∙ in-append t y q (take keep (v.link y q)) (tells.Notice p ∷ []) in
           let b = between-other v q y apart in
           let less = in-take t y q keep (v.link y q) in

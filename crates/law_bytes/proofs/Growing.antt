@@ -18,18 +18,21 @@ use Rattle.law_bytes.proofs.BytesKeeping.{Prolongs}
 use Rattle.law_bytes.proofs.Values.{area-same, held-same}
 use Rattle.law_bytes.proofs.Stamps.{Follows, GatheringFollows, Plan, ProcessFollows, SessionFollows, planned}
 
-module _ (s : Dimensions) (before after : ℕ → List Update) (grows : Prolongs s before after) (l n : ℕ) (plan : Plan) (within : (d : ℕ) → d < s.k → plan.numbers d ≤ length (before d)) where
+module _ (s : Dimensions) (before after : ℕ → List Update) (grows : Prolongs s before after) (l n : ℕ) (plan : Plan)
+    (within : (d : ℕ) → d < s.k → plan.numbers d ≤ length (before d)) where
   still : (d : ℕ) → d < s.k → planned after plan d ≡ planned before plan d
   still d below = ap (take (plan.numbers d)) (grows d below).1 ∙ take-append-le (plan.numbers d) (before d) (grows d below).0 (within d below)
 
   longer : (d : ℕ) → d < s.k → plan.numbers d ≤ length (after d)
   longer d below = let is = ap length (grows d below).1 in omega (arith, within d below, is, length-append (before d) (grows d below).0)
 
-  code-grown : (i : ℕ) (bytes : List ℕ) → IsBlock s plan.block (code s i (planned before plan)) bytes → IsBlock s plan.block (code s i (planned after plan)) bytes
+  code-grown : (i : ℕ) (bytes : List ℕ) → IsBlock s plan.block (code s i (planned before plan)) bytes
+      → IsBlock s plan.block (code s i (planned after plan)) bytes
   code-grown i bytes is = area-same (plan.block * s.block) (block_size s plan.block) (code s i (planned before plan)) (code s i (planned after plan)) bytes is
       (λ y. held-same s (ParityNode i) (planned before plan) (planned after plan) y tt (λ d below. still d below))
 
-  value-grown : (d : ℕ) (bytes : List ℕ) → d < s.k → IsBlock s plan.block (value (planned before plan d)) bytes → IsBlock s plan.block (value (planned after plan d)) bytes
+  value-grown : (d : ℕ) (bytes : List ℕ) → d < s.k → IsBlock s plan.block (value (planned before plan d)) bytes
+      → IsBlock s plan.block (value (planned after plan d)) bytes
   value-grown d bytes below is = subst (λ (us : List Update). IsBlock s plan.block (value us) bytes) (sym (still d below)) is
 
   follows-grown : (x q : ProcessId) (m : Message) → IsProcess s x → Follows s before l n plan x q m → Follows s after l n plan x q m
@@ -49,7 +52,8 @@ module _ (s : Dimensions) (before after : ℕ → List Update) (grows : Prolongs
   process-grown : (p : Process) → ProcessFollows s before l n plan p → ProcessFollows s after l n plan p
   process-grown p is = record {
     copy = is.copy;
-    session = λ named. if-weaker (λ g. (n ≤ p.as_leader.last_session) × GatheringFollows s before plan g) (λ g. (n ≤ p.as_leader.last_session) × GatheringFollows s after plan g)
+    session = λ named. if-weaker (λ g. (n ≤ p.as_leader.last_session) × GatheringFollows s before plan g)
+        (λ g. (n ≤ p.as_leader.last_session) × GatheringFollows s after plan g)
         (λ g follows. (
           follows.0,
           record {

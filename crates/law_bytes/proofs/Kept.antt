@@ -62,8 +62,10 @@ pub record StampsKept (s : Dimensions) : Type 0 where
   pub treats : (v w : State) (p : ProcessId) (t : ProcessStep) → IsProcess s p → v.dead p ≡ false → Treats s (v.process p) t → Backed s v → Members s w
       → NextIsNew s (v.process p) → NeedsInside s (v.process p)
       → StepSettles s w.settled (v.process p) t → Acted s v w p t → SessionsStand s v → SessionsStand s w
-  pub receives : (v u w : State) (x p : ProcessId) (m : Message) → IsProcess s x → IsProcess s p → x ≢ p → v.dead p ≡ false → Backed s v → Members s w → MarksNew m (v.process p)
-      → StepSettles s w.settled (v.process p) (receive s x m (v.process p)) → Popped s v u x p m → Acted s u w p (receive s x m (v.process p)) → SessionsStand s v → SessionsStand s w
+  pub receives : (v u w : State) (x p : ProcessId) (m : Message) → IsProcess s x → IsProcess s p → x ≢ p
+      → v.dead p ≡ false → Backed s v → Members s w → MarksNew m (v.process p)
+      → StepSettles s w.settled (v.process p) (receive s x m (v.process p)) → Popped s v u x p m
+      → Acted s u w p (receive s x m (v.process p)) → SessionsStand s v → SessionsStand s w
   pub dies : (v w : State) (p : ProcessId) (keep : ℕ) → IsProcess s p → Died s v w p keep → SessionsStand s v → SessionsStand s w
 
 -- so it is for every shape

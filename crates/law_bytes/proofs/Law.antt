@@ -30,7 +30,8 @@ pub record BytesKept (s : Dimensions) : Type 0 where
   pub treats : (v w : State) (p : ProcessId) (t : ProcessStep) → IsProcess s p → v.dead p ≡ false → Treats s (v.process p) t → Members s v → HoldsBytes s v
       → NextIsNew s (v.process p) → StepIsRight s w.settled (v.process p) t → SettlesNext s w.settled (v.process p) t → Acted s v w p t → HoldsBytes s w
   pub receives : (v u w : State) (x p : ProcessId) (m : Message) → IsProcess s x → IsProcess s p → x ≢ p → v.dead p ≡ false → Members s v → HoldsBytes s v
-      → MarksNew m (v.process p) → StepIsRight s w.settled (v.process p) (receive s x m (v.process p)) → Popped s v u x p m → Acted s u w p (receive s x m (v.process p)) → HoldsBytes s w
+      → MarksNew m (v.process p) → StepIsRight s w.settled (v.process p) (receive s x m (v.process p))
+      → Popped s v u x p m → Acted s u w p (receive s x m (v.process p)) → HoldsBytes s w
   pub dies : (v w : State) (p : ProcessId) (keep : ℕ) → IsProcess s p → HoldsBytes s v → Died s v w p keep → HoldsBytes s w
 
 -- so it is for every shape

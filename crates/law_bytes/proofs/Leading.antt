@@ -1,5 +1,7 @@
 -- A leader's open sessions are for what it knows.
-use Rattle.std.proofs.Common.{◌≡◌, ◌≢◌, ℕ, suc, ◌==◌, nat_le, Bool, true, false, not, List, [], ◌∷◌, find, is_some, Option, Some, None, ◌⊎◌, inl, inr, sym, ap, subst, ◌∙◌, refl, if◌then◌else◌, ◌<◌, replicate}
+use Rattle.std.proofs.Common.{◌≡◌, ◌≢◌, ℕ, suc, ◌==◌, nat_le, Bool, true, false, not, List, [], ◌∷◌, find, is_some}
+use Rattle.std.proofs.Common.{Option, Some, None, ◌⊎◌, inl, inr, sym, ap, subst, ◌∙◌, refl, if◌then◌else◌, ◌<◌}
+use Rattle.std.proofs.Common.{replicate}
 use Rattle.std.specs.List.{list_any, range_with_len}
 use Rattle.group_types.specs.Dimensions.{Dimensions, space_of}
 use Rattle.group_types.specs.Hash.{home_of}
@@ -24,12 +26,17 @@ use Rattle.group_calls.specs.Turns.{CallName}
 use Rattle.group_calls.specs.declared.decision.Decision.{Decision}
 use Rattle.group_calls.specs.declared.decision.Decision.TheVariants as decides
 use Rattle.group_run.specs.Applying.{ProcessStep, apply_to, for_each, head_at, held_at, quiet, replica_of, when, with_head, with_replica}
-use Rattle.group_run.specs.Asking.{Oldest, act_on, ask_head, collect_from, collect_held, found_at, handed_out, is_call, issued, oldest_inherited, retry_block, ticketed, update_of}
+use Rattle.group_run.specs.Asking.{Oldest, act_on, ask_head, collect_from, collect_held, found_at, handed_out, is_call}
+use Rattle.group_run.specs.Asking.{issued, oldest_inherited, retry_block, ticketed, update_of}
 use Rattle.group_run.specs.Deciding.{decide}
 use Rattle.group_run.specs.Heading.{acknowledge, acknowledged, judge, judge_head}
-use Rattle.group_run.specs.Leaders.{block_comes, block_gathered, close_sessions, copy_kept, copy_marked, gathered_when, is_complete, lost_of, mark_comes, mark_taken, new_session, open_session, own_mark, row_comes, row_finished, row_gathered, session_opened, start_session, without_session}
+use Rattle.group_run.specs.Leaders.{block_comes, block_gathered, close_sessions, copy_kept, copy_marked, gathered_when}
+use Rattle.group_run.specs.Leaders.{is_complete, lost_of, mark_comes, mark_taken, new_session, open_session, own_mark}
+use Rattle.group_run.specs.Leaders.{row_comes, row_finished, row_gathered, session_opened, start_session}
+use Rattle.group_run.specs.Leaders.{without_session}
 use Rattle.group_run.specs.Process.{Copy, Gathering, Head, Held, LeaderState, Process}
-use Rattle.group_run.specs.Receiving.{ack_to, death_known, enthroned, log_adopted, notice_comes, read_comes, receive, take_over_if, taken_over, takes_over, update_taken}
+use Rattle.group_run.specs.Receiving.{ack_to, death_known, enthroned, log_adopted, notice_comes, read_comes, receive}
+use Rattle.group_run.specs.Receiving.{take_over_if, taken_over, takes_over, update_taken}
 use Rattle.group_run.specs.Replica.{with_update}
 use Rattle.group_run.specs.Rows.{accepts_mark, begin_copy, copy_begun, copy_in, is_marked, marked, parity_number, with_copies, without_copy}
 use Rattle.law_moves.proofs.Moves.{Acted, Asks, Collects, Flushes, Keeps, Treats}
@@ -63,7 +70,8 @@ module _ (s : Dimensions) where
         (b.sessions (subst (λ (known : Membership). Each (IsFor s known) q.as_leader.sessions) (sym a.known) (a.sessions all)));
   }
 
-  each-leads : (xs : List ℕ) (f : ℕ → Process → ProcessStep) (p : Process) → ((x : ℕ) (q : Process) → Leads q (f x q).process) → Leads p (for_each xs f p).process
+  each-leads : (xs : List ℕ) (f : ℕ → Process → ProcessStep) (p : Process)
+      → ((x : ℕ) (q : Process) → Leads q (f x q).process) → Leads p (for_each xs f p).process
   each-leads = goes-each (λ p q. Leads p q) self-leads then-leads
 
   when-leads : (b : Bool) (p : Process) (step : ProcessStep) → Leads p step.process → Leads p (when b p step).process
@@ -95,7 +103,8 @@ module _ (s : Dimensions) where
 
   row-leads : (i number : ℕ) (bytes : List ℕ) (p : Process) → Leads p (row_comes s number i bytes p)
   row-leads i number bytes p = record { known = refl; sessions = λ all. by (open_session p.as_leader number) refl all } where
-    by : (o : Option Gathering) → open_session p.as_leader number ≡ o → Each (IsFor s p.known) p.as_leader.sessions → Each (IsFor s p.known) (row_gathered s i bytes o p.as_leader).sessions
+    by : (o : Option Gathering) → open_session p.as_leader number ≡ o → Each (IsFor s p.known) p.as_leader.sessions
+        → Each (IsFor s p.known) (row_gathered s i bytes o p.as_leader).sessions
     by None found all = all
     by (Some g) found all =
         let is = (found-each (λ x. x.number == number) (IsFor s p.known) p.as_leader.sessions g found all).1 in
@@ -104,11 +113,13 @@ module _ (s : Dimensions) where
 
   block-leads : (e number : ℕ) (bytes : List ℕ) (p : Process) → e < s.k → knows_dead p.known (DataNode e) ≡ false → Leads p (block_comes s number e bytes p)
   block-leads e number bytes p inside living = record { known = refl; sessions = λ all. by (open_session p.as_leader number) refl all } where
-    by : (o : Option Gathering) → open_session p.as_leader number ≡ o → Each (IsFor s p.known) p.as_leader.sessions → Each (IsFor s p.known) (block_gathered s e bytes o p.as_leader).sessions
+    by : (o : Option Gathering) → open_session p.as_leader number ≡ o → Each (IsFor s p.known) p.as_leader.sessions
+        → Each (IsFor s p.known) (block_gathered s e bytes o p.as_leader).sessions
     by None found all = all
     by (Some g) found all =
         let is = (found-each (λ x. x.number == number) (IsFor s p.known) p.as_leader.sessions g found all).1 in
-        gathered-leads (is_complete s (record g { blocks_in = put None g.blocks_in e (Some bytes) })) p.known (record g { blocks_in = put None g.blocks_in e (Some bytes) }) p.as_leader
+        gathered-leads (is_complete s (record g { blocks_in = put None g.blocks_in e (Some bytes) })) p.known
+        (record g { blocks_in = put None g.blocks_in e (Some bytes) }) p.as_leader
         (record { lost = is.lost; rows = is.rows; blocks = λ d more there. of g is d more there (cases_eq d e) }) all
       where
         of : (g : Gathering) → IsFor s p.known g → (d : ℕ) (more : List ℕ) → at None (put None g.blocks_in e (Some bytes)) d ≡ Some more → (d ≡ e) ⊎ (d ≢ e)
@@ -129,7 +140,8 @@ module _ (s : Dimensions) where
         begun false = same-leads p _ refl refl
 
         to_q : Leads p q
-        to_q = then-leads p (begin_copy s l number block p) q (begun (is_some (copy_in p.as_row.copies l number))) (same-leads (begin_copy s l number block p) q refl refl)
+        to_q = then-leads p (begin_copy s l number block p) q (begun (is_some (copy_in p.as_row.copies l number)))
+            (same-leads (begin_copy s l number block p) q refl refl)
 
         finished : (b : Bool) (c : Copy) (z : Process) → Leads z (row_finished b s c z).process
         finished true c z = row-leads c.leader c.number c.bytes z
@@ -138,7 +150,8 @@ module _ (s : Dimensions) where
         kept : (b : Bool) (c : Copy) → Leads q (copy_kept b s c q).process
         kept true c =
             let z : Process = with_copies (without_copy c.leader c.number q.as_row.copies) q in
-            then-leads q z (row_finished (same_process z.name (ParityNode c.leader)) s c z).process (same-leads q z refl refl) (finished (same_process z.name (ParityNode c.leader)) c z)
+            then-leads q z (row_finished (same_process z.name (ParityNode c.leader)) s c z).process
+            (same-leads q z refl refl) (finished (same_process z.name (ParityNode c.leader)) c z)
         kept false c = same-leads q _ refl refl
 
         found : (o : Option Copy) → Leads q (copy_marked s d n o q).process
@@ -150,8 +163,14 @@ module _ (s : Dimensions) where
       let number : ℕ = suc p.as_leader.last_session in
       let opened : Process = session_opened s number block p in
       then-leads p opened (for_each (lost_of s p) (own_mark s (parity_number p.name) number block) opened).process
-      (record { known = refl; sessions = λ all. each-append (IsFor s p.known) p.as_leader.sessions (new_session s number block p ∷ []) all (record { lost = refl; rows = refl; blocks = λ d bytes there. absurd (cc (there, none d)) }, tt) })
-      (each-leads (lost_of s p) (own_mark s (parity_number p.name) number block) opened (λ e q. mark-leads (parity_number p.name) number (at 0 q.ranks e) block e (replica_of q e).applied q))
+      (record {
+        known = refl;
+        sessions = λ all. each-append (IsFor s p.known) p.as_leader.sessions
+            (new_session s number block p ∷ []) all
+            (record { lost = refl; rows = refl; blocks = λ d bytes there. absurd (cc (there, none d)) }, tt);
+      })
+      (each-leads (lost_of s p) (own_mark s (parity_number p.name) number block) opened
+      (λ e q. mark-leads (parity_number p.name) number (at 0 q.ranks e) block e (replica_of q e).applied q))
     where
       none : (d : ℕ) → ◌≡◌ {A = Option (List ℕ)} (at None (replicate s.k None) d) None
       none d = at-replicate None s.k d
@@ -210,14 +229,16 @@ module _ (s : Dimensions) where
       (each-leads (range_with_len 0 s.k) (take_over_if s) judged takes-leads) in
       subst (λ (known : Membership). Each (IsFor s known) last.as_leader.sessions) (sym leads.known) (leads.sessions (none q q.as_leader.sessions refl))
     where
-      none : (q : Process) (gs : List Gathering) → q.as_leader.sessions ≡ gs → Each (IsFor s (close_sessions s gs q).process.known) (close_sessions s gs q).process.as_leader.sessions
+      none : (q : Process) (gs : List Gathering) → q.as_leader.sessions ≡ gs
+          → Each (IsFor s (close_sessions s gs q).process.known) (close_sessions s gs q).process.as_leader.sessions
       none q [] is = subst (Each (IsFor s q.known)) (sym is) tt
       none q (g ∷ gs) is = tt
 
   acked-leads : (p : Process) (i r d n : ℕ) (o : Option Head) → Leads p (acknowledge s i r d n o p).process
   acked-leads p i r d n None = self-leads p
   acked-leads p i r d n (Some h) =
-      when-leads (r == h.rank) p _ (let q : Process = with_head d (Some (acknowledged i n h)) p in then-leads p q (judge s d q).process (same-leads p q refl refl) (judge-leads d q))
+      when-leads (r == h.rank) p _ (let q : Process = with_head d (Some (acknowledged i n h)) p in
+      then-leads p q (judge s d q).process (same-leads p q refl refl) (judge-leads d q))
 
   read-leads : (session : Session) (block : ℕ) (rows : List ℕ) (p : Process) (name : ProcessId) → Leads p (read_comes s session block rows p name).process
   read-leads session block rows p (DataNode e) = self-leads p
@@ -232,44 +253,60 @@ module _ (s : Dimensions) where
       fits-after p _ (when-leads (nat_le (at 0 p.ranks d.0) r.0) p (ack_to x r.0 d.0 u.number (update_taken s d.0 u stable p)) (same-leads p _ refl refl)) all
   receive-fits (DataNode e) (tells.Ack r d n) p xin living all = all
   receive-fits (ParityNode i) (tells.Ack r d n) p xin living all = fits-after p _ (acked-leads p i r.0 d.0 n (head_at p d.0)) all
-  receive-fits x (tells.Stable r d n) p xin living all = fits-after p _ (when-leads (nat_le (at 0 p.ranks d.0) r.0) p (quiet (apply_to s d.0 n p)) (same-leads p _ refl refl)) all
+  receive-fits x (tells.Stable r d n) p xin living all =
+      fits-after p _ (when-leads (nat_le (at 0 p.ranks d.0) r.0) p (quiet (apply_to s d.0 n p))
+      (same-leads p _ refl refl)) all
   receive-fits x (tells.Adopt r d base list) p xin living all =
       fits-after p _ (when-leads (nat_le (at 0 p.ranks d.0) r.0) p (ack_to x r.0 d.0 _ (log_adopted s r.0 d.0 base list p)) (same-leads p _ refl refl)) all
   receive-fits x (tells.ReadBlock session block rows) p xin living all = fits-after p _ (read-leads session block rows p p.name) all
   receive-fits (DataNode e) (tells.Block session bytes n) p xin living all = fits-after p _ (block-leads e session.number bytes p xin living) all
   receive-fits (ParityNode i) (tells.Block session bytes n) p xin living all = all
-  receive-fits x (tells.Mark session r block d n) p xin living all = fits-after p _ (mark-leads (parity_number session.leader) session.number r.0 block d.0 n p) all
+  receive-fits x (tells.Mark session r block d n) p xin living all =
+      fits-after p _ (mark-leads (parity_number session.leader) session.number r.0 block d.0 n p) all
   receive-fits (DataNode e) (tells.Row session bytes stamp) p xin living all = all
   receive-fits (ParityNode i) (tells.Row session bytes stamp) p xin living all = fits-after p _ (row-leads i session.number bytes p) all
   receive-fits (DataNode e) (tells.Cease upto) p xin living all = all
   receive-fits (ParityNode i) (tells.Cease upto) p xin living all = all
   receive-fits x (tells.Notice dead) p xin living all = notice-none dead p
 
-  acted-fits : (u w : State) (p : ProcessId) (step : ProcessStep) → Acted s u w p step → SessionsFit s u → Each (IsFor s step.process.known) step.process.as_leader.sessions → SessionsFit s w
+  acted-fits : (u w : State) (p : ProcessId) (step : ProcessStep) → Acted s u w p step → SessionsFit s u
+      → Each (IsFor s step.process.known) step.process.as_leader.sessions → SessionsFit s w
   acted-fits u w p step acts fits here q qin lives = by (same-cases q p) where
     by : (q ≡ p) ⊎ (q ≢ p) → Each (IsFor s (w.process q).known) (w.process q).as_leader.sessions
     by (inl is) = subst (λ (y : Process). Each (IsFor s y.known) y.as_leader.sessions) (sym (ap w.process is ∙ acts.process)) here
-    by (inr other) = subst (λ (y : Process). Each (IsFor s y.known) y.as_leader.sessions) (sym (acts.others q qin other)) (fits q qin (sym (acts.dead q qin) ∙ lives))
+    by (inr other) = subst (λ (y : Process). Each (IsFor s y.known) y.as_leader.sessions)
+        (sym (acts.others q qin other)) (fits q qin (sym (acts.dead q qin) ∙ lives))
 
   pub fits-keeps : IsShape s → Keeps s (λ v. Members s v × SessionsFit s v)
   fits-keeps shaped = record {
-    opens = λ v starts. (kept.opens v starts, λ p pin lives. subst (λ (y : Process). Each (IsFor s y.known) y.as_leader.sessions) (sym (starts.process p pin)) tt);
+    opens = λ v starts. (
+      kept.opens v starts,
+      λ p pin lives. subst (λ (y : Process). Each (IsFor s y.known) y.as_leader.sessions)
+          (sym (starts.process p pin)) tt,
+    );
     treats =
-        λ v w p t pin up lives treats both acts.
-        (kept.treats v w p t pin up lives treats both.0 acts, acted-fits v w p t acts both.1 (fits-after (v.process p) t.process (treats-leads (v.process p) t treats) (both.1 p pin lives)));
+        λ v w p t pin up lives treats both acts. (
+          kept.treats v w p t pin up lives treats both.0 acts,
+          acted-fits v w p t acts both.1 (fits-after (v.process p) t.process (treats-leads (v.process p) t treats)
+              (both.1 p pin lives)),
+        );
     receives = λ v u w x p m xin pin apart up lives both pops acts. (
       kept.receives v u w x p m xin pin apart up lives both.0 pops acts,
       acted-fits u w p (receive s x m (v.process p)) acts
-          (λ q qin living. subst (λ (y : Process). Each (IsFor s y.known) y.as_leader.sessions) (sym (pops.processes q qin)) (both.1 q qin (sym (pops.dead q qin) ∙ living)))
+          (λ q qin living. subst (λ (y : Process). Each (IsFor s y.known) y.as_leader.sessions)
+          (sym (pops.processes q qin)) (both.1 q qin (sym (pops.dead q qin) ∙ living)))
           (receive-fits x m (v.process p) xin
-          (sender-lives x (v.dead x) (knows_dead (v.process p).known x) m (u.link x p) (subst (Stands x (v.dead x) (knows_dead (v.process p).known x)) pops.first (both.0.stands x p xin pin apart lives)))
+          (sender-lives x (v.dead x) (knows_dead (v.process p).known x) m (u.link x p)
+          (subst (Stands x (v.dead x) (knows_dead (v.process p).known x)) pops.first
+          (both.0.stands x p xin pin apart lives)))
           (both.1 p pin lives)),
     );
     dies = λ v w p keep pin both died. (
       kept.dies v w p keep pin both.0 died,
       λ q qin lives.
           let other : q ≢ p = λ (same : q ≡ p). cc (lives, ap w.dead same, died.dead) in
-          subst (λ (y : Process). Each (IsFor s y.known) y.as_leader.sessions) (sym (died.processes q qin)) (both.1 q qin (sym (died.others q qin other) ∙ lives)),
+          subst (λ (y : Process). Each (IsFor s y.known) y.as_leader.sessions) (sym (died.processes q qin))
+          (both.1 q qin (sym (died.others q qin other) ∙ lives)),
     );
   } where
     kept : Keeps s (Members s)

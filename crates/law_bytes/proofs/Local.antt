@@ -1,6 +1,8 @@
 -- What steps of one process make of a session's tokens: what it has after, with what it sends, is at most
 -- what it had, and what came in.
-use Rattle.std.proofs.Common.{◌≡◌, ℕ, suc, ◌+◌, ◌≤◌, ◌==◌, ◌&&◌, nat_le, Bool, true, false, not, List, [], ◌∷◌, map, filter, is_some, Option, Some, None, option_map, ◌⊎◌, inl, inr, sym, ap, ap₂, subst, ◌∙◌, refl, arith, if◌then◌else◌}
+use Rattle.std.proofs.Common.{◌≡◌, ℕ, suc, ◌+◌, ◌≤◌, ◌==◌, ◌&&◌, nat_le, Bool, true, false, not, List, [], ◌∷◌, map}
+use Rattle.std.proofs.Common.{filter, is_some, Option, Some, None, option_map, ◌⊎◌, inl, inr, sym, ap, ap₂, subst, ◌∙◌}
+use Rattle.std.proofs.Common.{refl, arith, if◌then◌else◌}
 use Rattle.std.proofs.lemmas.Grind.{common_steps}
 use Rattle.std.specs.List.{range_with_len}
 use Rattle.group_types.specs.Dimensions.{Dimensions}
@@ -87,7 +89,8 @@ and-turn true b b' turns is = turns is
 and-turn false b b' turns is = is
 
 pub copy-parts : (l n : ℕ) (c : Copy) → is_copy l n c ≡ true → (c.leader ≡ l) × (c.number ≡ n)
-copy-parts l n c is = let both = and-split (c.leader == l) (c.number == n) is in let a = both.0 in let b = both.1 in (grind (arith, common_steps), grind (arith, common_steps))
+copy-parts l n c is = let both = and-split (c.leader == l) (c.number == n) is in let a = both.0 in let b = both.1 in
+    (grind (arith, common_steps), grind (arith, common_steps))
 
 pub number-is : (g : Gathering) (n : ℕ) → (g.number == n) ≡ true → g.number ≡ n
 number-is g n is = grind (arith, common_steps)
@@ -96,7 +99,8 @@ module _ (t : Token) where
   -- a process that has no more of the session
   pub record Fewer (p q : Process) : Type 0 where
     pub name : q.name ≡ p.name
-    pub marked : is_marked_in t.partition (copy_in q.as_row.copies t.leader t.number) ≡ true → is_marked_in t.partition (copy_in p.as_row.copies t.leader t.number) ≡ true
+    pub marked : is_marked_in t.partition (copy_in q.as_row.copies t.leader t.number) ≡ true
+        → is_marked_in t.partition (copy_in p.as_row.copies t.leader t.number) ≡ true
     pub kept : is_kept_in t.way t.partition (open_session q.as_leader t.number) ≡ true → is_kept_in t.way t.partition (open_session p.as_leader t.number) ≡ true
     pub last : p.as_leader.last_session ≤ q.as_leader.last_session
 
@@ -105,20 +109,27 @@ module _ (t : Token) where
 
   pub fewer-trans : (p q r : Process) → Fewer p q → Fewer q r → Fewer p r
   fewer-trans p q r a b =
-      record { name = b.name ∙ a.name; marked = λ is. a.marked (b.marked is); kept = λ is. a.kept (b.kept is); last = let one = a.last in let two = b.last in omega (arith, one, two) }
+      record {
+        name = b.name ∙ a.name;
+        marked = λ is. a.marked (b.marked is);
+        kept = λ is. a.kept (b.kept is);
+        last = let one = a.last in let two = b.last in omega (arith, one, two);
+      }
 
   pub copy-less : (w : Way) (p q : Process) → Fewer p q → in_copy t w q ≡ true → in_copy t w p ≡ true
   copy-less (Row r) p q fewer is =
       and-turn (same_process p.name (ParityNode r)) (is_marked_in t.partition (copy_in p.as_row.copies t.leader t.number))
       (is_marked_in t.partition (copy_in q.as_row.copies t.leader t.number)) fewer.marked
-      (ap (λ (name : ProcessId). same_process name (ParityNode r) && is_marked_in t.partition (copy_in q.as_row.copies t.leader t.number)) (sym fewer.name) ∙ is)
+      (ap (λ (name : ProcessId). same_process name (ParityNode r) && is_marked_in t.partition
+      (copy_in q.as_row.copies t.leader t.number)) (sym fewer.name) ∙ is)
   copy-less Own p q fewer is = is
 
   pub session-less : (p q : Process) → Fewer p q → in_session t q ≡ true → in_session t p ≡ true
   session-less p q fewer is =
       and-turn (same_process p.name (ParityNode t.leader)) (is_kept_in t.way t.partition (open_session p.as_leader t.number))
       (is_kept_in t.way t.partition (open_session q.as_leader t.number)) fewer.kept
-      (ap (λ (name : ProcessId). same_process name (ParityNode t.leader) && is_kept_in t.way t.partition (open_session q.as_leader t.number)) (sym fewer.name) ∙ is)
+      (ap (λ (name : ProcessId). same_process name (ParityNode t.leader) && is_kept_in t.way t.partition
+      (open_session q.as_leader t.number)) (sym fewer.name) ∙ is)
 
   pub fewer-at : (p q : Process) → Fewer p q → at_process t q ≤ at_process t p
   fewer-at p q fewer =
@@ -160,15 +171,23 @@ module _ (t : Token) where
   }
 
   pub gains-more : (p : Process) (step : ProcessStep) (c d : ℕ) → c ≤ d → Gains p step c → Gains p step d
-  gains-more p step c d less gains = record { name = gains.name; last = gains.last; weighs = let a = gains.weighs in omega (arith, a, less); facts = gains.facts }
+  gains-more p step c d less gains = record {
+    name = gains.name;
+    last = gains.last;
+    weighs = let a = gains.weighs in
+        omega (arith, a, less);
+    facts = gains.facts;
+  }
 
-  pub gains-then : (p : Process) (a : ProcessStep) (f : Process → ProcessStep) (c d : ℕ) → Gains p a c → Gains a.process (f a.process) d → Gains p (and_then a f) (c + d)
+  pub gains-then : (p : Process) (a : ProcessStep) (f : Process → ProcessStep) (c d : ℕ) → Gains p a c
+      → Gains a.process (f a.process) d → Gains p (and_then a f) (c + d)
   gains-then p a f c d first next = record {
     name = next.name ∙ first.name;
     last = let one = first.last in let two = next.last in omega (arith, one, two);
     weighs =
         let one = first.weighs in
-        let two = subst (λ (name : ProcessId). at_process t (f a.process).process + in_sent t name (f a.process).sent ≤ at_process t a.process + d) first.name next.weighs in
+        let two = subst (λ (name : ProcessId). at_process t (f a.process).process + in_sent t name (f a.process).sent
+        ≤ at_process t a.process + d) first.name next.weighs in
         let sum = in_sent-append t p.name a.sent (f a.process).sent in
         omega (arith, one, two, sum);
     facts = each-append (λ z. Fact z.message) a.sent (f a.process).sent first.facts next.facts;
@@ -191,13 +210,21 @@ module _ (t : Token) where
     after-marks : (name : ProcessId) (d : ℕ) (us : List Update) (c : Copy) → (copy_after s name d us c).marks ≡ c.marks
     after-marks name d us c = copy-mark s name d us c (λ (marks : List (Option ℕ)). marks ≡ c.marks) refl
 
-    pub applied-found : (name : ProcessId) (e : ℕ) (us : List Update) (l n d : ℕ) (cs : List Copy) → is_marked_in d (copy_in (map (copy_after s name e us) cs) l n) ≡ is_marked_in d (copy_in cs l n)
+    pub applied-found : (name : ProcessId) (e : ℕ) (us : List Update) (l n d : ℕ) (cs : List Copy)
+        → is_marked_in d (copy_in (map (copy_after s name e us) cs) l n) ≡ is_marked_in d (copy_in cs l n)
     applied-found name e us l n d cs =
         ap (is_marked_in d) (found-map (is_copy l n) (copy_after s name e us) cs (λ c. copy-test s name e us l n c))
         ∙ marked-map (copy_after s name e us) (copy_in cs l n) d (λ c. after-marks name e us c)
 
     pub fewer-apply : (d n : ℕ) (p : Process) → Fewer p (apply_to s d n p)
-    fewer-apply d n p = record { name = refl; marked = λ is. sym (applied-found p.name d (up_to n (replica_of p d)) t.leader t.number t.partition p.as_row.copies) ∙ is; kept = λ is. is; last = omega arith }
+    fewer-apply d n p =
+        record {
+          name = refl;
+          marked = λ is. sym (applied-found p.name d (up_to n (replica_of p d)) t.leader t.number t.partition
+              p.as_row.copies) ∙ is;
+          kept = λ is. is;
+          last = omega arith;
+        }
 
     pub gains-judge : (d : ℕ) (p : Process) → Gains p (judge s d p) 0
     gains-judge d p = by (head_at p d) where
@@ -222,7 +249,8 @@ module _ (t : Token) where
     filter-marked : (keep : Copy → Bool) (b : Bool) (cs : List Copy) → ((c : Copy) → is_copy t.leader t.number c ≡ true → keep c ≡ b)
         → is_marked_in t.partition (copy_in (filter keep cs) t.leader t.number) ≡ true → is_marked_in t.partition (copy_in cs t.leader t.number) ≡ true
     filter-marked keep b cs all is = by b (found-filter (is_copy t.leader t.number) keep b cs all) where
-      by : (c : Bool) → copy_in (filter keep cs) t.leader t.number ≡ (if c then copy_in cs t.leader t.number else None) → is_marked_in t.partition (copy_in cs t.leader t.number) ≡ true
+      by : (c : Bool) → copy_in (filter keep cs) t.leader t.number ≡ (if c then copy_in cs t.leader t.number else None)
+          → is_marked_in t.partition (copy_in cs t.leader t.number) ≡ true
       by true same = ap (is_marked_in t.partition) (sym same) ∙ is
       by false same = absurd (cc (sym is ∙ ap (is_marked_in t.partition) same))
 
@@ -239,7 +267,8 @@ module _ (t : Token) where
     fewer-forgotten (DataNode e) p = record { name = refl; marked = λ is. is; kept = λ is. is; last = omega arith }
     fewer-forgotten (ParityNode l) p = record {
       name = refl;
-      marked = filter-marked (λ c. not (c.leader == l)) (not (t.leader == l)) p.as_row.copies (λ c is. ap (λ (a : ℕ). not (a == l)) (copy-parts t.leader t.number c is).0);
+      marked = filter-marked (λ c. not (c.leader == l)) (not (t.leader == l)) p.as_row.copies
+          (λ c is. ap (λ (a : ℕ). not (a == l)) (copy-parts t.leader t.number c is).0);
       kept = λ is. is;
       last = omega arith;
     }
@@ -263,5 +292,6 @@ module _ (t : Token) where
         let closed : ProcessStep = close_sessions s q.as_leader.sessions q in
         gains-from p q (notice_comes s dead p) 0 (fewer-forgotten dead p)
         (gains-then q (and_then closed (for_each (range_with_len 0 s.k) (judge s))) (for_each (range_with_len 0 s.k) (take_over_if s)) 0 0
-        (gains-then q closed (for_each (range_with_len 0 s.k) (judge s)) 0 0 (gains-close q.as_leader.sessions q) (gains-each (range_with_len 0 s.k) (judge s) closed.process (λ x y. gains-judge x y)))
+        (gains-then q closed (for_each (range_with_len 0 s.k) (judge s)) 0 0 (gains-close q.as_leader.sessions q)
+        (gains-each (range_with_len 0 s.k) (judge s) closed.process (λ x y. gains-judge x y)))
         (gains-each (range_with_len 0 s.k) (take_over_if s) _ (λ x y. gains-takes x y)))

@@ -1,6 +1,8 @@
 -- Marks: those that a row receives, and those that a leader makes in its own row.
 use Rattle.std.proofs.lemmas.Grind.{common_steps}
-use Rattle.std.proofs.Common.{ap₂, ◌≡◌, ◌==◌, ◌≢◌, ℕ, ◌+◌, ◌-◌, ◌<◌, ◌≤◌, Bool, true, false, not, List, [], ◌∷◌, length, take, map, replicate, is_some, Option, Some, None, IfSome, ◌⊎◌, inl, inr, sym, ap, subst, ◌∙◌, refl, arith, if◌then◌else◌, option_map}
+use Rattle.std.proofs.Common.{ap₂, ◌≡◌, ◌==◌, ◌≢◌, ℕ, ◌+◌, ◌-◌, ◌<◌, ◌≤◌, Bool, true, false, not, List, [], ◌∷◌, length}
+use Rattle.std.proofs.Common.{take, map, replicate, is_some, Option, Some, None, IfSome, ◌⊎◌, inl, inr, sym, ap, subst}
+use Rattle.std.proofs.Common.{◌∙◌, refl, arith, if◌then◌else◌, option_map}
 use Rattle.std.proofs.lemmas.Bool.{cases_eq, eq-eqb}
 use Rattle.std.proofs.lemmas.List.{length-take-le}
 use Rattle.group_types.specs.Dimensions.{Dimensions}
@@ -49,7 +51,8 @@ module _ (s : Dimensions) where
     by true = holds
     by false = holds
 
-  pub copy-test : (name : ProcessId) (d : ℕ) (us : List Update) (leader number : ℕ) (c : Copy) → is_copy leader number (copy_after s name d us c) ≡ is_copy leader number c
+  pub copy-test : (name : ProcessId) (d : ℕ) (us : List Update) (leader number : ℕ) (c : Copy)
+      → is_copy leader number (copy_after s name d us c) ≡ is_copy leader number c
   copy-test name d us leader number c = by (is_some (at None c.marks d)) where
     by : (b : Bool) → is_copy leader number (if b then c else record c { bytes = block_after s name d c.block us c.bytes }) ≡ is_copy leader number c
     by true = refl
@@ -57,30 +60,40 @@ module _ (s : Dimensions) where
 
   open-applied : (name : ProcessId) (d : ℕ) (us : List Update) (leader number : ℕ) (xs : List ℕ) (cs : List Copy) → OpenIn leader number xs cs
       → OpenIn leader number xs (map (copy_after s name d us) cs)
-  open-applied name d us leader number xs cs open_there = found-map (is_copy leader number) (IsOpen xs) (copy_after s name d us) cs (λ c. copy-test name d us leader number c)
+  open-applied name d us leader number xs cs open_there = found-map (is_copy leader number) (IsOpen xs)
+      (copy_after s name d us) cs (λ c. copy-test name d us leader number c)
       (λ c free. copy-mark name d us c (λ (marks : List (Option ℕ)). Each (λ x. at None marks x ≡ None) xs) free) open_there
 
   -- what a first mark leaves of the process
-  pub begun-same : (b : Bool) (leader number block : ℕ) (p : Process) → ((copy_begun b s leader number block p).replicas ≡ p.replicas) × ((copy_begun b s leader number block p).name ≡ p.name)
+  pub begun-same : (b : Bool) (leader number block : ℕ) (p : Process)
+      → ((copy_begun b s leader number block p).replicas ≡ p.replicas)
+      × ((copy_begun b s leader number block p).name ≡ p.name)
   begun-same true leader number block p = (refl, refl)
   begun-same false leader number block p = (refl, refl)
 
-  begun-open : (b : Bool) (leader number block : ℕ) (xs : List ℕ) (p : Process) → OpenIn leader number xs p.as_row.copies → OpenIn leader number xs (copy_begun b s leader number block p).as_row.copies
+  begun-open : (b : Bool) (leader number block : ℕ) (xs : List ℕ) (p : Process)
+      → OpenIn leader number xs p.as_row.copies
+      → OpenIn leader number xs (copy_begun b s leader number block p).as_row.copies
   begun-open true leader number block xs p open_there = open_there
-  begun-open false leader number block xs p open_there = found-behind (is_copy leader number) (IsOpen xs) p.as_row.copies (new_copy s leader number block p.space) open_there
+  begun-open false leader number block xs p open_there = found-behind (is_copy leader number) (IsOpen xs)
+      p.as_row.copies (new_copy s leader number block p.space) open_there
       (each-all (λ x. at None (replicate s.k None) x ≡ None) (λ x. at-replicate None s.k x) xs)
 
   pub finished-same : (own : Bool) (c : Copy) (p : Process)
-      → ((row_finished own s c p).process.replicas ≡ p.replicas) × ((row_finished own s c p).process.name ≡ p.name) × ((row_finished own s c p).process.as_row.copies ≡ p.as_row.copies)
+      → ((row_finished own s c p).process.replicas ≡ p.replicas) × ((row_finished own s c p).process.name ≡ p.name)
+      × ((row_finished own s c p).process.as_row.copies ≡ p.as_row.copies)
   finished-same true c p = (refl, refl, refl)
   finished-same false c p = (refl, refl, refl)
 
-  pub kept-same : (whole : Bool) (c : Copy) (p : Process) → ((copy_kept whole s c p).process.replicas ≡ p.replicas) × ((copy_kept whole s c p).process.name ≡ p.name)
+  pub kept-same : (whole : Bool) (c : Copy) (p : Process) → ((copy_kept whole s c p).process.replicas ≡ p.replicas)
+      × ((copy_kept whole s c p).process.name ≡ p.name)
   kept-same true c p =
-      let same = finished-same (same_process p.name (ParityNode c.leader)) c (with_copies (without_copy c.leader c.number p.as_row.copies) p) in (same.0, same.1)
+      let same = finished-same (same_process p.name (ParityNode c.leader)) c
+      (with_copies (without_copy c.leader c.number p.as_row.copies) p) in (same.0, same.1)
   kept-same false c p = (refl, refl)
 
-  pub marked-same : (d n : ℕ) (o : Option Copy) (p : Process) → ((copy_marked s d n o p).process.replicas ≡ p.replicas) × ((copy_marked s d n o p).process.name ≡ p.name)
+  pub marked-same : (d n : ℕ) (o : Option Copy) (p : Process) → ((copy_marked s d n o p).process.replicas ≡ p.replicas)
+      × ((copy_marked s d n o p).process.name ≡ p.name)
   marked-same d n None p = (refl, refl)
   marked-same d n (Some c) p = kept-same (is_marked s (marked d n c)) (marked d n c) p
 
@@ -90,9 +103,12 @@ module _ (s : Dimensions) where
   kept-open true xs c first p is free =
       let q : Process = with_copies (without_copy c.leader c.number p.as_row.copies) p in
       subst (OpenIn c.leader c.number xs) (sym (finished-same (same_process p.name (ParityNode c.leader)) c q).2)
-      (subst (λ (o : Option Copy). IfSome o (IsOpen xs)) (sym (found-filter (is_copy c.leader c.number) (λ x. not (is_copy c.leader c.number x)) false p.as_row.copies (λ x passes. ap not passes))) tt)
+      (subst (λ (o : Option Copy). IfSome o (IsOpen xs))
+      (sym (found-filter (is_copy c.leader c.number) (λ x. not (is_copy c.leader c.number x)) false p.as_row.copies
+      (λ x passes. ap not passes))) tt)
   kept-open false xs c first p is free =
-      let own : is_copy c.leader c.number c ≡ true = and-join (c.leader == c.leader) (c.number == c.number) (eq-eqb c.leader c.leader refl) (eq-eqb c.number c.number refl) in
+      let own : is_copy c.leader c.number c ≡ true = and-join (c.leader == c.leader) (c.number == c.number)
+      (eq-eqb c.leader c.leader refl) (eq-eqb c.number c.number refl) in
       subst (λ (o : Option Copy). IfSome o (IsOpen xs)) (sym (found-exchanged (is_copy c.leader c.number) c first p.as_row.copies own is)) free
 
   marked-open : (leader number d n : ℕ) (xs : List ℕ) (p : Process) → Each (λ x. x ≢ d) xs → OpenIn leader number (d ∷ xs) p.as_row.copies
@@ -107,8 +123,10 @@ module _ (s : Dimensions) where
         subst (λ (l : ℕ). OpenIn l number xs (copy_marked s d n (Some c) p).process.as_row.copies) leaders
         (subst (λ (k : ℕ). OpenIn c.leader k xs (copy_marked s d n (Some c) p).process.as_row.copies) numbers
         (kept-open (is_marked s (marked d n c)) xs (marked d n c) c p (ap₂ (λ (a b : ℕ). copy_in p.as_row.copies a b) leaders numbers ∙ is)
-        (each-weaker (λ x. (x ≢ d) × (at None c.marks x ≡ None)) (λ x. at None (put None c.marks d (Some n)) x ≡ None) (λ x both. at-put-other None c.marks d x (Some n) both.0 ∙ both.1) xs
-        (each-both (λ x. x ≢ d) (λ x. at None c.marks x ≡ None) xs others (if-some (IsOpen (d ∷ xs)) (copy_in p.as_row.copies leader number) c is open_there).1))))
+        (each-weaker (λ x. (x ≢ d) × (at None c.marks x ≡ None)) (λ x. at None (put None c.marks d (Some n)) x ≡ None)
+        (λ x both. at-put-other None c.marks d x (Some n) both.0 ∙ both.1) xs
+        (each-both (λ x. x ≢ d) (λ x. at None c.marks x ≡ None) xs others
+        (if-some (IsOpen (d ∷ xs)) (copy_in p.as_row.copies leader number) c is open_there).1))))
 
   module _ (settled : ℕ → List Update) (old : ℕ → ℕ → Bool) where
     mapped-none : (d b : ℕ) (o : Option (List ℕ)) → option_map (block_after s (DataNode d) d b []) o ≡ o
@@ -116,7 +134,8 @@ module _ (s : Dimensions) where
     mapped-none d b (Some bytes) = refl
 
     none-rebuilt : (d e b : ℕ) (p : Process) → (e ≡ d) ⊎ (e ≢ d) → rebuilt_block (bytes_after s d [] p).as_leader e b ≡ rebuilt_block p.as_leader e b
-    none-rebuilt d e b p (inr other) = ap (λ (blocks : List (Option (List ℕ))). at None blocks b) (at-put-other [] p.as_leader.rebuilt d e (rebuilt_after s d [] 0 (at [] p.as_leader.rebuilt d)) other)
+    none-rebuilt d e b p (inr other) = ap (λ (blocks : List (Option (List ℕ))). at None blocks b)
+        (at-put-other [] p.as_leader.rebuilt d e (rebuilt_after s d [] 0 (at [] p.as_leader.rebuilt d)) other)
     none-rebuilt d e b p (inl here) =
         ap (λ (j : ℕ). rebuilt_block (bytes_after s d [] p).as_leader j b) here
         ∙ ap (λ (blocks : List (Option (List ℕ))). at None blocks b) (at-put [] [] p.as_leader.rebuilt d (rebuilt_after s d [] 0 (at [] p.as_leader.rebuilt d)))
@@ -126,24 +145,28 @@ module _ (s : Dimensions) where
     none-holds : (d : ℕ) (r : Replica) (us : List Update) (p : Process) → us ≡ [] → r.applied ≡ (replica_of p d).applied → Holding s settled old p
         → Holding s settled old (with_replica d r (bytes_after s d us p))
     none-holds d r us p none same holding =
-        subst (λ (news : List Update). Holding s settled old (with_replica d r (bytes_after s d news p))) (sym none) (holding-same s settled old p (with_replica d r (bytes_after s d [] p)) (record {
+        subst (λ (news : List Update). Holding s settled old (with_replica d r (bytes_after s d news p))) (sym none)
+        (holding-same s settled old p (with_replica d r (bytes_after s d [] p)) (record {
           stand = record { name = refl; applied = λ e. applied e (cases_eq e d) };
           space = refl;
           rebuilt = λ e b. none-rebuilt d e b p (cases_eq e d);
         }) (each-map (CopyHolds s settled p) (copy_after s p.name d []) p.as_row.copies
-        (each-weaker (CopyHolds s settled p) (λ c. CopyHolds s settled p (copy_after s p.name d [] c)) (λ c holds. copy c holds (is_some (at None c.marks d))) p.as_row.copies holding.copies)) holding) where
+        (each-weaker (CopyHolds s settled p) (λ c. CopyHolds s settled p (copy_after s p.name d [] c))
+        (λ c holds. copy c holds (is_some (at None c.marks d))) p.as_row.copies holding.copies)) holding) where
           applied : (e : ℕ) → (e ≡ d) ⊎ (e ≢ d) → (at empty_replica (put empty_replica p.replicas d r) e).applied ≡ (replica_of p e).applied
           applied e (inr other) = ap (λ (x : Replica). x.applied) (at-put-other empty_replica p.replicas d e r other)
           applied e (inl here) =
               ap (λ (j : ℕ). (at empty_replica (put empty_replica p.replicas d r) j).applied) here
               ∙ ap (λ (x : Replica). x.applied) (at-put empty_replica empty_replica p.replicas d r) ∙ same ∙ ap (λ (j : ℕ). (replica_of p j).applied) (sym here)
 
-          copy : (c : Copy) → CopyHolds s settled p c → (b : Bool) → CopyHolds s settled p (if b then c else record c { bytes = block_after s p.name d c.block [] c.bytes })
+          copy : (c : Copy) → CopyHolds s settled p c → (b : Bool)
+              → CopyHolds s settled p (if b then c else record c { bytes = block_after s p.name d c.block [] c.bytes })
           copy c holds true = holds
           copy c holds false = record { bytes = holds.bytes; marks = holds.marks }
 
     -- a leader marks a partition in its own row, at the number that it has applied
-    own-holds : (leader number block d : ℕ) (xs : List ℕ) (p : Process) → Inside s p.name → d < s.k → Each (λ x. x ≢ d) xs → OpenIn leader number (d ∷ xs) p.as_row.copies → Holding s settled old p
+    own-holds : (leader number block d : ℕ) (xs : List ℕ) (p : Process) → Inside s p.name → d < s.k
+        → Each (λ x. x ≢ d) xs → OpenIn leader number (d ∷ xs) p.as_row.copies → Holding s settled old p
         → Holding s settled old (own_mark s leader number block d p).process × OpenIn leader number xs
         (own_mark s leader number block d p).process.as_row.copies × ((own_mark s leader number block d p).process.name ≡ p.name)
     own-holds leader number block d xs p inside below others all holding = by (accepts_mark p leader number (at 0 p.ranks d) d) where
@@ -176,7 +199,9 @@ module _ (s : Dimensions) where
 
       q_holds : Holding s settled old q
       q_holds = none-holds d (applied_to n (replica_of begun d)) (up_to n (replica_of begun d)) begun none
-          (ap (λ (us : List Update). (replica_of begun d).applied + length us) none ∙ (let zero_more : (replica_of begun d).applied + 0 ≡ (replica_of begun d).applied = omega arith in zero_more))
+          (ap (λ (us : List Update). (replica_of begun d).applied + length us) none
+          ∙ (let zero_more : (replica_of begun d).applied + 0 ≡ (replica_of begun d).applied = omega arith in
+          zero_more))
           (begun-holds s settled old (is_some (copy_in p.as_row.copies leader number)) leader number block p holding)
 
       q_open : OpenIn leader number (d ∷ xs) q.as_row.copies
@@ -203,7 +228,8 @@ module _ (s : Dimensions) where
     Differ [] = Unit {0}
     Differ (x ∷ xs) = Each (λ y. y ≢ x) xs × Differ xs
 
-    pub owns-hold : (leader number block : ℕ) (xs : List ℕ) (p : Process) → Inside s p.name → Each (λ x. x < s.k) xs → Differ xs → OpenIn leader number xs p.as_row.copies → Holding s settled old p
+    pub owns-hold : (leader number block : ℕ) (xs : List ℕ) (p : Process) → Inside s p.name → Each (λ x. x < s.k) xs
+        → Differ xs → OpenIn leader number xs p.as_row.copies → Holding s settled old p
         → Holding s settled old (for_each xs (own_mark s leader number block) p).process
     owns-hold leader number block [] p inside below differ all holding = holding
     owns-hold leader number block (x ∷ xs) p inside below differ all holding =
@@ -217,8 +243,10 @@ module _ (s : Dimensions) where
       pub free : IfSome (copy_in (apply_to s d n (begin_copy s leader number block p)).as_row.copies leader number) (λ c. at None c.marks d ≡ None)
       pub name : (begin_copy s leader number block p).name ≡ p.name
 
-    pub at-mark : (write : SettledWrite s settled) (p : Process) (leader number block d n : ℕ) → Concerns s p.name d → d < s.k → GoesOn (settled d) (replica_of p d) → MarkIsNew p leader number d n
-        → (replica_of (apply_to s d n (begin_copy s leader number block p)) d).applied ≤ length (settled d) → Holding s settled old p → AtMark p leader number block d n
+    pub at-mark : (write : SettledWrite s settled) (p : Process) (leader number block d n : ℕ) → Concerns s p.name d
+        → d < s.k → GoesOn (settled d) (replica_of p d) → MarkIsNew p leader number d n
+        → (replica_of (apply_to s d n (begin_copy s leader number block p)) d).applied ≤ length (settled d)
+        → Holding s settled old p → AtMark p leader number block d n
     at-mark write p leader number block d n concerns below goes mark last holding = record {
       holds =
           apply-keeps s settled write old begun d n here below last (subst (GoesOn (settled d)) (sym same_replica) goes)
@@ -256,17 +284,21 @@ module _ (s : Dimensions) where
       begun_free : (b : Bool) → IfSome (copy_in p.as_row.copies leader number) (λ c. at None c.marks d ≡ None)
           → IfSome (copy_in (copy_begun b s leader number block p).as_row.copies leader number) (λ c. at None c.marks d ≡ None)
       begun_free true unmarked = unmarked
-      begun_free false unmarked = found-behind (is_copy leader number) (λ c. at None c.marks d ≡ None) p.as_row.copies (new_copy s leader number block p.space) unmarked (at-replicate None s.k d)
+      begun_free false unmarked = found-behind (is_copy leader number) (λ c. at None c.marks d ≡ None) p.as_row.copies
+          (new_copy s leader number block p.space) unmarked (at-replicate None s.k d)
 
       free_there : IfSome (copy_in q.as_row.copies leader number) (λ c. at None c.marks d ≡ None)
-      free_there = found-map (is_copy leader number) (λ c. at None c.marks d ≡ None) (copy_after s begun.name d (up_to n (replica_of begun d))) begun.as_row.copies
+      free_there = found-map (is_copy leader number) (λ c. at None c.marks d ≡ None)
+          (copy_after s begun.name d (up_to n (replica_of begun d))) begun.as_row.copies
           (λ c. copy-test begun.name d (up_to n (replica_of begun d)) leader number c)
           (λ c unmarked. copy-mark begun.name d (up_to n (replica_of begun d)) c (λ (marks : List (Option ℕ)). at None marks d ≡ None) unmarked)
           (begun_free (is_some (copy_in p.as_row.copies leader number)) mark.unmarked)
 
     -- a row takes a mark
-    pub mark-received : (write : SettledWrite s settled) (p : Process) (leader number r block d n : ℕ) → Concerns s p.name d → d < s.k → GoesOn (settled d) (replica_of p d)
-        → (accepts_mark p leader number r d ≡ true → MarkIsNew p leader number d n) → (replica_of (mark_comes s leader number r block d n p).process d).applied ≤ length (settled d)
+    pub mark-received : (write : SettledWrite s settled) (p : Process) (leader number r block d n : ℕ)
+        → Concerns s p.name d → d < s.k → GoesOn (settled d) (replica_of p d)
+        → (accepts_mark p leader number r d ≡ true → MarkIsNew p leader number d n)
+        → (replica_of (mark_comes s leader number r block d n p).process d).applied ≤ length (settled d)
         → Holding s settled old p → Holding s settled old (mark_comes s leader number r block d n p).process
     mark-received write p leader number r block d n concerns below goes new within holding = by (accepts_mark p leader number r d) new within where
       q : Process
@@ -280,4 +312,6 @@ module _ (s : Dimensions) where
           let last : (replica_of q d).applied ≤ length (settled d) = subst (λ (rs : List Replica). (at empty_replica rs d).applied ≤ length (settled d))
           (marked-same d n (copy_in q.as_row.copies leader number) q).0 final in
           let there : AtMark p leader number block d n = at-mark write p leader number block d n concerns below goes (is_new refl) last holding in
-          mark-holds s settled old q leader number d n (subst (Inside s) (sym there.name) (inside-concerned s p.name d concerns)) below there.applied there.free there.holds
+          mark-holds s settled old q leader number d n
+          (subst (Inside s) (sym there.name) (inside-concerned s p.name d concerns)) below there.applied there.free
+          there.holds

@@ -1,5 +1,6 @@
 -- What a leader rebuilds by its marks in its own row where it opens a session, and what a call makes it rebuild.
-use Rattle.std.proofs.Common.{◌≡◌, ◌≢◌, ℕ, ◌+◌, ◌<◌, ◌≤◌, ◌==◌, Bool, true, false, List, [], ◌∷◌, length, is_some, Option, Some, None, IfSome, option_map, ◌⊎◌, inl, inr, sym, ap, subst, ◌∙◌, refl, arith}
+use Rattle.std.proofs.Common.{◌≡◌, ◌≢◌, ℕ, ◌+◌, ◌<◌, ◌≤◌, ◌==◌, Bool, true, false, List, [], ◌∷◌, length, is_some}
+use Rattle.std.proofs.Common.{Option, Some, None, IfSome, option_map, ◌⊎◌, inl, inr, sym, ap, subst, ◌∙◌, refl, arith}
 use Rattle.std.specs.Prelude.{Contains}
 use Rattle.std.proofs.lemmas.Bool.{cases_eq}
 use Rattle.group_types.specs.Dimensions.{Dimensions}
@@ -14,7 +15,8 @@ use Rattle.group_types.proofs.Eaches.{each-weaker, each-both}
 use Rattle.membership.specs.Members.{Membership}
 use Rattle.group_message.specs.declared.update.Update.{Update}
 use Rattle.group_run.specs.Applying.{apply_to, block_after, for_each, rebuilt_after, replica_of, when}
-use Rattle.group_run.specs.Leaders.{copy_kept, copy_marked, is_complete, mark_comes, mark_taken, open_session, own_mark, rebuilt_block, row_comes, row_finished, row_gathered}
+use Rattle.group_run.specs.Leaders.{copy_kept, copy_marked, is_complete, mark_comes, mark_taken, open_session, own_mark}
+use Rattle.group_run.specs.Leaders.{rebuilt_block, row_comes, row_finished, row_gathered}
 use Rattle.group_run.specs.Process.{Copy, Gathering, Head, Process}
 use Rattle.group_run.specs.Replica.{Replica, applied_to, empty_replica, up_to}
 use Rattle.group_run.specs.Rows.{accepts_mark, begin_copy, copy_begun, copy_in, is_marked, marked, with_copies, without_copy}
@@ -50,7 +52,13 @@ module _ (s : Dimensions) where
   later-self p = record { applied = λ e. omega arith; heads = refl; blocks = λ d b bytes is. is }
 
   later-then : (p q r : Process) → Later p q → Later q r → Later p r
-  later-then p q r a b = record { applied = λ e. let one = a.applied e in let two = b.applied e in omega (arith, one, two); heads = b.heads ∙ a.heads; blocks = λ d c bytes is. b.blocks d c bytes (a.blocks d c bytes is) }
+  later-then p q r a b = record {
+    applied = λ e. let one = a.applied e in let two = b.applied e in
+        omega (arith, one, two);
+    heads = b.heads ∙ a.heads;
+    blocks =
+        λ d c bytes is. b.blocks d c bytes (a.blocks d c bytes is);
+  }
 
   -- no update is applied
   later-apply : (e k : ℕ) (p : Process) → up_to k (replica_of p e) ≡ [] → Later p (apply_to s e k p)
@@ -63,12 +71,16 @@ module _ (s : Dimensions) where
         → at None (at [] (put [] p.as_leader.rebuilt e (rebuilt_after s e (up_to k (replica_of p e)) 0 (at [] p.as_leader.rebuilt e))) d) b ≡ Some bytes
     by d b bytes is (inl same) =
         ap (λ (j : ℕ). at None (at [] (put [] p.as_leader.rebuilt e (rebuilt_after s e (up_to k (replica_of p e)) 0 (at [] p.as_leader.rebuilt e))) j) b) same
-        ∙ ap (λ (bs : List (Option (List ℕ))). at None bs b) (at-put [] [] p.as_leader.rebuilt e (rebuilt_after s e (up_to k (replica_of p e)) 0 (at [] p.as_leader.rebuilt e)))
+        ∙ ap (λ (bs : List (Option (List ℕ))). at None bs b)
+        (at-put [] [] p.as_leader.rebuilt e
+        (rebuilt_after s e (up_to k (replica_of p e)) 0 (at [] p.as_leader.rebuilt e)))
         ∙ at-rebuilt s e (up_to k (replica_of p e)) 0 (at [] p.as_leader.rebuilt e) b
         ∙ ap (option_map (block_after s (DataNode e) e (0 + b) (up_to k (replica_of p e)))) (ap (λ (j : ℕ). rebuilt_block p.as_leader j b) (sym same) ∙ is)
         ∙ ap (λ (us : List Update). Some (block_after s (DataNode e) e (0 + b) us bytes)) none
     by d b bytes is (inr other) =
-        ap (λ (bs : List (Option (List ℕ))). at None bs b) (at-put-other [] p.as_leader.rebuilt e d (rebuilt_after s e (up_to k (replica_of p e)) 0 (at [] p.as_leader.rebuilt e)) other)
+        ap (λ (bs : List (Option (List ℕ))). at None bs b)
+        (at-put-other [] p.as_leader.rebuilt e d
+        (rebuilt_after s e (up_to k (replica_of p e)) 0 (at [] p.as_leader.rebuilt e)) other)
         ∙ is
 
   later-row : (number i : ℕ) (bytes : List ℕ) (p : Process) → Later p (row_comes s number i bytes p)
@@ -84,7 +96,8 @@ module _ (s : Dimensions) where
 
   none-applied : (leader number block e : ℕ) (p : Process) → up_to (replica_of p e).applied (replica_of (begin_copy s leader number block p) e) ≡ []
   none-applied leader number block e p =
-      ap (λ (rs : List Replica). up_to (replica_of p e).applied (at empty_replica rs e)) (begun-replicas (is_some (copy_in p.as_row.copies leader number)) leader number block p)
+      ap (λ (rs : List Replica). up_to (replica_of p e).applied (at empty_replica rs e))
+      (begun-replicas (is_some (copy_in p.as_row.copies leader number)) leader number block p)
       ∙ up_to-applied (replica_of p e)
 
   later-own : (leader number block e : ℕ) (p : Process) → Later p (own_mark s leader number block e p).process
@@ -117,10 +130,12 @@ module _ (s : Dimensions) where
     by : (b : Bool) → Later p (when b p (mark_taken s leader number block e (replica_of p e).applied p)).process
     by true =
         let q : Process = apply_to s e (replica_of p e).applied (begin_copy s leader number block p) in
-        later-then p q (copy_marked s e (replica_of p e).applied (copy_in q.as_row.copies leader number) q).process to-marking (found (copy_in q.as_row.copies leader number) q)
+        later-then p q (copy_marked s e (replica_of p e).applied (copy_in q.as_row.copies leader number) q).process
+        to-marking (found (copy_in q.as_row.copies leader number) q)
     by false = later-self p
 
-  later-given : (settled : ℕ → List Update) (known : Membership) (p q : Process) → Later p q → (d b : ℕ) (bytes : List ℕ) → GivenAt s settled known p d b bytes → GivenAt s settled known q d b bytes
+  later-given : (settled : ℕ → List Update) (known : Membership) (p q : Process) → Later p q
+      → (d b : ℕ) (bytes : List ℕ) → GivenAt s settled known p d b bytes → GivenAt s settled known q d b bytes
   later-given settled known p q later d b bytes given = record {
     number = given.number;
     values = given.values;
@@ -172,24 +187,34 @@ module _ (s : Dimensions) where
   later-owns : (leader number block : ℕ) (xs : List ℕ) (p : Process) → Later p (for_each xs (own_mark s leader number block) p).process
   later-owns leader number block [] p = later-self p
   later-owns leader number block (x ∷ xs) p =
-      later-then p (own_mark s leader number block x p).process (for_each xs (own_mark s leader number block) (own_mark s leader number block x p).process).process (later-own leader number block x p)
+      later-then p (own_mark s leader number block x p).process
+      (for_each xs (own_mark s leader number block) (own_mark s leader number block x p).process).process
+      (later-own leader number block x p)
       (later-owns leader number block xs (own_mark s leader number block x p).process)
 
   -- a leader's marks in its own row
   module _ (shaped : IsShape s) (settled : ℕ → List Update) (write : SettledWrite s settled) (plan : Plan) (i n block : ℕ) (known : Membership)
       (old : ℕ → ℕ → Bool) (p : Process) (goes : (d : ℕ) → d < s.k → GoesOn (settled d) (replica_of p d)) where
-    module _ (d : ℕ) (xs : List ℕ) (z : Process) (name : z.name ≡ ParityNode i) (below : d < s.k) (unmarked : OpenIn i n (d ∷ xs) z.as_row.copies) (same : replica_of z d ≡ replica_of p d)
+    module _ (d : ℕ) (xs : List ℕ) (z : Process) (name : z.name ≡ ParityNode i) (below : d < s.k)
+        (unmarked : OpenIn i n (d ∷ xs) z.as_row.copies) (same : replica_of z d ≡ replica_of p d)
         (fits : (block ≡ plan.block) × ((replica_of p d).applied ≡ plan.numbers d) × Contains plan.rows i) (holding : Holding s settled old z) where
       concerns-own : Concerns s z.name d
       concerns-own = subst (λ (x : ProcessId). Concerns s x d) (sym name) below
 
       new-own : MarkIsNew z i n d (replica_of z d).applied
-      new-own = record { above = omega arith; issued = omega arith; unmarked = if-weaker (IsOpen (d ∷ xs)) (λ c. at None c.marks d ≡ None) (λ c free. free.0) (copy_in z.as_row.copies i n) unmarked }
+      new-own = record {
+        above = omega arith;
+        issued = omega arith;
+        unmarked = if-weaker (IsOpen (d ∷ xs)) (λ c. at None c.marks d ≡ None) (λ c free. free.0)
+            (copy_in z.as_row.copies i n) unmarked;
+      }
 
       last-own : (replica_of (apply_to s d (replica_of z d).applied (begin_copy s i n block z)) d).applied ≤ length (settled d)
       last-own =
           let begun : Process = begin_copy s i n block z in
-          let here = ap (λ (r : Replica). r.applied) (at-put empty_replica empty_replica begun.replicas d (applied_to (replica_of z d).applied (replica_of begun d))) in
+          let here = ap (λ (r : Replica). r.applied)
+          (at-put empty_replica empty_replica begun.replicas d
+          (applied_to (replica_of z d).applied (replica_of begun d))) in
           let none = ap (λ (us : List Update). length us) (none-applied i n block d z) in
           let was = ap (λ (rs : List Replica). (at empty_replica rs d).applied) (begun-replicas (is_some (copy_in z.as_row.copies i n)) i n block z) in
           let within = holding.within d below in
@@ -207,20 +232,27 @@ module _ (s : Dimensions) where
             → GivenAt s settled known (when a z (mark_taken s i n block d (replica_of z d).applied z)).process e b bytes
         by false = λ e b bytes before after. absurd (cc (before, after))
         by true = taken-given s shaped settled write i n plan known z name is lost sound i block d (replica_of z d).applied below fit-own
-            (λ leads numbers c first. mark-holds s settled write old z i n block d (replica_of z d).applied concerns-own below (subst (GoesOn (settled d)) (sym same) (goes d below)) new-own last-own holding c first)
+            (λ leads numbers c first. mark-holds s settled write old z i n block d (replica_of z d).applied concerns-own
+            below (subst (GoesOn (settled d)) (sym same) (goes d below)) new-own last-own holding c first)
 
-    pub owns-given : (xs : List ℕ) (z : Process) → z.name ≡ ParityNode i → Each (λ d. d < s.k) xs → Differ xs → OpenIn i n xs z.as_row.copies → Each (λ d. replica_of z d ≡ replica_of p d) xs
+    pub owns-given : (xs : List ℕ) (z : Process) → z.name ≡ ParityNode i → Each (λ d. d < s.k) xs → Differ xs
+        → OpenIn i n xs z.as_row.copies → Each (λ d. replica_of z d ≡ replica_of p d) xs
         → Each (λ d. (block ≡ plan.block) × ((replica_of p d).applied ≡ plan.numbers d) × Contains plan.rows i) xs → Holding s settled old z
         → ProcessFollows s settled i n plan z → LostFollows i n plan z
         → IfSome (open_session z.as_leader n) (SoundFor s known) → (e b : ℕ) (bytes : List ℕ) → rebuilt_block z.as_leader e b ≡ None
-        → rebuilt_block (for_each xs (own_mark s i n block) z).process.as_leader e b ≡ Some bytes → GivenAt s settled known (for_each xs (own_mark s i n block) z).process e b bytes
+        → rebuilt_block (for_each xs (own_mark s i n block) z).process.as_leader e b ≡ Some bytes
+        → GivenAt s settled known (for_each xs (own_mark s i n block) z).process e b bytes
     owns-given [] z name below differ unmarked same fits holding is lost sound e b bytes before after = absurd (cc (before, after))
     owns-given (d ∷ xs) z name below differ unmarked same fits holding is lost sound e b bytes before after =
         let passes : Passes s settled i n plan z (for_each (d ∷ []) (own_mark s i n block) z) =
-        owns-pass s settled i n plan write old p i n block goes (d ∷ []) z name (below.0, tt) (tt, tt) one_open (same.0, tt) (λ leads numbers. (fits.0, tt)) holding in
+        owns-pass s settled i n plan write old p i n block goes (d ∷ []) z name (below.0, tt) (tt, tt) one_open
+        (same.0, tt) (λ leads numbers. (fits.0, tt)) holding in
         by (rebuilt_block (own_mark s i n block d z).process.as_leader e b) refl
-        (λ none. owns-given xs (own_mark s i n block d z).process (passes.name ∙ name) below.1 differ.1 (open-own s i n d (replica_of z d).applied xs differ.0 block (at 0 z.ranks d) z unmarked)
-        (each-weaker (λ c. (c ≢ d) × (replica_of z c ≡ replica_of p c)) (λ c. replica_of (own_mark s i n block d z).process c ≡ replica_of p c) (λ c both. other-replica s settled i n plan write old z i n block d c both.0 ∙ both.1) xs
+        (λ none. owns-given xs (own_mark s i n block d z).process (passes.name ∙ name) below.1 differ.1
+        (open-own s i n d (replica_of z d).applied xs differ.0 block (at 0 z.ranks d) z unmarked)
+        (each-weaker (λ c. (c ≢ d) × (replica_of z c ≡ replica_of p c))
+        (λ c. replica_of (own_mark s i n block d z).process c ≡ replica_of p c)
+        (λ c both. other-replica s settled i n plan write old z i n block d c both.0 ∙ both.1) xs
         (each-both (λ c. c ≢ d) (λ c. replica_of z c ≡ replica_of p c) xs differ.0 same.1)) fits.1
         (owns-hold s settled old i n block (d ∷ []) z (subst (Inside s) (sym name) tt) (below.0, tt) (tt, tt) one_open holding) (passes.follows is).0
         (lost-borne s i n plan z (own_mark s i n block d z).process passes.name (bears-mark s n i n (at 0 z.ranks d) block d (replica_of z d).applied z) lost)
@@ -230,13 +262,15 @@ module _ (s : Dimensions) where
         one_open = if-weaker (IsOpen (d ∷ xs)) (IsOpen (d ∷ [])) (λ c free. (free.0, tt)) (copy_in z.as_row.copies i n) unmarked
 
         by : (o : Option (List ℕ)) → rebuilt_block (own_mark s i n block d z).process.as_leader e b ≡ o
-            → (rebuilt_block (own_mark s i n block d z).process.as_leader e b ≡ None → GivenAt s settled known (for_each xs (own_mark s i n block) (own_mark s i n block d z).process).process e b bytes)
+            → (rebuilt_block (own_mark s i n block d z).process.as_leader e b ≡ None → GivenAt s settled known
+            (for_each xs (own_mark s i n block) (own_mark s i n block d z).process).process e b bytes)
             → GivenAt s settled known (for_each xs (own_mark s i n block) (own_mark s i n block d z).process).process e b bytes
         by None there later = later there
         by (Some y) there later =
             let lasting = later-owns i n block xs (own_mark s i n block d z).process in
             let both : Some bytes ≡ Some y = sym after ∙ lasting.blocks e b y there in
             let same_bytes : bytes ≡ y = cc both in
-            later-given settled known (own_mark s i n block d z).process (for_each xs (own_mark s i n block) (own_mark s i n block d z).process).process lasting e b bytes
+            later-given settled known (own_mark s i n block d z).process
+            (for_each xs (own_mark s i n block) (own_mark s i n block d z).process).process lasting e b bytes
             (subst (λ (bs : List ℕ). GivenAt s settled known (own_mark s i n block d z).process e b bs) (sym same_bytes)
             (own-given d xs z name below.0 unmarked same.0 fits.0 holding is lost sound e b y before there))

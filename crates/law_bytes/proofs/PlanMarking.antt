@@ -1,5 +1,7 @@
 -- A row takes a mark: its copy goes on following the plan, and so does the row that it gives once all is marked.
-use Rattle.std.proofs.Common.{◌≡◌, ◌≢◌, ℕ, ◌+◌, ◌*◌, ◌<◌, ◌≤◌, ◌==◌, ◌&&◌, Bool, true, false, not, List, [], ◌∷◌, ◌++◌, take, is_some, replicate, Option, Some, None, IfSome, ◌⊎◌, inl, inr, sym, ap, ap₂, subst, ◌∙◌, refl, arith, if◌then◌else◌}
+use Rattle.std.proofs.Common.{◌≡◌, ◌≢◌, ℕ, ◌+◌, ◌*◌, ◌<◌, ◌≤◌, ◌==◌, ◌&&◌, Bool, true, false, not, List, [], ◌∷◌, ◌++◌}
+use Rattle.std.proofs.Common.{take, is_some, replicate, Option, Some, None, IfSome, ◌⊎◌, inl, inr, sym, ap, ap₂, subst}
+use Rattle.std.proofs.Common.{◌∙◌, refl, arith, if◌then◌else◌}
 use Rattle.std.specs.Prelude.{Contains, unwrap_or}
 use Rattle.std.specs.List.{range_with_len}
 use Rattle.std.proofs.lemmas.Bool.{cases_eq, eq-eqb}
@@ -60,7 +62,8 @@ module _ (s : Dimensions) (settled : ℕ → List Update) (l n : ℕ) (plan : Pl
     by e j low is (inr other) = half.marks e j low (sym (at-put-other None c.marks d e (Some k) other) ∙ is)
 
   -- a finished copy is the code at the plan's numbers
-  row-follows : (q : Process) (c : Copy) (i : ℕ) → q.name ≡ ParityNode i → is_marked s c ≡ true → CopyAt i c → CopyHolds s settled q c → RowFollows s settled plan (ParityNode i) c.bytes (marks_of s c)
+  row-follows : (q : Process) (c : Copy) (i : ℕ) → q.name ≡ ParityNode i → is_marked s c ≡ true → CopyAt i c
+      → CopyHolds s settled q c → RowFollows s settled plan (ParityNode i) c.bytes (marks_of s c)
   row-follows q c i name whole follows holds = (follows.0, exact, stamp) where
     number : (d : ℕ) (o : Option ℕ) (b : ℕ) → d < s.k → at None c.marks d ≡ o → is_some o ≡ true → unwrap_or o b ≡ plan.numbers d
     number d (Some k) b below is some = follows.1.marks d k below is
@@ -94,7 +97,8 @@ module _ (s : Dimensions) (settled : ℕ → List Update) (l n : ℕ) (plan : Pl
   -- a marked copy c, first the copy old of its session, is kept, or goes as a row
   module _ (q : Process) (c old : Copy) (first : copy_in q.as_row.copies c.leader c.number ≡ Some old)
       (others : same_session t c.leader c.number ≡ false → (r : ℕ) → q.name ≡ ParityNode r → IfSome (copy_in q.as_row.copies l n) (CopyAt r))
-      (mine : Mine c q.name) (session : q.name ≡ ParityNode l → IfSome (open_session q.as_leader n) (λ g. (n ≤ q.as_leader.last_session) × GatheringFollows s settled plan g)) where
+      (mine : Mine c q.name) (session : q.name ≡ ParityNode l → IfSome (open_session q.as_leader n)
+      (λ g. (n ≤ q.as_leader.last_session) × GatheringFollows s settled plan g)) where
     turned : (x : Copy) → is_copy l n x ≡ true → is_copy c.leader c.number x ≡ (l == c.leader && n == c.number)
     turned x is = let parts = copy-parts l n x is in ap₂ (λ (a b : ℕ). a == c.leader && b == c.number) parts.0 parts.1
 
@@ -106,7 +110,8 @@ module _ (s : Dimensions) (settled : ℕ → List Update) (l n : ℕ) (plan : Pl
       by : ((c.leader ≡ l) × (c.number ≡ n)) ⊎ (same_session t c.leader c.number ≡ false) → IfSome (copy_in (with_copy c q.as_row.copies) l n) (CopyAt r)
       by (inl same) =
           let found : copy_in (with_copy c q.as_row.copies) l n ≡ Some c =
-          ap₂ (λ (a b : ℕ). copy_in (with_copy c q.as_row.copies) a b) (sym same.0) (sym same.1) ∙ found-exchanged (is_copy c.leader c.number) c old q.as_row.copies own first in
+          ap₂ (λ (a b : ℕ). copy_in (with_copy c q.as_row.copies) a b) (sym same.0) (sym same.1)
+          ∙ found-exchanged (is_copy c.leader c.number) c old q.as_row.copies own first in
           subst (λ o. IfSome o (CopyAt r)) (sym found) (mine same.0 same.1 r named).copy
       by (inr other) = subst (λ o. IfSome o (CopyAt r)) (sym (found-apart (is_copy l n) (is_copy c.leader c.number) c q.as_row.copies other
           (λ x swap. let parts = copy-parts c.leader c.number x swap in ap₂ (λ (a b : ℕ). a == l && b == n) parts.0 parts.1 ∙ other))) (others other r named)
@@ -116,10 +121,13 @@ module _ (s : Dimensions) (settled : ℕ → List Update) (l n : ℕ) (plan : Pl
 
     ended_copy : (r : ℕ) → q.name ≡ ParityNode r → IfSome (copy_in (without_copy c.leader c.number q.as_row.copies) l n) (CopyAt r)
     ended_copy r named = by (session-cases t c.leader c.number) where
-      by : ((c.leader ≡ l) × (c.number ≡ n)) ⊎ (same_session t c.leader c.number ≡ false) → IfSome (copy_in (without_copy c.leader c.number q.as_row.copies) l n) (CopyAt r)
+      by : ((c.leader ≡ l) × (c.number ≡ n)) ⊎ (same_session t c.leader c.number ≡ false)
+          → IfSome (copy_in (without_copy c.leader c.number q.as_row.copies) l n) (CopyAt r)
       by (inl same) =
           let here : (l == c.leader && n == c.number) ≡ true = and-join _ _ (eq-eqb l c.leader (sym same.0)) (eq-eqb n c.number (sym same.1)) in
-          subst (λ o. IfSome o (CopyAt r)) (sym (found-filter (is_copy l n) (λ x. not (is_copy c.leader c.number x)) false q.as_row.copies (λ x is. ap not (turned x is ∙ here)))) tt
+          subst (λ o. IfSome o (CopyAt r))
+          (sym (found-filter (is_copy l n) (λ x. not (is_copy c.leader c.number x)) false q.as_row.copies
+          (λ x is. ap not (turned x is ∙ here)))) tt
       by (inr other) =
           if-filter (is_copy l n) (λ x. not (is_copy c.leader c.number x)) (CopyAt r) (not (l == c.leader && n == c.number)) q.as_row.copies
           (λ x is. ap not (turned x is)) (others other r named)
@@ -128,7 +136,8 @@ module _ (s : Dimensions) (settled : ℕ → List Update) (l n : ℕ) (plan : Pl
     ended_follows = record { copy = ended_copy; session = session }
 
     -- the row that goes, by the name of its process
-    gives : (x : ProcessId) → q.name ≡ x → is_marked s c ≡ true → OfSession l n (session_of c.leader c.number) → RowFollows s settled plan x c.bytes (marks_of s c)
+    gives : (x : ProcessId) → q.name ≡ x → is_marked s c ≡ true → OfSession l n (session_of c.leader c.number)
+        → RowFollows s settled plan x c.bytes (marks_of s c)
     gives (DataNode e) named whole of_it = tt
     gives (ParityNode r) named whole of_it = let leaders : c.leader ≡ l = cc of_it.0 in (mine leaders of_it.1 r named).row whole
 
@@ -146,15 +155,18 @@ module _ (s : Dimensions) (settled : ℕ → List Update) (l n : ℕ) (plan : Pl
           (row.0, row.1)
     finished false is whole = (ended_follows, (λ of_it. gives q.name refl whole of_it, tt))
 
-    kept : (whole : Bool) → is_marked s c ≡ whole → ProcessFollows s settled l n plan (copy_kept whole s c q).process × Sends s settled l n plan q.name (copy_kept whole s c q).sent
+    kept : (whole : Bool) → is_marked s c ≡ whole → ProcessFollows s settled l n plan (copy_kept whole s c q).process
+        × Sends s settled l n plan q.name (copy_kept whole s c q).sent
     kept true whole = finished (same_process q.name (ParityNode c.leader)) refl whole
     kept false whole = (record { copy = waiting; session = session }, tt)
 
-    pub kept-follows : ProcessFollows s settled l n plan (copy_kept (is_marked s c) s c q).process × Sends s settled l n plan q.name (copy_kept (is_marked s c) s c q).sent
+    pub kept-follows : ProcessFollows s settled l n plan (copy_kept (is_marked s c) s c q).process
+        × Sends s settled l n plan q.name (copy_kept (is_marked s c) s c q).sent
     kept-follows = kept (is_marked s c) refl
 
   -- a mark is taken
-  module _ (p : Process) (leader number block d k : ℕ) (below : d < s.k) (fits : leader ≡ l → number ≡ n → (block ≡ plan.block) × (k ≡ plan.numbers d) × AmongRows plan.rows p.name)
+  module _ (p : Process) (leader number block d k : ℕ) (below : d < s.k)
+      (fits : leader ≡ l → number ≡ n → (block ≡ plan.block) × (k ≡ plan.numbers d) × AmongRows plan.rows p.name)
       (is : ProcessFollows s settled l n plan p) where
     abbrev begun : Process
     begun = begin_copy s leader number block p
@@ -171,14 +183,22 @@ module _ (s : Dimensions) (settled : ℕ → List Update) (l n : ℕ) (plan : Pl
     begun_session false = refl
 
     -- of another session
-    begun_other : same_session t leader number ≡ false → (b : Bool) (r : ℕ) → p.name ≡ ParityNode r → IfSome (copy_in (copy_begun b s leader number block p).as_row.copies l n) (CopyAt r)
+    begun_other : same_session t leader number ≡ false → (b : Bool) (r : ℕ) → p.name ≡ ParityNode r
+        → IfSome (copy_in (copy_begun b s leader number block p).as_row.copies l n) (CopyAt r)
     begun_other other true r named = is.copy r named
     begun_other other false r named = by (finding.found-behind (is_copy l n) p.as_row.copies (new_copy s leader number block p.space)) where
       by : (copy_in (p.as_row.copies ++ new_copy s leader number block p.space ∷ []) l n ≡ copy_in p.as_row.copies l n)
-          ⊎ ((copy_in p.as_row.copies l n ≡ None) × (copy_in (p.as_row.copies ++ new_copy s leader number block p.space ∷ []) l n ≡ Some (new_copy s leader number block p.space)))
+          ⊎ ((copy_in p.as_row.copies l n ≡ None)
+          × (copy_in (p.as_row.copies ++ new_copy s leader number block p.space ∷ []) l n
+          ≡ Some (new_copy s leader number block p.space)))
           → IfSome (copy_in (p.as_row.copies ++ new_copy s leader number block p.space ∷ []) l n) (CopyAt r)
       by (inl same) = subst (λ o. IfSome o (CopyAt r)) (sym same) (is.copy r named)
-      by (inr both) = absurd (cc (other, found-passes (is_copy l n) (p.as_row.copies ++ new_copy s leader number block p.space ∷ []) (new_copy s leader number block p.space) both.1))
+      by (inr both) =
+          absurd (cc (
+            other,
+            found-passes (is_copy l n) (p.as_row.copies ++ new_copy s leader number block p.space ∷ [])
+                (new_copy s leader number block p.space) both.1,
+          ))
 
     -- of the session
     half_new : leader ≡ l → number ≡ n → Half (new_copy s leader number block p.space)
@@ -186,7 +206,8 @@ module _ (s : Dimensions) (settled : ℕ → List Update) (l n : ℕ) (plan : Pl
       none : (e : ℕ) → ◌≡◌ {A = Option ℕ} (at None (replicate s.k None) e) None
       none e = at-replicate None s.k e
 
-    half_begun : (r : ℕ) → p.name ≡ ParityNode r → leader ≡ l → number ≡ n → (b : Bool) → IfSome (copy_in (copy_begun b s leader number block p).as_row.copies leader number) Half
+    half_begun : (r : ℕ) → p.name ≡ ParityNode r → leader ≡ l → number ≡ n → (b : Bool)
+        → IfSome (copy_in (copy_begun b s leader number block p).as_row.copies leader number) Half
     half_begun r named leaders numbers b = by b where
       old : IfSome (copy_in p.as_row.copies leader number) Half
       old = subst (λ o. IfSome o Half) (ap₂ (λ (x y : ℕ). copy_in p.as_row.copies x y) (sym leaders) (sym numbers))
@@ -207,7 +228,8 @@ module _ (s : Dimensions) (settled : ℕ → List Update) (l n : ℕ) (plan : Pl
 
     -- what the copy holds once it is marked
     module _ (holds : leader ≡ l → number ≡ n → (c : Copy) → copy_in q.as_row.copies leader number ≡ Some c → CopyHolds s settled q (marked d k c)) where
-      pub mine_there : (c : Copy) → copy_in q.as_row.copies leader number ≡ Some c → leader ≡ l → number ≡ n → (r : ℕ) → q.name ≡ ParityNode r → MineAt (marked d k c) r
+      pub mine_there : (c : Copy) → copy_in q.as_row.copies leader number ≡ Some c → leader ≡ l → number ≡ n → (r : ℕ)
+          → q.name ≡ ParityNode r → MineAt (marked d k c) r
       mine_there c there leaders numbers r named =
           let half_q : IfSome (copy_in q.as_row.copies leader number) Half =
           found-map (is_copy leader number) Half (copy_after s begun.name d (up_to k (replica_of begun d))) begun.as_row.copies
@@ -225,7 +247,9 @@ module _ (s : Dimensions) (settled : ℕ → List Update) (l n : ℕ) (plan : Pl
           (begun_other other (is_some (copy_in p.as_row.copies leader number)) r (sym name_q ∙ named))
 
       session_q : (b : Bool) → IfSome (open_session p.as_leader n) (λ g. (n ≤ p.as_leader.last_session) × GatheringFollows s settled plan g)
-          → IfSome (open_session (copy_begun b s leader number block p).as_leader n) (λ g. (n ≤ (copy_begun b s leader number block p).as_leader.last_session) × GatheringFollows s settled plan g)
+          → IfSome (open_session (copy_begun b s leader number block p).as_leader n)
+          (λ g. (n ≤ (copy_begun b s leader number block p).as_leader.last_session)
+          × GatheringFollows s settled plan g)
       session_q true holds_p = holds_p
       session_q false holds_p = holds_p
 
@@ -235,20 +259,24 @@ module _ (s : Dimensions) (settled : ℕ → List Update) (l n : ℕ) (plan : Pl
       found : (o : Option Copy) → copy_in q.as_row.copies leader number ≡ o
           → ProcessFollows s settled l n plan (copy_marked s d k o q).process × Sends s settled l n plan q.name (copy_marked s d k o q).sent
       found None there = (record { copy = λ r named. by r named (session-cases t leader number); session = session }, tt) where
-        by : (r : ℕ) → q.name ≡ ParityNode r → ((leader ≡ l) × (number ≡ n)) ⊎ (same_session t leader number ≡ false) → IfSome (copy_in q.as_row.copies l n) (CopyAt r)
+        by : (r : ℕ) → q.name ≡ ParityNode r → ((leader ≡ l) × (number ≡ n)) ⊎ (same_session t leader number ≡ false)
+            → IfSome (copy_in q.as_row.copies l n) (CopyAt r)
         by r named (inl same) = subst (λ o. IfSome o (CopyAt r)) (sym (ap₂ (λ (x y : ℕ). copy_in q.as_row.copies x y) (sym same.0) (sym same.1) ∙ there)) tt
         by r named (inr other) = others other r named
-      found (Some c) there = kept-follows q (marked d k c) c first (λ other. others (sym (ap₂ (λ (a b : ℕ). same_session t a b) parts.0 parts.1) ∙ other)) mine session where
-        parts : (c.leader ≡ leader) × (c.number ≡ number)
-        parts = copy-parts leader number c (found-passes (is_copy leader number) q.as_row.copies c there)
+      found (Some c) there =
+          kept-follows q (marked d k c) c first
+          (λ other. others (sym (ap₂ (λ (a b : ℕ). same_session t a b) parts.0 parts.1) ∙ other)) mine session where
+            parts : (c.leader ≡ leader) × (c.number ≡ number)
+            parts = copy-parts leader number c (found-passes (is_copy leader number) q.as_row.copies c there)
 
-        first : copy_in q.as_row.copies c.leader c.number ≡ Some c
-        first = ap₂ (λ (a b : ℕ). copy_in q.as_row.copies a b) parts.0 parts.1 ∙ there
+            first : copy_in q.as_row.copies c.leader c.number ≡ Some c
+            first = ap₂ (λ (a b : ℕ). copy_in q.as_row.copies a b) parts.0 parts.1 ∙ there
 
-        mine : Mine (marked d k c) q.name
-        mine leaders numbers r named = mine_there c there (sym parts.0 ∙ leaders) (sym parts.1 ∙ numbers) r named
+            mine : Mine (marked d k c) q.name
+            mine leaders numbers r named = mine_there c there (sym parts.0 ∙ leaders) (sym parts.1 ∙ numbers) r named
 
-      pub taken-follows : ProcessFollows s settled l n plan (mark_taken s leader number block d k p).process × Sends s settled l n plan p.name (mark_taken s leader number block d k p).sent
+      pub taken-follows : ProcessFollows s settled l n plan (mark_taken s leader number block d k p).process
+          × Sends s settled l n plan p.name (mark_taken s leader number block d k p).sent
       taken-follows =
           let all = found (copy_in q.as_row.copies leader number) refl in
           (all.0, subst (λ (x : ProcessId). Sends s settled l n plan x (copy_marked s d k (copy_in q.as_row.copies leader number) q).sent) name_q all.1)

@@ -1,5 +1,7 @@
 -- Every move keeps each session at one block and one stamp.
-use Rattle.std.proofs.Common.{◌≡◌, ◌≢◌, ℕ, suc, ◌<◌, ◌≤◌, ◌==◌, nat_lt, Bool, true, false, List, [], ◌∷◌, length, take, Option, Some, None, IfSome, ◌⊎◌, inl, inr, sym, ap, subst, ◌∙◌, refl, arith, if◌then◌else◌}
+use Rattle.std.proofs.Common.{◌≡◌, ◌≢◌, ℕ, suc, ◌<◌, ◌≤◌, ◌==◌, nat_lt, Bool, true, false, List, [], ◌∷◌, length, take}
+use Rattle.std.proofs.Common.{Option, Some, None, IfSome, ◌⊎◌, inl, inr, sym, ap, subst, ◌∙◌, refl, arith}
+use Rattle.std.proofs.Common.{if◌then◌else◌}
 use Rattle.std.specs.Prelude.{Contains}
 use Rattle.std.specs.List.{range_with_len}
 use Rattle.std.proofs.lemmas.Bool.{cases_eq, eq-eqb, ne_eqb}
@@ -58,36 +60,43 @@ module _ (s : Dimensions) where
 
   -- one process made a step
   module _ (l n : ℕ) (plan : Plan) where
-    acted-follows : (u w : State) (p : ProcessId) (step : ProcessStep) → IsProcess s p → u.dead p ≡ false → Members s w → Acted s u w p step → SessionFollows s (settling w.settled u) l n plan
-        → ProcessFollows s w.settled l n plan step.process → Sends s w.settled l n plan p step.sent → LostFollows l n plan step.process → SessionFollows s w l n plan
-    acted-follows u w p step pin lives after acts is here sends lost_here = record { within = is.within; links = links; processes = processes; lost = lost } where
-      links : (x q : ProcessId) → IsProcess s x → IsProcess s q → x ≢ q → w.dead q ≡ false → Each (Follows s w.settled l n plan x q) (w.link x q)
-      links x q xin qin apart living = by (same-cases x p) where
-        lived : u.dead q ≡ false
-        lived = sym (acts.dead q qin) ∙ living
+    acted-follows : (u w : State) (p : ProcessId) (step : ProcessStep) → IsProcess s p → u.dead p ≡ false → Members s w
+        → Acted s u w p step → SessionFollows s (settling w.settled u) l n plan
+        → ProcessFollows s w.settled l n plan step.process → Sends s w.settled l n plan p step.sent
+        → LostFollows l n plan step.process → SessionFollows s w l n plan
+    acted-follows u w p step pin lives after acts is here sends lost_here =
+        record { within = is.within; links = links; processes = processes; lost = lost } where
+          links : (x q : ProcessId) → IsProcess s x → IsProcess s q → x ≢ q → w.dead q ≡ false → Each (Follows s w.settled l n plan x q) (w.link x q)
+          links x q xin qin apart living = by (same-cases x p) where
+            lived : u.dead q ≡ false
+            lived = sym (acts.dead q qin) ∙ living
 
-        by : (x ≡ p) ⊎ (x ≢ p) → Each (Follows s w.settled l n plan x q) (w.link x q)
-        by (inr other) = subst (Each (Follows s w.settled l n plan x q)) (sym (acts.links x q xin qin other)) (is.links x q xin qin apart lived)
-        by (inl same) =
-            let other : q ≢ p = λ (here : q ≡ p). apart (same ∙ sym here) in
-            subst (λ (y : ProcessId). Each (Follows s w.settled l n plan y q) (w.link y q)) (sym same)
-            (subst (Each (Follows s w.settled l n plan p q)) (sym (acts.sends q qin (unknown s u w p step pin lives after acts q qin other lived)))
-            (each-append (Follows s w.settled l n plan p q) (u.link p q) (sent_to q step.sent) (is.links p q pin qin (λ here. other (sym here)) lived) (each-sent_to (λ to m. Follows s w.settled l n plan p to m) q step.sent sends)))
+            by : (x ≡ p) ⊎ (x ≢ p) → Each (Follows s w.settled l n plan x q) (w.link x q)
+            by (inr other) = subst (Each (Follows s w.settled l n plan x q)) (sym (acts.links x q xin qin other)) (is.links x q xin qin apart lived)
+            by (inl same) =
+                let other : q ≢ p = λ (here : q ≡ p). apart (same ∙ sym here) in
+                subst (λ (y : ProcessId). Each (Follows s w.settled l n plan y q) (w.link y q)) (sym same)
+                (subst (Each (Follows s w.settled l n plan p q)) (sym (acts.sends q qin (unknown s u w p step pin lives after acts q qin other lived)))
+                (each-append (Follows s w.settled l n plan p q) (u.link p q) (sent_to q step.sent)
+                (is.links p q pin qin (λ here. other (sym here)) lived)
+                (each-sent_to (λ to m. Follows s w.settled l n plan p to m) q step.sent sends)))
 
-      processes : (q : ProcessId) → IsProcess s q → w.dead q ≡ false → ProcessFollows s w.settled l n plan (w.process q)
-      processes q qin living = by (same-cases q p) where
-        by : (q ≡ p) ⊎ (q ≢ p) → ProcessFollows s w.settled l n plan (w.process q)
-        by (inl same) = subst (λ (y : ProcessId). ProcessFollows s w.settled l n plan (w.process y)) (sym same) (subst (ProcessFollows s w.settled l n plan) (sym acts.process) here)
-        by (inr other) = subst (ProcessFollows s w.settled l n plan) (sym (acts.others q qin other)) (is.processes q qin (sym (acts.dead q qin) ∙ living))
+          processes : (q : ProcessId) → IsProcess s q → w.dead q ≡ false → ProcessFollows s w.settled l n plan (w.process q)
+          processes q qin living = by (same-cases q p) where
+            by : (q ≡ p) ⊎ (q ≢ p) → ProcessFollows s w.settled l n plan (w.process q)
+            by (inl same) = subst (λ (y : ProcessId). ProcessFollows s w.settled l n plan (w.process y)) (sym same)
+                (subst (ProcessFollows s w.settled l n plan) (sym acts.process) here)
+            by (inr other) = subst (ProcessFollows s w.settled l n plan) (sym (acts.others q qin other)) (is.processes q qin (sym (acts.dead q qin) ∙ living))
 
-      lost : (q : ProcessId) → IsProcess s q → w.dead q ≡ false → LostFollows l n plan (w.process q)
-      lost q qin living = by (same-cases q p) where
-        by : (q ≡ p) ⊎ (q ≢ p) → LostFollows l n plan (w.process q)
-        by (inl same) = subst (λ (y : ProcessId). LostFollows l n plan (w.process y)) (sym same) (subst (LostFollows l n plan) (sym acts.process) lost_here)
-        by (inr other) = subst (LostFollows l n plan) (sym (acts.others q qin other)) (is.lost q qin (sym (acts.dead q qin) ∙ living))
+          lost : (q : ProcessId) → IsProcess s q → w.dead q ≡ false → LostFollows l n plan (w.process q)
+          lost q qin living = by (same-cases q p) where
+            by : (q ≡ p) ⊎ (q ≢ p) → LostFollows l n plan (w.process q)
+            by (inl same) = subst (λ (y : ProcessId). LostFollows l n plan (w.process y)) (sym same) (subst (LostFollows l n plan) (sym acts.process) lost_here)
+            by (inr other) = subst (LostFollows l n plan) (sym (acts.others q qin other)) (is.lost q qin (sym (acts.dead q qin) ∙ living))
 
     -- a message is taken out of its link
-    popped-follows : (v u : State) (x p : ProcessId) (m : Message) (settled : ℕ → List Update) → IsProcess s x → IsProcess s p → x ≢ p → v.dead p ≡ false → Popped s v u x p m
+    popped-follows : (v u : State) (x p : ProcessId) (m : Message) (settled : ℕ → List Update) → IsProcess s x
+        → IsProcess s p → x ≢ p → v.dead p ≡ false → Popped s v u x p m
         → SessionFollows s (settling settled v) l n plan → SessionFollows s (settling settled u) l n plan
     popped-follows v u x p m settled xin pin apart lives pops is = record {
       within = is.within;
@@ -104,11 +113,13 @@ module _ (s : Dimensions) where
         cases (inr other) _ = subst (Each (Follows s settled l n plan y q)) (sym (pops.links y q yin qin (inl other))) old
         cases (inl same) (inr other) = subst (Each (Follows s settled l n plan y q)) (sym (pops.links y q yin qin (inr other))) old
         cases (inl same) (inl here) =
-            subst (λ (z : ProcessId). Each (Follows s settled l n plan z q) (u.link z q)) (sym same) (subst (λ (z : ProcessId). Each (Follows s settled l n plan x z) (u.link x z)) (sym here)
+            subst (λ (z : ProcessId). Each (Follows s settled l n plan z q) (u.link z q)) (sym same)
+            (subst (λ (z : ProcessId). Each (Follows s settled l n plan x z) (u.link x z)) (sym here)
             ((subst (Each (Follows s settled l n plan x p)) pops.first (is.links x p xin pin apart lives)).1))
 
   -- what may stand in a link still may once a message is taken out
-  popped-may : (v u : State) (x p : ProcessId) (m : Message) → IsProcess s x → IsProcess s p → x ≢ p → v.dead p ≡ false → Popped s v u x p m → Members s v → LinksMay s v u
+  popped-may : (v u : State) (x p : ProcessId) (m : Message) → IsProcess s x → IsProcess s p → x ≢ p → v.dead p ≡ false
+      → Popped s v u x p m → Members s v → LinksMay s v u
   popped-may v u x p m xin pin apart lives pops members y q yin qin between living = cases (same-cases y x) (same-cases q p) where
     old : Each (MayStand s v y q) (v.link y q)
     old = members.may y q yin qin between (sym (pops.dead q qin) ∙ living)
@@ -121,8 +132,10 @@ module _ (s : Dimensions) where
         ((subst (Each (MayStand s v x p)) pops.first (members.may x p xin pin apart lives)).1))
 
   -- a call
-  module _ (shaped : IsShape s) (v w : State) (p : ProcessId) (step : ProcessStep) (pin : IsProcess s p) (lives : v.dead p ≡ false) (treats : Treats s (v.process p) step) (backed : Backed s v) (after : Members s w)
-      (next : NextIsNew s (v.process p)) (needs : NeedsInside s (v.process p)) (right : StepSettles s w.settled (v.process p) step) (acts : Acted s v w p step) where
+  module _ (shaped : IsShape s) (v w : State) (p : ProcessId) (step : ProcessStep) (pin : IsProcess s p)
+      (lives : v.dead p ≡ false) (treats : Treats s (v.process p) step) (backed : Backed s v) (after : Members s w)
+      (next : NextIsNew s (v.process p)) (needs : NeedsInside s (v.process p))
+      (right : StepSettles s w.settled (v.process p) step) (acts : Acted s v w p step) where
     some : 0 < s.k
     some = let first = shaped.k in omega (arith, first)
 
@@ -160,7 +173,9 @@ module _ (s : Dimensions) where
       module _ (never : (v.process p).name ≡ ParityNode l → suc (v.process p).as_leader.last_session ≡ n → ⊥) where
         lost-stays : step.process.name ≡ (v.process p).name → LostFollows l n plan step.process
         lost-stays same leads = turn (bears-treats s n (v.process p) (unopened-here (sym same ∙ leads)) step treats) leads where
-          turn : Bears s n (v.process p) step.process ⊎ ((suc (v.process p).as_leader.last_session ≡ n) × BearsNew s n (v.process p) step.process) → LostFollows l n plan step.process
+          turn : Bears s n (v.process p) step.process
+              ⊎ ((suc (v.process p).as_leader.last_session ≡ n) × BearsNew s n (v.process p) step.process)
+              → LostFollows l n plan step.process
           turn (inl bears) = lost-borne s l n plan (v.process p) step.process same bears (now.lost p pin lives)
           turn (inr new) = absurd (never (sym same ∙ leads) new.0)
 
@@ -198,9 +213,14 @@ module _ (s : Dimensions) where
           turn (inl bears) = lost-borne s l n (opening_plan s block (v.process p)) (v.process p) step.process same bears ((fresh block).lost p pin lives)
           turn (inr new) = lost-new s l n (opening_plan s block (v.process p)) (v.process p) step.process (λ e. refl) new.1
 
-        begins : Claims s w.settled l n right.write (rebuilt_at (v.process p)) (opening_plan s 0 (v.process p)) (v.process p) step → (plan : Plan) × SessionFollows s w l n plan
+        begins : Claims s w.settled l n right.write (rebuilt_at (v.process p)) (opening_plan s 0 (v.process p))
+            (v.process p) step → (plan : Plan) × SessionFollows s w l n plan
         begins (inl passes) = (opening_plan s 0 (v.process p), passed l n (opening_plan s 0 (v.process p)) (fresh 0) passes (lost-begins 0 passes.name))
-        begins (inr opens) = (opening_plan s opens.block (v.process p), passed l n (opening_plan s opens.block (v.process p)) (fresh opens.block) opens.passes (lost-begins opens.block opens.passes.name))
+        begins (inr opens) = (
+          opening_plan s opens.block (v.process p),
+          passed l n (opening_plan s opens.block (v.process p))
+              (fresh opens.block) opens.passes (lost-begins opens.block opens.passes.name),
+        )
 
       treated : (plan : Plan) × SessionFollows s w l n plan
       treated = by (same-cases (v.process p).name (ParityNode l)) (cases_eq (suc (v.process p).as_leader.last_session) n) where
@@ -211,8 +231,10 @@ module _ (s : Dimensions) where
         by (inr other) _ = goes-on (λ leads number. other leads) (claims plan)
 
   -- a message
-  module _ (v u w : State) (x p : ProcessId) (m : Message) (xin : IsProcess s x) (pin : IsProcess s p) (apart : x ≢ p) (lives : v.dead p ≡ false) (backed : Backed s v) (after : Members s w) (new : MarksNew m (v.process p))
-      (right : StepSettles s w.settled (v.process p) (receive s x m (v.process p))) (pops : Popped s v u x p m) (acts : Acted s u w p (receive s x m (v.process p))) where
+  module _ (v u w : State) (x p : ProcessId) (m : Message) (xin : IsProcess s x) (pin : IsProcess s p) (apart : x ≢ p)
+      (lives : v.dead p ≡ false) (backed : Backed s v) (after : Members s w) (new : MarksNew m (v.process p))
+      (right : StepSettles s w.settled (v.process p) (receive s x m (v.process p))) (pops : Popped s v u x p m)
+      (acts : Acted s u w p (receive s x m (v.process p))) where
     grows-coming : Prolongs s v.settled w.settled
     grows-coming = prolongs s v u w p (receive s x m (v.process p)) pin backed.members pops.processes pops.dead pops.settled acts
 
@@ -237,7 +259,9 @@ module _ (s : Dimensions) where
         let all = passes.follows (subst (ProcessFollows s w.settled l n plan) (pops.processes p pin) (is.processes p pin (pops.dead p pin ∙ lives))) in
         acted-follows l n plan u w p (receive s x m (v.process p)) pin (pops.dead p pin ∙ lives) after acts is all.0
         (subst (λ (y : ProcessId). Sends s w.settled l n plan y (receive s x m (v.process p)).sent) name-coming all.1)
-        (lost-borne s l n plan (v.process p) (receive s x m (v.process p)).process passes.name (bears-receive s n x m (v.process p)) (subst (LostFollows l n plan) (pops.processes p pin) (is.lost p pin (pops.dead p pin ∙ lives))))
+        (lost-borne s l n plan (v.process p) (receive s x m (v.process p)).process passes.name
+        (bears-receive s n x m (v.process p))
+        (subst (LostFollows l n plan) (pops.processes p pin) (is.lost p pin (pops.dead p pin ∙ lives))))
 
     module _ (l n : ℕ) (lin : l < s.m) (plan : Plan) (is : SessionFollows s v l n plan) where
       coming : SessionFollows s (settling w.settled v) l n plan
@@ -258,10 +282,16 @@ module _ (s : Dimensions) where
       known-living q qin lived knows = by (same-cases q p) where
         by : (q ≡ p) ⊎ (q ≢ p) → ⊥
         by (inl same) = cc (sym knows ∙ ap (knows_dead (v.process q).known) (sym same) ∙ backed.members.not_self q qin lived)
-        by (inr other) = cc (lives, known-is-dead p (v.dead p) (knows_dead (v.process q).known p) (v.link p q) (backed.members.stands p q pin qin (λ same. other (sym same)) lived) knows)
+        by (inr other) =
+            cc (
+              lives,
+              known-is-dead p (v.dead p) (knows_dead (v.process q).known p) (v.link p q)
+                  (backed.members.stands p q pin qin (λ same. other (sym same)) lived) knows,
+            )
 
       -- where one is, the partition takes the number at which it is
-      module _ (session : Session) (block : ℕ) (rows : List ℕ) (asks : m ≡ tells.ReadBlock session block rows) (of_it : OfSession l n session) (d : ℕ) (data_here : p ≡ DataNode d) where
+      module _ (session : Session) (block : ℕ) (rows : List ℕ) (asks : m ≡ tells.ReadBlock session block rows)
+          (of_it : OfSession l n session) (d : ℕ) (data_here : p ≡ DataNode d) where
         turned : Bool → ℕ → ℕ
         turned b e = if b then (replica_of (v.process p) e).applied else plan.numbers e
 
@@ -300,7 +330,8 @@ module _ (s : Dimensions) where
         not-lost q qin living = subst (λ (y : Process). Each (λ g. ¬ (Contains g.lost d)) y.as_leader.sessions) (sym (pops.processes q qin))
             (each-weaker (IsFor s (v.process q).known) (λ g. ¬ (Contains g.lost d)) (λ g for_it lost.
             let among : Among d (lost_by s (v.process q).known) = subst (Among d) for_it.lost (contains-among g.lost d lost) in
-            known-living q qin lived (subst (λ (y : ProcessId). knows_dead (v.process q).known y ≡ true) (sym data_here) (among-filter (λ e. knows_dead (v.process q).known (DataNode e)) d (range_with_len 0 s.k) among).1))
+            known-living q qin lived (subst (λ (y : ProcessId). knows_dead (v.process q).known y ≡ true) (sym data_here)
+            (among-filter (λ e. knows_dead (v.process q).known (DataNode e)) d (range_with_len 0 s.k) among).1))
             (v.process q).as_leader.sessions (backed.fits q qin lived))
           where
             lived : v.dead q ≡ false
@@ -308,7 +339,8 @@ module _ (s : Dimensions) where
 
         moved : SessionFollows s (settling w.settled u) l n other
         unfolding other
-        moved = renumbered s v (settling w.settled u) l n d plan other refl refl off within (popped-may v u x p m xin pin apart lives pops backed.members) nothing-more not-lost popped
+        moved = renumbered s v (settling w.settled u) l n d plan other refl refl off within
+            (popped-may v u x p m xin pin apart lives pops backed.members) nothing-more not-lost popped
 
         follows_other : Follows s w.settled l n other x p m
         unfolding other
@@ -335,7 +367,8 @@ module _ (s : Dimensions) where
         none : (OfSession l n session → ⊥) → (plan : Plan) × SessionFollows s w l n plan
         none never = stays (subst (λ (z : Message). ReadsAt s w.settled l n plan z (v.process p)) (sym asks) (λ of_it. absurd (never of_it)))
 
-        by : (session.leader ≡ ParityNode l) ⊎ (session.leader ≢ ParityNode l) → (session.number ≡ n) ⊎ (session.number ≢ n) → (plan : Plan) × SessionFollows s w l n plan
+        by : (session.leader ≡ ParityNode l) ⊎ (session.leader ≢ ParityNode l) → (session.number ≡ n)
+            ⊎ (session.number ≢ n) → (plan : Plan) × SessionFollows s w l n plan
         by (inl leads) (inl number) = answers session block rows asks (leads, number) data_p.0 data_p.1
         by (inl leads) (inr away) = none (λ of_it. away of_it.1)
         by (inr away) _ = none (λ of_it. away of_it.0)
@@ -358,7 +391,8 @@ module _ (s : Dimensions) where
         by (tells.Notice dead) is_it = quiet (tells.Notice dead) is_it tt
 
   -- a death
-  died : (v w : State) (p : ProcessId) (keep l n : ℕ) (plan : Plan) → IsProcess s p → Died s v w p keep → SessionFollows s v l n plan → SessionFollows s w l n plan
+  died : (v w : State) (p : ProcessId) (keep l n : ℕ) (plan : Plan) → IsProcess s p → Died s v w p keep
+      → SessionFollows s v l n plan → SessionFollows s w l n plan
   died v w p keep l n plan pin dies is = record {
     within = λ d below. subst (λ (us : List Update). plan.numbers d ≤ length us) (sym (dies.settled d)) (is.within d below);
     links = links;
@@ -377,12 +411,16 @@ module _ (s : Dimensions) where
     lived q qin living = sym (dies.others q qin (other q living)) ∙ living
 
     links : (x q : ProcessId) → IsProcess s x → IsProcess s q → x ≢ q → w.dead q ≡ false → Each (Follows s w.settled l n plan x q) (w.link x q)
-    links x q xin qin apart living = subst (λ (settled : ℕ → List Update). Each (Follows s settled l n plan x q) (w.link x q)) (sym same) (by (same-cases x p)) where
-      by : (x ≡ p) ⊎ (x ≢ p) → Each (Follows s v.settled l n plan x q) (w.link x q)
-      by (inr from) = subst (Each (Follows s v.settled l n plan x q)) (sym (dies.links x q xin qin from)) (is.links x q xin qin apart (lived q qin living))
-      by (inl same_one) = subst (λ (y : ProcessId). Each (Follows s v.settled l n plan y q) (w.link y q)) (sym same_one) (subst (Each (Follows s v.settled l n plan p q)) (sym (dies.cut q qin))
-          (each-append (Follows s v.settled l n plan p q) (take keep (v.link p q)) (tells.Notice p ∷ [])
-          (each-take (Follows s v.settled l n plan p q) keep (v.link p q) (is.links p q pin qin (λ same_one. other q living (sym same_one)) (lived q qin living))) (tt, tt)))
+    links x q xin qin apart living =
+        subst (λ (settled : ℕ → List Update). Each (Follows s settled l n plan x q) (w.link x q)) (sym same)
+        (by (same-cases x p)) where
+          by : (x ≡ p) ⊎ (x ≢ p) → Each (Follows s v.settled l n plan x q) (w.link x q)
+          by (inr from) = subst (Each (Follows s v.settled l n plan x q)) (sym (dies.links x q xin qin from)) (is.links x q xin qin apart (lived q qin living))
+          by (inl same_one) = subst (λ (y : ProcessId). Each (Follows s v.settled l n plan y q) (w.link y q)) (sym same_one)
+              (subst (Each (Follows s v.settled l n plan p q)) (sym (dies.cut q qin))
+              (each-append (Follows s v.settled l n plan p q) (take keep (v.link p q)) (tells.Notice p ∷ [])
+              (each-take (Follows s v.settled l n plan p q) keep (v.link p q)
+              (is.links p q pin qin (λ same_one. other q living (sym same_one)) (lived q qin living))) (tt, tt)))
 
   -- the start
   empty_plan : Plan
@@ -393,14 +431,17 @@ module _ (s : Dimensions) where
   opens v l n starts = record {
     within = λ d below. omega arith;
     links = λ x q xin qin apart living. subst (Each (Follows s v.settled l n empty_plan x q)) (sym (starts.links x q xin qin)) tt;
-    processes = λ p pin living. subst (ProcessFollows s v.settled l n empty_plan) (sym (starts.process p pin)) (record { copy = λ r named. tt; session = λ named. tt });
+    processes = λ p pin living. subst (ProcessFollows s v.settled l n empty_plan) (sym (starts.process p pin))
+        (record { copy = λ r named. tt; session = λ named. tt });
     lost = λ p pin living. subst (LostFollows l n empty_plan) (sym (starts.process p pin)) (λ named. tt);
   }
 
 pub stamps_kept : StampsAlwaysKept
 stamps_kept s shaped = record {
   opens = λ v starts l n lin. (empty_plan s, opens s v l n starts);
-  treats = λ v w p t pin lives treats backed after next needs right acts stands l n lin. let one = stands l n lin in treated s shaped v w p t pin lives treats backed after next needs right acts l n lin one.0 one.1;
-  receives = λ v u w x p m xin pin apart lives backed after new right pops acts stands l n lin. let one = stands l n lin in received s v u w x p m xin pin apart lives backed after new right pops acts l n lin one.0 one.1;
+  treats = λ v w p t pin lives treats backed after next needs right acts stands l n lin. let one = stands l n lin in
+      treated s shaped v w p t pin lives treats backed after next needs right acts l n lin one.0 one.1;
+  receives = λ v u w x p m xin pin apart lives backed after new right pops acts stands l n lin. let one = stands l n lin
+      in received s v u w x p m xin pin apart lives backed after new right pops acts l n lin one.0 one.1;
   dies = λ v w p keep pin dies stands l n lin. let one = stands l n lin in (one.0, died s v w p keep l n one.0 pin dies one.1);
 }

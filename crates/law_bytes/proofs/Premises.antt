@@ -46,7 +46,8 @@ MarksNew _ p = Unit {0}
 
 -- a parity process has nothing marked for the session that it opens next
 abbrev pub NextIsNew : Dimensions → Process → Type 0
-NextIsNew s p = (l : ℕ) → p.name ≡ ParityNode l → IfSome (copy_in p.as_row.copies l (suc p.as_leader.last_session)) (λ c. (d : ℕ) → d < s.k → at None c.marks d ≡ None)
+NextIsNew s p = (l : ℕ) → p.name ≡ ParityNode l → IfSome (copy_in p.as_row.copies l (suc p.as_leader.last_session))
+    (λ c. (d : ℕ) → d < s.k → at None c.marks d ≡ None)
 
 -- a block that wasn't rebuilt before a step, and is after it, has the settled values
 abbrev pub RebuildsRight : Dimensions → (ℕ → List Update) → Process → Process → Type 0

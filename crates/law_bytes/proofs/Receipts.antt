@@ -1,5 +1,6 @@
 -- Messages that a process receives leave its bytes right.
-use Rattle.std.proofs.Common.{◌≡◌, ◌≢◌, ℕ, ◌+◌, ◌<◌, ◌≤◌, ◌==◌, ◌&&◌, nat_le, Bool, true, false, not, List, length, Option, Some, None, ◌⊎◌, inl, inr, sym, ap, subst, ◌∙◌, refl}
+use Rattle.std.proofs.Common.{◌≡◌, ◌≢◌, ℕ, ◌+◌, ◌<◌, ◌≤◌, ◌==◌, ◌&&◌, nat_le, Bool, true, false, not, List, length}
+use Rattle.std.proofs.Common.{Option, Some, None, ◌⊎◌, inl, inr, sym, ap, subst, ◌∙◌, refl}
 use Rattle.std.proofs.lemmas.Bool.{cases_eq}
 use Rattle.group_types.specs.Dimensions.{Dimensions}
 use Rattle.group_types.specs.Lists.{at, put}
@@ -52,11 +53,14 @@ module _ (s : Dimensions) (settled : ℕ → List Update) (write : SettledWrite 
   log-applied d r p = ap (λ (x : Replica). x.applied) (at-put empty_replica empty_replica p.replicas d r)
 
   -- a partition is applied up to a number, and then its log is another
-  applied-holds : (d n : ℕ) (p : Process) (r : Replica) → Concerns s p.name d → d < s.k → GoesOn (settled d) (replica_of p d) → r.applied ≡ (replica_of (apply_to s d n p) d).applied
-      → (replica_of (with_replica d r (apply_to s d n p)) d).applied ≤ length (settled d) → Holding s settled old p → Holding s settled old (with_replica d r (apply_to s d n p))
+  applied-holds : (d n : ℕ) (p : Process) (r : Replica) → Concerns s p.name d → d < s.k
+      → GoesOn (settled d) (replica_of p d) → r.applied ≡ (replica_of (apply_to s d n p) d).applied
+      → (replica_of (with_replica d r (apply_to s d n p)) d).applied ≤ length (settled d) → Holding s settled old p
+      → Holding s settled old (with_replica d r (apply_to s d n p))
   applied-holds d n p r concerns below goes same within holding =
       log-holds d r (apply_to s d n p) same
-      (apply-keeps s settled write old p d n concerns below (subst (λ (k : ℕ). k ≤ length (settled d)) (log-applied d r (apply_to s d n p) ∙ same) within) goes holding)
+      (apply-keeps s settled write old p d n concerns below
+      (subst (λ (k : ℕ). k ≤ length (settled d)) (log-applied d r (apply_to s d n p) ∙ same) within) goes holding)
 
   -- an acknowledgement is put, and judged
   acknowledged-holds : (p : Process) (i r d n : ℕ) (o : Option Head) → head_at p d ≡ o → d < s.k → Ready s settled p
@@ -74,9 +78,12 @@ module _ (s : Dimensions) (settled : ℕ → List Update) (write : SettledWrite 
       own e g low is (inr other) = ready.own e g low (sym (at-put-other None p.heads d e (Some (acknowledged i n h)) other) ∙ is)
 
     q_holds : Holding s settled old q
-    q_holds = holding-same s settled old p q (record { stand = record { name = refl; applied = λ e. refl }; space = refl; rebuilt = λ e b. refl }) holding.copies holding
+    q_holds = holding-same s settled old p q
+        (record { stand = record { name = refl; applied = λ e. refl }; space = refl; rebuilt = λ e b. refl })
+        holding.copies holding
 
-    by : (b : Bool) → ((e : ℕ) → e < s.k → (replica_of (when b p (judge s d q)).process e).applied ≤ length (settled e)) → Holding s settled old (when b p (judge s d q)).process
+    by : (b : Bool) → ((e : ℕ) → e < s.k → (replica_of (when b p (judge s d q)).process e).applied ≤ length (settled e))
+        → Holding s settled old (when b p (judge s d q)).process
     by true last = (good-judge s settled write old d below q).holds last q_ready q_holds
     by false last = holding
 
@@ -84,7 +91,8 @@ module _ (s : Dimensions) (settled : ℕ → List Update) (write : SettledWrite 
   read-same session block rows p (DataNode d) = refl
   read-same session block rows p (ParityNode i) = refl
 
-  pub received-holds : (x : ProcessId) (m : Message) (p : Process) → Addresses s m p.name → Ready s settled p → MarksNew m p → AppliesSettled s settled p (receive s x m p)
+  pub received-holds : (x : ProcessId) (m : Message) (p : Process) → Addresses s m p.name → Ready s settled p
+      → MarksNew m p → AppliesSettled s settled p (receive s x m p)
       → Holding s settled old p → Holding s settled old (receive s x m p).process
   received-holds x (tells.Update r d u stable) p to ready marks applies holding = by (nat_le (at 0 p.ranks d.0) r.0) (applies.within d.0 to.1) where
     q : Process
@@ -95,7 +103,8 @@ module _ (s : Dimensions) (settled : ℕ → List Update) (write : SettledWrite 
     by false last = holding
     by true last = applied-holds d.0 stable p (with_update u (replica_of q d.0)) to.0 to.1 (ready.goes d.0 to.1) refl last holding
   received-holds x (tells.Stable r d n) p to ready marks applies holding = by (nat_le (at 0 p.ranks d.0) r.0) (applies.within d.0 to.1) where
-    by : (b : Bool) → (replica_of (when b p (quiet (apply_to s d.0 n p))).process d.0).applied ≤ length (settled d.0) → Holding s settled old (when b p (quiet (apply_to s d.0 n p))).process
+    by : (b : Bool) → (replica_of (when b p (quiet (apply_to s d.0 n p))).process d.0).applied ≤ length (settled d.0)
+        → Holding s settled old (when b p (quiet (apply_to s d.0 n p))).process
     by false last = holding
     by true last = apply-keeps s settled write old p d.0 n to.0 to.1 last (ready.goes d.0 to.1) holding
   received-holds x (tells.Adopt r d base list) p to ready marks applies holding = by (nat_le (at 0 p.ranks d.0) r.0) (applies.within d.0 to.1) where
@@ -106,25 +115,34 @@ module _ (s : Dimensions) (settled : ℕ → List Update) (write : SettledWrite 
     q = apply_to s d.0 base ranked
 
     ranked_holds : Holding s settled old ranked
-    ranked_holds = holding-same s settled old p ranked (record { stand = record { name = refl; applied = λ e. refl }; space = refl; rebuilt = λ e b. refl }) holding.copies holding
+    ranked_holds =
+        holding-same s settled old p ranked
+        (record { stand = record { name = refl; applied = λ e. refl }; space = refl; rebuilt = λ e b. refl })
+        holding.copies holding
 
-    by : (b : Bool) → (replica_of (when b p (ack_to x r.0 d.0 (base + length list) (log_adopted s r.0 d.0 base list p))).process d.0).applied ≤ length (settled d.0)
+    by : (b : Bool)
+        → (replica_of (when b p (ack_to x r.0 d.0 (base + length list) (log_adopted s r.0 d.0 base list p))).process
+        d.0).applied ≤ length (settled d.0)
         → Holding s settled old (when b p (ack_to x r.0 d.0 (base + length list) (log_adopted s r.0 d.0 base list p))).process
     by false last = holding
     by true last = applied-holds d.0 base ranked (adopting base list (replica_of q d.0)) to.0 to.1 (ready.goes d.0 to.1) refl last ranked_holds
   received-holds (DataNode e) (tells.Ack r d n) p to ready marks applies holding = holding
-  received-holds (ParityNode i) (tells.Ack r d n) p to ready marks applies holding = acknowledged-holds p i r.0 d.0 n (head_at p d.0) refl to ready applies.within holding
-  received-holds x (tells.ReadBlock session block rows) p to ready marks applies holding = subst (Holding s settled old) (sym (read-same session block rows p p.name)) holding
+  received-holds (ParityNode i) (tells.Ack r d n) p to ready marks applies holding =
+      acknowledged-holds p i r.0 d.0 n (head_at p d.0) refl to ready applies.within holding
+  received-holds x (tells.ReadBlock session block rows) p to ready marks applies holding =
+      subst (Holding s settled old) (sym (read-same session block rows p p.name)) holding
   received-holds (DataNode e) (tells.Block session bytes n) p to ready marks applies holding =
       holding-leader s settled old p _ (stays-block s e bytes (open_session p.as_leader session.number) p.as_leader) holding
   received-holds (ParityNode i) (tells.Block session bytes n) p to ready marks applies holding = holding
   received-holds x (tells.Mark session r block d n) p to ready marks applies holding =
-      mark-received s settled old write p (parity_number session.leader) session.number r.0 block d.0 n to.0 to.1 (ready.goes d.0 to.1) marks (applies.within d.0 to.1) holding
+      mark-received s settled old write p (parity_number session.leader) session.number r.0 block d.0 n to.0 to.1
+      (ready.goes d.0 to.1) marks (applies.within d.0 to.1) holding
   received-holds (DataNode e) (tells.Row session bytes stamp) p to ready marks applies holding = holding
   received-holds (ParityNode i) (tells.Row session bytes stamp) p to ready marks applies holding =
       holding-leader s settled old p _ (stays-row s i bytes (open_session p.as_leader session.number) p.as_leader) holding
   received-holds (DataNode e) (tells.Cease upto) p to ready marks applies holding = holding
   received-holds (ParityNode i) (tells.Cease upto) p to ready marks applies holding =
-      holding-same s settled old p (copies_ceased i upto p) (record { stand = record { name = refl; applied = λ e. refl }; space = refl; rebuilt = λ e b. refl })
+      holding-same s settled old p (copies_ceased i upto p)
+      (record { stand = record { name = refl; applied = λ e. refl }; space = refl; rebuilt = λ e b. refl })
       (each-filter (CopyHolds s settled p) (λ c. not (c.leader == i && nat_le c.number upto)) p.as_row.copies holding.copies) holding
   received-holds x (tells.Notice dead) p to ready marks applies holding = (good-notice s settled write old dead p).holds applies.within ready holding

@@ -1,5 +1,7 @@
 -- Lists of numbers: who is in them, and those in which each number is above those before it.
-use Rattle.std.proofs.Common.{◌≡◌, ◌≢◌, ℕ, zero, suc, ◌+◌, ◌<◌, ◌≤◌, ◌==◌, ◌&&◌, Bool, true, false, List, [], ◌∷◌, ◌++◌, length, filter, get_or, All, AllPairs, Contains, ◌⊎◌, inl, inr, sym, ap, ap₂, subst, ◌∙◌, refl, arith, cond}
+use Rattle.std.proofs.Common.{◌≡◌, ◌≢◌, ℕ, zero, suc, ◌+◌, ◌<◌, ◌≤◌, ◌==◌, ◌&&◌, Bool, true, false, List, [], ◌∷◌, ◌++◌}
+use Rattle.std.proofs.Common.{length, filter, get_or, All, AllPairs, Contains, ◌⊎◌, inl, inr, sym, ap, ap₂, subst, ◌∙◌}
+use Rattle.std.proofs.Common.{refl, arith, cond}
 use Rattle.std.proofs.lemmas.Bool.{cases_eq, ne_eqb}
 use Rattle.std.specs.List.{list_all, list_any, range_with_len}
 use Rattle.erasure_code.proofs.Nodes.{Among}
@@ -56,7 +58,10 @@ differ-pairs (x ∷ xs) differ (suc i) zero d before below = absurd (omega (arit
 
 pub differ-rising : (xs : List ℕ) → Rising xs → Differ xs
 differ-rising [] rises = tt
-differ-rising (x ∷ xs) rises = (each-weaker (λ y. x < y) (λ y. y ≢ x) (λ y above same. absurd (omega (arith, above, same))) xs rises.0, differ-rising xs rises.1)
+differ-rising (x ∷ xs) rises = (
+  each-weaker (λ y. x < y) (λ y. y ≢ x) (λ y above same. absurd (omega (arith, above, same))) xs rises.0,
+  differ-rising xs rises.1,
+)
 
 pub differ-append : (xs ys : List ℕ) → Differ xs → Differ ys → ((x : ℕ) → Among x xs → ¬ (Among x ys)) → Differ (xs ++ ys)
 differ-append [] ys front back apart = back
@@ -93,7 +98,11 @@ rising-same (x ∷ xs) (y ∷ ys) left right to from = ap₂ (λ (a : ℕ) (b : 
 -- ranges rise, and so does what is filtered from a rising list
 pub rising-range : (a n : ℕ) → Rising (range_with_len a n)
 rising-range a zero = tt
-rising-range a (suc n) = (each-weaker (λ x. a + 1 ≤ x) (λ x. a < x) (λ x above. omega (arith, above)) (range_with_len (a + 1) n) (from (a + 1) (a + 1) n (omega arith)), rising-range (a + 1) n) where
+rising-range a (suc n) = (
+  each-weaker (λ x. a + 1 ≤ x) (λ x. a < x) (λ x above. omega (arith, above)) (range_with_len (a + 1) n)
+      (from (a + 1) (a + 1) n (omega arith)),
+  rising-range (a + 1) n,
+) where
   from : (b c n : ℕ) → b ≤ c → Each (λ x. b ≤ x) (range_with_len c n)
   from b c zero low = tt
   from b c (suc n) low = (low, from b (c + 1) n (omega (arith, low)))
@@ -111,7 +120,8 @@ rising-filtered test n = rising-filter test (range_with_len 0 n) (rising-range 0
 pub among-filter : (test : ℕ → Bool) (x : ℕ) (xs : List ℕ) → Among x (filter test xs) → Among x xs × (test x ≡ true)
 among-filter test x [] there = absurd there
 among-filter test x (y ∷ ys) there = by (test y) refl there (λ deeper. among-filter test x ys deeper) where
-  by : (b : Bool) → test y ≡ b → Among x (cond b (y ∷ filter test ys) (filter test ys)) → (Among x (filter test ys) → Among x ys × (test x ≡ true)) → Among x (y ∷ ys) × (test x ≡ true)
+  by : (b : Bool) → test y ≡ b → Among x (cond b (y ∷ filter test ys) (filter test ys))
+      → (Among x (filter test ys) → Among x ys × (test x ≡ true)) → Among x (y ∷ ys) × (test x ≡ true)
   by true passes (inl same) later = (inl same, ap test same ∙ passes)
   by true passes (inr deeper) later = (inr (later deeper).0, (later deeper).1)
   by false fails deeper later = (inr (later deeper).0, (later deeper).1)
@@ -141,7 +151,8 @@ range-among x a (suc n) (inr there) = let deeper = range-among x (a + 1) n there
 pub all-among : (test : ℕ → Bool) (xs : List ℕ) (x : ℕ) → list_all test xs ≡ true → Among x xs → test x ≡ true
 all-among test [] x all there = absurd there
 all-among test (y ∷ ys) x all there = by (test y) (list_all test ys) refl refl all there (λ rest deeper. all-among test ys x rest deeper) where
-  by : (a b : Bool) → test y ≡ a → list_all test ys ≡ b → (a && b) ≡ true → Among x (y ∷ ys) → (list_all test ys ≡ true → Among x ys → test x ≡ true) → test x ≡ true
+  by : (a b : Bool) → test y ≡ a → list_all test ys ≡ b → (a && b) ≡ true → Among x (y ∷ ys)
+      → (list_all test ys ≡ true → Among x ys → test x ≡ true) → test x ≡ true
   by true true is rest both (inl same) later = ap test same ∙ is
   by true true is rest both (inr deeper) later = later rest deeper
   by true false is rest both there later = absurd (cc both)

@@ -1,5 +1,6 @@
 -- While at most m processes are dead, there are as many rows as partitions are lost.
-use Rattle.std.proofs.Common.{◌≡◌, ◌≢◌, ℕ, zero, suc, ◌+◌, ◌<◌, ◌≤◌, Bool, true, false, not, List, ◌∷◌, length, map, filter, cond, ◌⊎◌, inl, inr, sym, ap, subst, ◌∙◌, refl, arith, if◌then◌else◌}
+use Rattle.std.proofs.Common.{◌≡◌, ◌≢◌, ℕ, zero, suc, ◌+◌, ◌<◌, ◌≤◌, Bool, true, false, not, List, ◌∷◌, length, map}
+use Rattle.std.proofs.Common.{filter, cond, ◌⊎◌, inl, inr, sym, ap, subst, ◌∙◌, refl, arith, if◌then◌else◌}
 use Rattle.std.proofs.lemmas.List.{length-take-le}
 use Rattle.std.proofs.lemmas.List.FromFn.{length-range_with_len}
 use Rattle.std.specs.List.{range_with_len}
@@ -30,11 +31,13 @@ count-filter : (f : ℕ → Bool) (a n : ℕ) → count_dead (map f (range_with_
 count-filter f a zero = refl
 count-filter f a (suc n) = by (f a) (count-filter f (a + 1) n) where
   by : (b : Bool) → count_dead (map f (range_with_len (a + 1) n)) ≡ length (filter f (range_with_len (a + 1) n))
-      → (if b then 1 else 0) + count_dead (map f (range_with_len (a + 1) n)) ≡ length (cond b (a ∷ filter f (range_with_len (a + 1) n)) (filter f (range_with_len (a + 1) n)))
+      → (if b then 1 else 0) + count_dead (map f (range_with_len (a + 1) n))
+      ≡ length (cond b (a ∷ filter f (range_with_len (a + 1) n)) (filter f (range_with_len (a + 1) n)))
   by true rest = omega (arith, rest)
   by false rest = omega (arith, rest)
 
-filter-two : (f : ℕ → Bool) (a n m : ℕ) → length (filter f (range_with_len a (n + m))) ≡ length (filter f (range_with_len a n)) + length (filter f (range_with_len (a + n) m))
+filter-two : (f : ℕ → Bool) (a n m : ℕ) → length (filter f (range_with_len a (n + m)))
+    ≡ length (filter f (range_with_len a n)) + length (filter f (range_with_len (a + n) m))
 filter-two f a zero m =
     let start : zero + m ≡ m = omega arith in
     let place : a ≡ a + zero = omega arith in
@@ -48,14 +51,16 @@ filter-two f a (suc n) m = by (f a) (filter-two f (a + 1) n m) where
   place : range_with_len (a + 1 + n) m ≡ range_with_len (a + suc n) m
   place = let is : a + 1 + n ≡ a + suc n = omega arith in ap (λ (k : ℕ). range_with_len k m) is
 
-  by : (b : Bool) → length (filter f (range_with_len (a + 1) (n + m))) ≡ length (filter f (range_with_len (a + 1) n)) + length (filter f (range_with_len (a + 1 + n) m))
+  by : (b : Bool) → length (filter f (range_with_len (a + 1) (n + m)))
+      ≡ length (filter f (range_with_len (a + 1) n)) + length (filter f (range_with_len (a + 1 + n) m))
       → length (filter f (range_with_len a (suc n + m))) ≡ length (filter f (range_with_len a (suc n))) + length (filter f (range_with_len (a + suc n) m))
   by b rest =
       let whole = ap (λ (xs : List ℕ). length (filter f xs)) longer in
       let moved = ap (λ (xs : List ℕ). length (filter f xs)) place in
       head (f a) whole moved rest
     where
-      head : (c : Bool) → length (filter f (range_with_len a (suc n + m))) ≡ length (cond c (a ∷ filter f (range_with_len (a + 1) (n + m))) (filter f (range_with_len (a + 1) (n + m))))
+      head : (c : Bool) → length (filter f (range_with_len a (suc n + m)))
+          ≡ length (cond c (a ∷ filter f (range_with_len (a + 1) (n + m))) (filter f (range_with_len (a + 1) (n + m))))
           → length (filter f (range_with_len (a + 1 + n) m)) ≡ length (filter f (range_with_len (a + suc n) m))
           → length (filter f (range_with_len (a + 1) (n + m))) ≡ length (filter f (range_with_len (a + 1) n)) + length (filter f (range_with_len (a + 1 + n) m))
           → length (filter f (range_with_len a (suc n + m))) ≡ length
@@ -68,7 +73,8 @@ filter-less : (test f : ℕ → Bool) (c a b n : ℕ) → b ≡ c + a → ((x : 
     → length (filter test (range_with_len a n)) ≤ length (filter f (range_with_len b n))
 filter-less test f c a b zero place turns = omega arith
 filter-less test f c a b (suc n) place turns =
-    by (test a) (f b) refl refl (filter-less test f c (a + 1) (b + 1) n (omega (arith, place)) (λ x low high. turns x (omega (arith, low)) (omega (arith, high)))) where
+    by (test a) (f b) refl refl (filter-less test f c (a + 1) (b + 1) n (omega (arith, place))
+    (λ x low high. turns x (omega (arith, low)) (omega (arith, high)))) where
       here : test a ≡ true → f b ≡ true
       here passes = ap f place ∙ turns a (omega arith) (omega arith) passes
 
@@ -98,9 +104,12 @@ module _ (s : Dimensions) (v : State) (held : Members s v) (up : IsUp s v) (p : 
   unfolding dead-at
   enough =
       let of_data = filter-less (λ d. knows_dead (v.process p).known (DataNode d)) dead-at 0 0 0 s.k (omega arith)
-      (λ x low high knows. let inside : x < s.k = omega (arith, high) in let place : x ≡ 0 + x = omega arith in ap v.dead (ap (process_at s) (sym place) ∙ process_at-index s (DataNode x) inside) ∙ dead-known (DataNode x) inside knows) in
+      (λ x low high knows. let inside : x < s.k = omega (arith, high) in let place : x ≡ 0 + x = omega arith in
+      ap v.dead (ap (process_at s) (sym place) ∙ process_at-index s (DataNode x) inside)
+      ∙ dead-known (DataNode x) inside knows) in
       let parity = filter-less (λ i. knows_dead (v.process p).known (ParityNode i)) dead-at s.k 0 (0 + s.k) s.m (omega arith)
-      (λ x low high knows. let inside : x < s.m = omega (arith, high) in ap v.dead (process_at-index s (ParityNode x) inside) ∙ dead-known (ParityNode x) inside knows) in
+      (λ x low high knows. let inside : x < s.m = omega (arith, high) in
+      ap v.dead (process_at-index s (ParityNode x) inside) ∙ dead-known (ParityNode x) inside knows) in
       let both = filter-two dead-at 0 s.k s.m in
       let counted = count-filter dead-at 0 (s.k + s.m) in
       let split = count-both (λ i. knows_dead (v.process p).known (ParityNode i)) (range_with_len 0 s.m) in
@@ -111,16 +120,25 @@ module _ (s : Dimensions) (v : State) (held : Members s v) (up : IsUp s v) (p : 
   sound : (g : Gathering) → IsFor s (v.process p).known g → IsSound s g
   sound g is = record {
     lost = subst Rising (sym is.lost) (rising-filtered (λ d. knows_dead (v.process p).known (DataNode d)) s.k);
-    lost_in = subst (Each (λ d. d < s.k)) (sym is.lost) (each-filter (λ d. d < s.k) (λ d. knows_dead (v.process p).known (DataNode d)) (range_with_len 0 s.k) (each-below s.k));
+    lost_in = subst (Each (λ d. d < s.k)) (sym is.lost)
+        (each-filter (λ d. d < s.k) (λ d. knows_dead (v.process p).known (DataNode d)) (range_with_len 0 s.k)
+        (each-below s.k));
     rows =
         subst Rising (sym is.rows)
-        (rising-take (length (lost_by s (v.process p).known)) (left_by s (v.process p).known) (rising-filtered (λ i. not (knows_dead (v.process p).known (ParityNode i))) s.m));
+        (rising-take (length (lost_by s (v.process p).known)) (left_by s (v.process p).known)
+        (rising-filtered (λ i. not (knows_dead (v.process p).known (ParityNode i))) s.m));
     rows_in = subst (Each (λ i. i < s.m)) (sym is.rows) (each-take (λ i. i < s.m) (length (lost_by s (v.process p).known)) (left_by s (v.process p).known)
         (each-filter (λ i. i < s.m) (λ i. not (knows_dead (v.process p).known (ParityNode i))) (range_with_len 0 s.m) (each-below s.m)));
     as_many = ap length is.rows ∙ length-take-le (length (lost_by s (v.process p).known)) (left_by s (v.process p).known) enough ∙ sym (ap length is.lost);
     blocks =
-        λ d bytes there. let known_living = is.blocks d bytes there in
-        (known_living.0, λ lost. cc (known_living.1, (among-filter (λ e. knows_dead (v.process p).known (DataNode e)) d (range_with_len 0 s.k) (subst (Among d) is.lost (contains-among g.lost d lost))).1));
+        λ d bytes there. let known_living = is.blocks d bytes there in (
+          known_living.0,
+          λ lost. cc (
+            known_living.1,
+            (among-filter (λ e. knows_dead (v.process p).known (DataNode e)) d (range_with_len 0 s.k)
+                (subst (Among d) is.lost (contains-among g.lost d lost))).1,
+          ),
+        );
   }
 
 pub sessions_always_sound : SessionsAlwaysSound

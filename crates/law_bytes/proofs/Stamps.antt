@@ -52,7 +52,8 @@ RowFollows s settled plan (ParityNode i) bytes stamp =
 -- a message from x to q, if it is of the session, follows the plan
 abbrev pub Follows : Dimensions → (ℕ → List Update) → ℕ → ℕ → Plan → ProcessId → ProcessId → Message → Type 0
 Follows s settled l n plan x q (tells.ReadBlock session block rows) = OfSession l n session → (block ≡ plan.block) × (rows ≡ plan.rows)
-Follows s settled l n plan x q (tells.Mark session r block d number) = OfSession l n session → (block ≡ plan.block) × (number ≡ plan.numbers d.0) × AmongRows plan.rows q
+Follows s settled l n plan x q (tells.Mark session r block d number) = OfSession l n session → (block ≡ plan.block)
+    × (number ≡ plan.numbers d.0) × AmongRows plan.rows q
 Follows s settled l n plan x q (tells.Block session bytes number) = OfSession l n session → BlockFollows s settled plan x bytes number
 Follows s settled l n plan x q (tells.Row session bytes stamp) = OfSession l n session → RowFollows s settled plan x bytes stamp
 Follows s settled l n plan x q _ = Unit {0}
@@ -69,7 +70,8 @@ pub record GatheringFollows (s : Dimensions) (settled : ℕ → List Update) (pl
   pub block : g.block ≡ plan.block
   pub inside : g.block < s.blocks
   pub rows : g.rows ≡ plan.rows
-  pub rows_in : (i : ℕ) (bytes : List ℕ) → at None g.rows_in i ≡ Some bytes → Contains plan.rows i × IsBlock s plan.block (code s i (planned settled plan)) bytes
+  pub rows_in : (i : ℕ) (bytes : List ℕ) → at None g.rows_in i ≡ Some bytes → Contains plan.rows i
+      × IsBlock s plan.block (code s i (planned settled plan)) bytes
   pub blocks_in : (d : ℕ) (bytes : List ℕ) → at None g.blocks_in d ≡ Some bytes → (d < s.k) × IsBlock s plan.block (value (planned settled plan d)) bytes
 
 -- what a process has of the session follows the plan: its copy, if it is a row, and the open session, if it

@@ -1,5 +1,7 @@
 -- Questions and blocks, and a leader that opens a session.
-use Rattle.std.proofs.Common.{◌≡◌, ◌≢◌, ℕ, zero, suc, ◌+◌, ◌<◌, ◌≤◌, ◌==◌, ◌&&◌, Bool, true, false, not, List, [], ◌∷◌, ◌++◌, length, take, map, filter, find, flat_map, is_some, Some, None, cond, ◌⊎◌, inl, inr, sym, ap, subst, ◌∙◌, refl, arith, if◌then◌else◌}
+use Rattle.std.proofs.Common.{◌≡◌, ◌≢◌, ℕ, zero, suc, ◌+◌, ◌<◌, ◌≤◌, ◌==◌, ◌&&◌, Bool, true, false, not, List, [], ◌∷◌}
+use Rattle.std.proofs.Common.{◌++◌, length, take, map, filter, find, flat_map, is_some, Some, None, cond, ◌⊎◌, inl, inr}
+use Rattle.std.proofs.Common.{sym, ap, subst, ◌∙◌, refl, arith, if◌then◌else◌}
 use Rattle.std.proofs.lemmas.Bool.{cases_eq, eq-eqb, ne_eqb}
 use Rattle.std.specs.List.{range_with_len}
 use Rattle.group_types.specs.Dimensions.{Dimensions}
@@ -16,7 +18,8 @@ use Rattle.group_message.specs.declared.message.Message.TheVariants as tells
 use Rattle.group_message.specs.declared.message.Session.{Session}
 use Rattle.group_run.specs.Applying.{ProcessStep, Sent, and_then, for_each, quiet, replica_of, sending}
 use Rattle.group_run.specs.Heading.{partition, rank}
-use Rattle.group_run.specs.Leaders.{block_comes, block_gathered, leader_marks, left_of, lost_of, new_session, open_session, own_mark, rows_of, session_of, session_opened, session_starts}
+use Rattle.group_run.specs.Leaders.{block_comes, block_gathered, leader_marks, left_of, lost_of, new_session}
+use Rattle.group_run.specs.Leaders.{open_session, own_mark, rows_of, session_of, session_opened, session_starts}
 use Rattle.group_run.specs.Process.{Process}
 use Rattle.group_run.specs.Receiving.{data_marks, read_comes}
 use Rattle.law_moves.proofs.Members.{IsParity}
@@ -55,7 +58,9 @@ unfolding count
 count-split test y [] = refl
 count-split test y (x ∷ xs) = by (test x) (count-split test y xs) where
   by : (b : Bool) → count y (filter test xs) + count y (filter (λ z. not (test z)) xs) ≡ count y xs
-      → count y (cond b (x ∷ filter test xs) (filter test xs)) + count y (cond (not b) (x ∷ filter (λ z. not (test z)) xs) (filter (λ z. not (test z)) xs)) ≡ one_if (x == y) + count y xs
+      → count y (cond b (x ∷ filter test xs) (filter test xs)) + count y
+      (cond (not b) (x ∷ filter (λ z. not (test z)) xs) (filter (λ z. not (test z)) xs)) ≡ one_if (x == y) + count y
+      xs
   by true rest = omega (arith, rest)
   by false rest = omega (arith, rest)
 
@@ -74,7 +79,8 @@ differ-take (suc n) (x ∷ xs) differ = (each-take (λ y. y ≢ x) n xs differ.0
 left-out : (l : ℕ) (xs : List ℕ) → Each (λ x. x ≢ l) (filter (λ i. not (i == l)) xs)
 left-out l [] = tt
 left-out l (x ∷ xs) = by (cases_eq x l) (left-out l xs) where
-  by : (x ≡ l) ⊎ (x ≢ l) → Each (λ y. y ≢ l) (filter (λ i. not (i == l)) xs) → Each (λ y. y ≢ l) (cond (not (x == l)) (x ∷ filter (λ i. not (i == l)) xs) (filter (λ i. not (i == l)) xs))
+  by : (x ≡ l) ⊎ (x ≢ l) → Each (λ y. y ≢ l) (filter (λ i. not (i == l)) xs)
+      → Each (λ y. y ≢ l) (cond (not (x == l)) (x ∷ filter (λ i. not (i == l)) xs) (filter (λ i. not (i == l)) xs))
   by (inl same) rest = rw (eq-eqb x l same) rest
   by (inr other) rest = rw (ne_eqb x l other) (other, rest)
 
@@ -94,7 +100,8 @@ marks-less t x session r block e n [] Own way = omega arith
 marks-less t x session r block e n [] (Row j) way = omega arith
 marks-less t x session r block e n (i ∷ is) Own way =
     let rest = marks-less t x session r block e n is Own way in
-    let here : one_if (of_session t session && marks_way t.way t.partition e (ParityNode i)) ≤ one_if (marks_way t.way t.partition e (ParityNode i)) = and-less (of_session t session) _ in
+    let here : one_if (of_session t session && marks_way t.way t.partition e (ParityNode i))
+    ≤ one_if (marks_way t.way t.partition e (ParityNode i)) = and-less (of_session t session) _ in
     let none : one_if (marks_way t.way t.partition e (ParityNode i)) ≡ 0 = ap (λ (w : Way). one_if (marks_way w t.partition e (ParityNode i))) way in
     omega (arith, rest, here, none)
 marks-less t x session r block e n (i ∷ is) (Row j) way = by (e == t.partition) refl (marks-less t x session r block e n is (Row j) way) where
@@ -104,13 +111,16 @@ marks-less t x session r block e n (i ∷ is) (Row j) way = by (e == t.partition
       (and-less (of_session t session) (e == t.partition && i == j))
 
   by : (b : Bool) → (e == t.partition) ≡ b
-      → in_sent t x (map (λ i. record { to = ParityNode i; message = tells.Mark session (rank r) block (partition e) n }) is) ≤ (if e == t.partition then count j is else 0)
+      → in_sent t x
+      (map (λ i. record { to = ParityNode i; message = tells.Mark session (rank r) block (partition e) n }) is)
+      ≤ (if e == t.partition then count j is else 0)
       → one_if (of_session t session && marks_way t.way t.partition e (ParityNode i)) + in_sent t x
       (map (λ i. record { to = ParityNode i; message = tells.Mark session (rank r) block (partition e) n }) is) ≤
       (if e == t.partition then one_if (i == j) + count j is else 0)
   by true is_e rest =
       let a : (if e == t.partition then count j is else 0) ≡ count j is = ap (λ (b : Bool). if b then count j is else 0) is_e in
-      let c : (if e == t.partition then one_if (i == j) + count j is else 0) ≡ one_if (i == j) + count j is = ap (λ (b : Bool). if b then one_if (i == j) + count j is else 0) is_e in
+      let c : (if e == t.partition then one_if (i == j) + count j is else 0) ≡ one_if (i == j) + count j is =
+      ap (λ (b : Bool). if b then one_if (i == j) + count j is else 0) is_e in
       let d : one_if (e == t.partition && i == j) ≡ one_if (i == j) = ap (λ (b : Bool). one_if (b && i == j)) is_e in
       let first = here in
       omega (arith, rest, a, c, d, first)
@@ -125,7 +135,8 @@ marks-none : (t : Token) (x : ProcessId) (session : Session) (r block e n : ℕ)
     → in_sent t x (map (λ i. record { to = ParityNode i; message = tells.Mark session (rank r) block (partition e) n }) is) ≡ 0
 marks-none t x session r block e n [] other = refl
 marks-none t x session r block e n (i ∷ is) other =
-    let here : one_if (of_session t session && marks_way t.way t.partition e (ParityNode i)) ≡ 0 = ap (λ (b : Bool). one_if (b && marks_way t.way t.partition e (ParityNode i))) other in
+    let here : one_if (of_session t session && marks_way t.way t.partition e (ParityNode i)) ≡ 0 =
+    ap (λ (b : Bool). one_if (b && marks_way t.way t.partition e (ParityNode i))) other in
     let rest = marks-none t x session r block e n is other in
     omega (arith, here, rest)
 
@@ -143,16 +154,23 @@ module _ (s : Dimensions) (t : Token) where
     z = same_session t l n && block_way t.way t.partition (DataNode e)
 
     new : in_session t (block_comes s n e bytes p) ≡ true → (in_session t p ≡ true) ⊎ (z ≡ true)
-    new is = turn (and-split (same_process p.name (ParityNode t.leader)) (is_kept_in t.way t.partition (open_session (block_gathered s e bytes (open_session p.as_leader n) p.as_leader) t.number)) is) where
-      turn : (same_process p.name (ParityNode t.leader) ≡ true) × (is_kept_in t.way t.partition (open_session (block_gathered s e bytes (open_session p.as_leader n) p.as_leader) t.number) ≡ true)
-          → (in_session t p ≡ true) ⊎ (z ≡ true)
-      turn both = deeper (block-kept s t.way t.partition t.number n e bytes p.as_leader both.1) where
-        deeper : (is_kept_in t.way t.partition (open_session p.as_leader t.number) ≡ true) ⊎ ((t.number ≡ n) × (t.way ≡ Own) × (t.partition ≡ e)) → (in_session t p ≡ true) ⊎ (z ≡ true)
-        deeper (inl was) = inl (and-join _ _ both.0 was)
-        deeper (inr fresh) =
-            let names : ParityNode l ≡ ParityNode t.leader = sym name ∙ same-eq p.name (ParityNode t.leader) both.0 in
-            let leaders : l ≡ t.leader = cc names in
-            inr (and-join _ _ (session-is t l n leaders (sym fresh.0)) (ap (λ (w : Way). block_way w t.partition (DataNode e)) fresh.1 ∙ eq-eqb e t.partition (sym fresh.2)))
+    new is = turn
+        (and-split (same_process p.name (ParityNode t.leader))
+        (is_kept_in t.way t.partition (open_session (block_gathered s e bytes (open_session p.as_leader n) p.as_leader)
+        t.number)) is) where
+          turn : (same_process p.name (ParityNode t.leader) ≡ true)
+              × (is_kept_in t.way t.partition
+              (open_session (block_gathered s e bytes (open_session p.as_leader n) p.as_leader) t.number) ≡ true)
+              → (in_session t p ≡ true) ⊎ (z ≡ true)
+          turn both = deeper (block-kept s t.way t.partition t.number n e bytes p.as_leader both.1) where
+            deeper : (is_kept_in t.way t.partition (open_session p.as_leader t.number) ≡ true)
+                ⊎ ((t.number ≡ n) × (t.way ≡ Own) × (t.partition ≡ e)) → (in_session t p ≡ true) ⊎ (z ≡ true)
+            deeper (inl was) = inl (and-join _ _ both.0 was)
+            deeper (inr fresh) =
+                let names : ParityNode l ≡ ParityNode t.leader = sym name ∙ same-eq p.name (ParityNode t.leader) both.0 in
+                let leaders : l ≡ t.leader = cc names in
+                inr (and-join _ _ (session-is t l n leaders (sym fresh.0))
+                (ap (λ (w : Way). block_way w t.partition (DataNode e)) fresh.1 ∙ eq-eqb e t.partition (sym fresh.2)))
 
     kept : one_if (in_session t (block_comes s n e bytes p)) ≤ one_if (in_session t p) + one_if z
     kept = by (in_session t (block_comes s n e bytes p)) new where
@@ -167,7 +185,15 @@ module _ (s : Dimensions) (t : Token) where
     name = refl;
     last = omega arith;
     weighs = let few = sent_few in omega (arith, few);
-    facts = (parity, each-map (λ z. Fact z.message) (λ i. record { to = ParityNode i; message = tells.Mark session (rank 0) block (partition e) (replica_of p e).applied }) rows (each-all (λ i. IsParity session.leader) (λ i. parity) rows));
+    facts = (
+      parity,
+      each-map (λ z. Fact z.message)
+          (λ i. record {
+            to = ParityNode i;
+            message = tells.Mark session (rank 0) block (partition e)
+                (replica_of p e).applied;
+          }) rows (each-all (λ i. IsParity session.leader) (λ i. parity) rows),
+    );
   } where
     marks : List Sent
     marks = data_marks session block e (replica_of p e).applied rows
@@ -175,16 +201,19 @@ module _ (s : Dimensions) (t : Token) where
     own : one_if (of_session t session && block_way t.way t.partition p.name) ≡ one_if (of_session t session && block_way t.way t.partition (DataNode e))
     own = ap (λ (x : ProcessId). one_if (of_session t session && block_way t.way t.partition x)) name
 
-    both_ways : (w : Way) → t.way ≡ w → (b : Bool) → of_session t session ≡ b → one_if (b && block_way w t.partition (DataNode e)) + in_sent t p.name marks ≤ one_if (b && e == t.partition)
+    both_ways : (w : Way) → t.way ≡ w → (b : Bool) → of_session t session ≡ b
+        → one_if (b && block_way w t.partition (DataNode e)) + in_sent t p.name marks ≤ one_if (b && e == t.partition)
     both_ways w way false other = let none = marks-none t p.name session 0 block e (replica_of p e).applied rows other in omega (arith, none)
     both_ways Own way true is = let none = marks-less t p.name session 0 block e (replica_of p e).applied rows Own way in omega (arith, none)
     both_ways (Row r) way true is = by (e == t.partition) refl (marks-less t p.name session 0 block e (replica_of p e).applied rows (Row r) way) where
-      by : (c : Bool) → (e == t.partition) ≡ c → in_sent t p.name marks ≤ (if e == t.partition then count r rows else 0) → one_if false + in_sent t p.name marks ≤ one_if c
+      by : (c : Bool) → (e == t.partition) ≡ c → in_sent t p.name marks ≤ (if e == t.partition then count r rows else 0)
+          → one_if false + in_sent t p.name marks ≤ one_if c
       by true is_e less =
           let a : (if e == t.partition then count r rows else 0) ≡ count r rows = ap (λ (b : Bool). if b then count r rows else 0) is_e in
           let once = count-once r rows differ in
           omega (arith, less, a, once)
-      by false not_e less = let a : (if e == t.partition then count r rows else 0) ≡ 0 = ap (λ (b : Bool). if b then count r rows else 0) not_e in omega (arith, less, a)
+      by false not_e less = let a : (if e == t.partition then count r rows else 0) ≡ 0 =
+          ap (λ (b : Bool). if b then count r rows else 0) not_e in omega (arith, less, a)
 
     sent_few : one_if (of_session t session && block_way t.way t.partition p.name) + in_sent t p.name marks ≤ one_if (of_session t session && e == t.partition)
     sent_few =
@@ -231,13 +260,22 @@ module _ (s : Dimensions) (t : Token) where
 
     opened-fewer : Fewer t p opened
     unfolding opened number
-    opened-fewer = record { name = refl; marked = λ is. is; kept = λ is. by is (found-behind (λ g. g.number == t.number) p.as_leader.sessions (new_session s number block p)); last = omega arith } where
-      by : is_kept_in t.way t.partition (find (λ g. g.number == t.number) (p.as_leader.sessions ++ new_session s number block p ∷ [])) ≡ true
-          → (find (λ g. g.number == t.number) (p.as_leader.sessions ++ new_session s number block p ∷ []) ≡ open_session p.as_leader t.number)
-          ⊎ ((open_session p.as_leader t.number ≡ None) × (find (λ g. g.number == t.number) (p.as_leader.sessions ++ new_session s number block p ∷ []) ≡ Some (new_session s number block p)))
-          → is_kept_in t.way t.partition (open_session p.as_leader t.number) ≡ true
-      by is (inl same) = ap (is_kept_in t.way t.partition) (sym same) ∙ is
-      by is (inr both) = absurd (cc (sym is ∙ ap (is_kept_in t.way t.partition) both.1 ∙ none-kept t.way))
+    opened-fewer =
+        record {
+          name = refl;
+          marked = λ is. is;
+          kept = λ is. by is (found-behind (λ g. g.number == t.number) p.as_leader.sessions
+              (new_session s number block p));
+          last = omega arith;
+        } where
+          by : is_kept_in t.way t.partition (find (λ g. g.number == t.number) (p.as_leader.sessions ++ new_session s number block p ∷ [])) ≡ true
+              → (find (λ g. g.number == t.number) (p.as_leader.sessions ++ new_session s number block p ∷ []) ≡ open_session p.as_leader t.number)
+              ⊎ ((open_session p.as_leader t.number ≡ None)
+              × (find (λ g. g.number == t.number) (p.as_leader.sessions ++ new_session s number block p ∷ [])
+              ≡ Some (new_session s number block p)))
+              → is_kept_in t.way t.partition (open_session p.as_leader t.number) ≡ true
+          by is (inl same) = ap (is_kept_in t.way t.partition) (sym same) ∙ is
+          by is (inr both) = absurd (cc (sym is ∙ ap (is_kept_in t.way t.partition) both.1 ∙ none-kept t.way))
 
     rows : List ℕ
     rows = rows_of s p
@@ -264,13 +302,15 @@ module _ (s : Dimensions) (t : Token) where
         omega (arith, rest, here)
 
     -- marks of lost partitions
-    marks-sum : (ls : List ℕ) → in_sent t p.name (flat_map (leader_marks s l number block p) ls) ≤ total (λ e. marks_of t t.way e (filter (λ i. not (i == l)) rows)) ls
+    marks-sum : (ls : List ℕ) → in_sent t p.name (flat_map (leader_marks s l number block p) ls)
+        ≤ total (λ e. marks_of t t.way e (filter (λ i. not (i == l)) rows)) ls
     unfolding rows
     marks-sum [] = omega arith
     marks-sum (e ∷ ls) =
         let rest = marks-sum ls in
         let sum = in_sent-append t p.name (leader_marks s l number block p e) (flat_map (leader_marks s l number block p) ls) in
-        let here = marks-less t p.name (session_of l number) (at 0 p.ranks e) block e (replica_of p e).applied (filter (λ i. not (i == l)) (rows_of s p)) t.way refl in
+        let here = marks-less t p.name (session_of l number) (at 0 p.ranks e) block e (replica_of p e).applied
+        (filter (λ i. not (i == l)) (rows_of s p)) t.way refl in
         omega (arith, rest, sum, here)
 
     marks-none-sum : same_session t l number ≡ false → (ls : List ℕ) → in_sent t p.name (flat_map (leader_marks s l number block p) ls) ≡ 0
@@ -278,13 +318,16 @@ module _ (s : Dimensions) (t : Token) where
     marks-none-sum other (e ∷ ls) =
         let rest = marks-none-sum other ls in
         let sum = in_sent-append t p.name (leader_marks s l number block p e) (flat_map (leader_marks s l number block p) ls) in
-        let here = marks-none t p.name (session_of l number) (at 0 p.ranks e) block e (replica_of p e).applied (filter (λ i. not (i == l)) (rows_of s p)) other in
+        let here = marks-none t p.name (session_of l number) (at 0 p.ranks e) block e (replica_of p e).applied
+        (filter (λ i. not (i == l)) (rows_of s p)) other in
         omega (arith, rest, sum, here)
 
     -- for each lost partition one mark comes to a row, the leader's own included
-    mark-one : (e : ℕ) → marks_of t t.way e (filter (λ i. not (i == l)) rows) + one_if (same_session t l number && marks_way t.way t.partition e (ParityNode l)) ≤ one_if (e == t.partition)
+    mark-one : (e : ℕ) → marks_of t t.way e (filter (λ i. not (i == l)) rows) + one_if
+        (same_session t l number && marks_way t.way t.partition e (ParityNode l)) ≤ one_if (e == t.partition)
     mark-one e = by t.way where
-      by : (w : Way) → marks_of t w e (filter (λ i. not (i == l)) rows) + one_if (same_session t l number && marks_way w t.partition e (ParityNode l)) ≤ one_if (e == t.partition)
+      by : (w : Way) → marks_of t w e (filter (λ i. not (i == l)) rows) + one_if
+          (same_session t l number && marks_way w t.partition e (ParityNode l)) ≤ one_if (e == t.partition)
       by Own = let less = and-less (same_session t l number) false in omega (arith, less)
       by (Row r) = cases (e == t.partition) (and-less (same_session t l number) (e == t.partition && l == r)) (cases_eq l r) where
         others : List ℕ
@@ -305,7 +348,8 @@ module _ (s : Dimensions) (t : Token) where
     starts-facts : Each (λ z. Fact z.message) (session_starts s l number block p)
     unfolding rows
     starts-facts = each-append (λ z. Fact z.message) (map question (left_of s p)) (flat_map (leader_marks s l number block p) (lost_of s p))
-        (each-map (λ z. Fact z.message) question (left_of s p) (each-all (λ d. Differ (rows_of s p)) (λ d. rows-differ) (left_of s p))) (all_marks (lost_of s p))
+        (each-map (λ z. Fact z.message) question (left_of s p)
+        (each-all (λ d. Differ (rows_of s p)) (λ d. rows-differ) (left_of s p))) (all_marks (lost_of s p))
       where
         question : ℕ → Sent
         question d = record { to = DataNode d; message = tells.ReadBlock (session_of l number) block (rows_of s p) }
@@ -319,11 +363,14 @@ module _ (s : Dimensions) (t : Token) where
 
         all_marks : (ls : List ℕ) → Each (λ z. Fact z.message) (flat_map (leader_marks s l number block p) ls)
         all_marks [] = tt
-        all_marks (e ∷ ls) = each-append (λ z. Fact z.message) (leader_marks s l number block p e) (flat_map (leader_marks s l number block p) ls) (marks-fact e) (all_marks ls)
+        all_marks (e ∷ ls) = each-append (λ z. Fact z.message) (leader_marks s l number block p e)
+            (flat_map (leader_marks s l number block p) ls) (marks-fact e) (all_marks ls)
 
     own-gains : t.partition < s.k → (e : ℕ) (q : Process) → q.name ≡ ParityNode l
         → Gains t q (own_mark s l number block e q) (one_if (same_session t l number && marks_way t.way t.partition e (ParityNode l)))
-    own-gains below e q is = subst (λ (x : ProcessId). Gains t q (own_mark s l number block e q) (one_if (same_session t l number && marks_way t.way t.partition e x))) is
+    own-gains below e q is =
+        subst (λ (x : ProcessId). Gains t q (own_mark s l number block e q)
+        (one_if (same_session t l number && marks_way t.way t.partition e x))) is
         (mark-gains s t l number (at 0 q.ranks e) block e (replica_of q e).applied q below)
 
     abbrev pub started : ProcessStep
@@ -339,7 +386,9 @@ module _ (s : Dimensions) (t : Token) where
       facts = starts-facts;
     }
 
-    starts-sum : in_sent t p.name (session_starts s l number block p) ≡ in_sent t p.name (questions (left_of s p)) + in_sent t p.name (flat_map (leader_marks s l number block p) (lost_of s p))
+    starts-sum : in_sent t p.name (session_starts s l number block p)
+        ≡ in_sent t p.name (questions (left_of s p)) + in_sent t p.name
+        (flat_map (leader_marks s l number block p) (lost_of s p))
     unfolding questions rows
     starts-sum = in_sent-append t p.name (questions (left_of s p)) (flat_map (leader_marks s l number block p) (lost_of s p))
 
@@ -351,7 +400,8 @@ module _ (s : Dimensions) (t : Token) where
         let asked = questions-less (left_of s p) in
         let sum = starts-sum in
         let marks = marks-sum (lost_of s p) in
-        let both = total-both (λ e. marks_of t t.way e (filter (λ i. not (i == l)) rows)) (λ e. one_if (same_session t l number && marks_way t.way t.partition e (ParityNode l))) (lost_of s p) in
+        let both = total-both (λ e. marks_of t t.way e (filter (λ i. not (i == l)) rows))
+        (λ e. one_if (same_session t l number && marks_way t.way t.partition e (ParityNode l))) (lost_of s p) in
         let one = total-le
         (λ e. marks_of t t.way e (filter (λ i. not (i == l)) rows) + one_if (same_session t l number && marks_way t.way t.partition e (ParityNode l)))
         (λ e. one_if (e == t.partition)) (lost_of s p) mark-one in
@@ -359,9 +409,12 @@ module _ (s : Dimensions) (t : Token) where
         let split = count-split (λ d. knows_dead p.known (DataNode d)) t.partition (range_with_len 0 s.k) in
         let once = count-once t.partition (range_with_len 0 s.k) (differ-rising _ (rising-range 0 s.k)) in
         gains-more t p started
-        (in_sent t p.name (session_starts s l number block p) + total (λ e. one_if (same_session t l number && marks_way t.way t.partition e (ParityNode l))) (lost_of s p)) 1
+        (in_sent t p.name (session_starts s l number block p) + total
+        (λ e. one_if (same_session t l number && marks_way t.way t.partition e (ParityNode l))) (lost_of s p)) 1
         (omega (arith, asked, sum, marks, both, one, counted, split, once))
-        (gains-then t p (sending (session_starts s l number block p) opened) (for_each (lost_of s p) (own_mark s l number block)) (in_sent t p.name (session_starts s l number block p)) _ (first-gains (in_sent t p.name (session_starts s l number block p)) (omega arith)) own)
+        (gains-then t p (sending (session_starts s l number block p) opened)
+        (for_each (lost_of s p) (own_mark s l number block)) (in_sent t p.name (session_starts s l number block p)) _
+        (first-gains (in_sent t p.name (session_starts s l number block p)) (omega arith)) own)
 
     total-zero : (ls : List ℕ) → total (λ e. 0) ls ≡ 0
     total-zero [] = refl
@@ -371,15 +424,22 @@ module _ (s : Dimensions) (t : Token) where
     unfolding number opened
     start-other other below =
         let own = gains-list (lost_of s p) (own_mark s l number block) (λ e. 0) (ParityNode l) opened (opened-fewer.name ∙ name) (λ e q is.
-        subst (Gains t q (own_mark s l number block e q)) (ap (λ (b : Bool). one_if (b && marks_way t.way t.partition e (ParityNode l))) other) (own-gains below e q is)) in
+        subst (Gains t q (own_mark s l number block e q))
+        (ap (λ (b : Bool). one_if (b && marks_way t.way t.partition e (ParityNode l))) other)
+        (own-gains below e q is)) in
         let asked = questions-none other (left_of s p) in
         let sum = starts-sum in
         let marks = marks-none-sum other (lost_of s p) in
         let none = total-zero (lost_of s p) in
         gains-more t p started (0 + total (λ e. 0) (lost_of s p)) 0 (omega (arith, none))
-        (gains-then t p (sending (session_starts s l number block p) opened) (for_each (lost_of s p) (own_mark s l number block)) 0 (total (λ e. 0) (lost_of s p)) (first-gains 0 (omega (arith, asked, sum, marks))) own)
+        (gains-then t p (sending (session_starts s l number block p) opened)
+        (for_each (lost_of s p) (own_mark s l number block)) 0 (total (λ e. 0) (lost_of s p))
+        (first-gains 0 (omega (arith, asked, sum, marks))) own)
 
     -- the number of the session is the last one then
     pub start-last : t.partition < s.k → suc p.as_leader.last_session ≤ started.process.as_leader.last_session
     unfolding number opened
-    start-last below = (gains-list (lost_of s p) (own_mark s l number block) (λ e. one_if (same_session t l number && marks_way t.way t.partition e (ParityNode l))) (ParityNode l) opened (opened-fewer.name ∙ name) (own-gains below)).last
+    start-last below =
+        (gains-list (lost_of s p) (own_mark s l number block)
+        (λ e. one_if (same_session t l number && marks_way t.way t.partition e (ParityNode l))) (ParityNode l) opened
+        (opened-fewer.name ∙ name) (own-gains below)).last

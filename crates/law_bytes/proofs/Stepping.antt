@@ -1,5 +1,6 @@
 -- Steps that a head makes of its own, and those of a notice: what they apply is settled, so bytes stay right.
-use Rattle.std.proofs.Common.{◌≡◌, ◌≢◌, ℕ, suc, ◌<◌, ◌≤◌, ◌==◌, ◌&&◌, nat_le, Bool, true, false, not, List, [], ◌∷◌, length, Option, Some, None, ◌⊎◌, inl, inr, sym, ap, subst, ◌∙◌, refl, arith}
+use Rattle.std.proofs.Common.{◌≡◌, ◌≢◌, ℕ, suc, ◌<◌, ◌≤◌, ◌==◌, ◌&&◌, nat_le, Bool, true, false, not, List, [], ◌∷◌}
+use Rattle.std.proofs.Common.{length, Option, Some, None, ◌⊎◌, inl, inr, sym, ap, subst, ◌∙◌, refl, arith}
 use Rattle.std.proofs.lemmas.Bool.{cases_eq}
 use Rattle.std.specs.List.{range_with_len}
 use Rattle.group_types.specs.Dimensions.{Dimensions}
@@ -53,7 +54,8 @@ module _ (s : Dimensions) (settled : ℕ → List Update) (write : SettledWrite 
   pub tame-ready : (p q : Process) → Tame p q → Ready s settled p → Ready s settled q
   tame-ready p q tame ready = record {
     goes = λ d below. subst (λ (rs : List Replica). GoesOn (settled d) (at empty_replica rs d)) (sym tame.replicas) (ready.goes d below);
-    own = λ d h below heads. subst (λ (name : ProcessId). Concerns s name d) (sym tame.name) (ready.own d h below (ap (λ (hs : List (Option Head)). at None hs d) (sym tame.heads) ∙ heads));
+    own = λ d h below heads. subst (λ (name : ProcessId). Concerns s name d) (sym tame.name)
+        (ready.own d h below (ap (λ (hs : List (Option Head)). at None hs d) (sym tame.heads) ∙ heads));
   }
 
   -- one partition is applied up to a number
@@ -66,9 +68,11 @@ module _ (s : Dimensions) (settled : ℕ → List Update) (write : SettledWrite 
       by : (e : ℕ) → e < s.k → (e ≡ d) ⊎ (e ≢ d) → GoesOn (settled e) (replica_of (apply_to s d n p) e)
       by e low (inr other) = subst (GoesOn (settled e)) (sym (replica-other s settled write old p d n concerns below e other)) (ready.goes e low)
       by e low (inl here) = subst (λ (j : ℕ). GoesOn (settled j) (replica_of (apply_to s d n p) j)) (sym here)
-          (subst (GoesOn (settled d)) (sym (replica-here s settled write old p d n concerns below)) (goes-applied (settled d) (replica_of p d) n (ready.goes d below)))
+          (subst (GoesOn (settled d)) (sym (replica-here s settled write old p d n concerns below))
+          (goes-applied (settled d) (replica_of p d) n (ready.goes d below)))
 
-    pub apply-keeps : (replica_of (apply_to s d n p) d).applied ≤ length (settled d) → GoesOn (settled d) (replica_of p d) → Holding s settled old p → Holding s settled old (apply_to s d n p)
+    pub apply-keeps : (replica_of (apply_to s d n p) d).applied ≤ length (settled d)
+        → GoesOn (settled d) (replica_of p d) → Holding s settled old p → Holding s settled old (apply_to s d n p)
     apply-keeps within goes holding =
         let is = applied-here s settled write old p d n concerns below in
         applied-holds s settled write old p d n concerns below
@@ -132,7 +136,9 @@ module _ (s : Dimensions) (settled : ℕ → List Update) (write : SettledWrite 
       let crowned : Good p (sending _ q) = record {
         rises = λ ready e low. omega arith;
         ready = λ ready. record { goes = ready.goes; own = λ e h low heads. concerned p d p.name refl takes e low };
-        holds = λ final ready holding. holding-same s settled old p q (record { stand = record { name = refl; applied = λ e. refl }; space = refl; rebuilt = λ e b. refl }) holding.copies holding;
+        holds = λ final ready holding. holding-same s settled old p q
+            (record { stand = record { name = refl; applied = λ e. refl }; space = refl; rebuilt = λ e b. refl })
+            holding.copies holding;
       } in
       good-then p (sending _ q) (judge s d) crowned (good-judge d below q))
 
@@ -140,7 +146,14 @@ module _ (s : Dimensions) (settled : ℕ → List Update) (write : SettledWrite 
   tame-death : (dead : ProcessId) (p : Process) → Tame p (death_known dead p)
   tame-death (DataNode e) p = record { name = refl; replicas = refl; space = refl; heads = refl; rebuilt = λ d b. refl; copies = λ P all. all }
   tame-death (ParityNode l) p =
-      record { name = refl; replicas = refl; space = refl; heads = refl; rebuilt = λ d b. refl; copies = λ P all. each-filter P (λ c. not (c.leader == l)) p.as_row.copies all }
+      record {
+        name = refl;
+        replicas = refl;
+        space = refl;
+        heads = refl;
+        rebuilt = λ d b. refl;
+        copies = λ P all. each-filter P (λ c. not (c.leader == l)) p.as_row.copies all;
+      }
 
   tame-close : (gs : List Gathering) (p : Process) → Tame p (close_sessions s gs p).process
   tame-close [] p = tame-self p

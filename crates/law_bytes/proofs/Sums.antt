@@ -1,5 +1,6 @@
 -- Sums over the processes of a group.
-use Rattle.std.proofs.Common.{◌≡◌, ◌≢◌, ℕ, zero, suc, ◌+◌, ◌<◌, ◌≤◌, Bool, List, [], ◌∷◌, map, ◌⊎◌, inl, inr, sym, ap, subst, ◌∙◌, refl, arith, if◌then◌else◌, true, false}
+use Rattle.std.proofs.Common.{◌≡◌, ◌≢◌, ℕ, zero, suc, ◌+◌, ◌<◌, ◌≤◌, Bool, List, [], ◌∷◌, map, ◌⊎◌, inl, inr, sym, ap}
+use Rattle.std.proofs.Common.{subst, ◌∙◌, refl, arith, if◌then◌else◌, true, false}
 use Rattle.std.proofs.lemmas.Bool.{cases_eq}
 use Rattle.std.specs.List.{range_with_len}
 use Rattle.group_types.specs.Dimensions.{Dimensions}
@@ -31,7 +32,8 @@ sum-both [] f g = refl
 sum-both (p ∷ ps) f g = let rest = sum-both ps f g in omega (arith, rest)
 
 -- a sum that is less by c at one of them
-pub sum-less : (ps : List ProcessId) (f g : ProcessId → ℕ) (x : ProcessId) (c : ℕ) → Within x ps → ((p : ProcessId) → Within p ps → g p ≤ f p) → g x + c ≤ f x → sum_of ps g + c ≤ sum_of ps f
+pub sum-less : (ps : List ProcessId) (f g : ProcessId → ℕ) (x : ProcessId) (c : ℕ) → Within x ps
+    → ((p : ProcessId) → Within p ps → g p ≤ f p) → g x + c ≤ f x → sum_of ps g + c ≤ sum_of ps f
 sum-less [] f g x c there less here = absurd there
 sum-less (p ∷ ps) f g x c (inl same) less here =
     let rest = sum-le ps f g (λ q deeper. less q (inr deeper)) in
@@ -66,20 +68,25 @@ sum-only (q ∷ qs) p c once = by (same-cases q p) (sum-only qs p c once.1) wher
 pub range-within : (s : Dimensions) (x a n : ℕ) → a ≤ x → x < a + n → Within (process_at s x) (map (process_at s) (range_with_len a n))
 range-within s x a zero low high = absurd (omega (arith, low, high))
 range-within s x a (suc n) low high = by (cases_eq x a) (λ above. range-within s x (a + 1) n above (omega (arith, high))) where
-  by : (x ≡ a) ⊎ (x ≢ a) → (a + 1 ≤ x → Within (process_at s x) (map (process_at s) (range_with_len (a + 1) n))) → Within (process_at s x) (map (process_at s) (range_with_len a (suc n)))
+  by : (x ≡ a) ⊎ (x ≢ a) → (a + 1 ≤ x → Within (process_at s x) (map (process_at s) (range_with_len (a + 1) n)))
+      → Within (process_at s x) (map (process_at s) (range_with_len a (suc n)))
   by (inl same) later = inl (ap (process_at s) same)
   by (inr other) later = inr (later (omega (arith, low, other)))
 
 pub within-everyone : (s : Dimensions) (p : ProcessId) → IsProcess s p → Within p (everyone s)
 within-everyone s p inside =
-    subst (λ (q : ProcessId). Within q (everyone s)) (process_at-index s p inside) (range-within s (index_of s p) 0 (s.k + s.m) (omega arith) (let low = index-below s p inside in omega (arith, low)))
+    subst (λ (q : ProcessId). Within q (everyone s)) (process_at-index s p inside)
+    (range-within s (index_of s p) 0 (s.k + s.m) (omega arith) (let low = index-below s p inside in
+    omega (arith, low)))
 
-within-range : (s : Dimensions) (p : ProcessId) (a n : ℕ) → Within p (map (process_at s) (range_with_len a n)) → (a ≤ index_of s p) × (index_of s p < a + n) × (p ≡ process_at s (index_of s p))
+within-range : (s : Dimensions) (p : ProcessId) (a n : ℕ) → Within p (map (process_at s) (range_with_len a n))
+    → (a ≤ index_of s p) × (index_of s p < a + n) × (p ≡ process_at s (index_of s p))
 within-range s p a zero there = absurd there
 within-range s p a (suc n) (inl same) =
     let is : index_of s p ≡ a = ap (index_of s) same ∙ index-process_at s a in
     (omega (arith, is), omega (arith, is), same ∙ sym (ap (process_at s) is))
-within-range s p a (suc n) (inr there) = let deeper = within-range s p (a + 1) n there in (let low = deeper.0 in omega (arith, low), let high = deeper.1 in omega (arith, high), deeper.2)
+within-range s p a (suc n) (inr there) = let deeper = within-range s p (a + 1) n there in
+    (let low = deeper.0 in omega (arith, low), let high = deeper.1 in omega (arith, high), deeper.2)
 
 pub everyone-inside : (s : Dimensions) (p : ProcessId) → Within p (everyone s) → IsProcess s p
 everyone-inside s p there =

@@ -1,5 +1,7 @@
 -- The spaces of k processes determine all columns.
-use Rattle.std.proofs.Common.{◌≡◌, ◌≢◌, ℕ, zero, suc, ◌+◌, ◌<◌, ◌≤◌, ◌==◌, ◌||◌, Bool, true, false, not, List, [], ◌∷◌, ◌++◌, length, map, filter, get_or, All, Contains, ◌⊎◌, inl, inr, sym, ap, ap₂, subst, ◌∙◌, refl, arith, cond}
+use Rattle.std.proofs.Common.{◌≡◌, ◌≢◌, ℕ, zero, suc, ◌+◌, ◌<◌, ◌≤◌, ◌==◌, ◌||◌, Bool, true, false, not, List, [], ◌∷◌}
+use Rattle.std.proofs.Common.{◌++◌, length, map, filter, get_or, All, Contains, ◌⊎◌, inl, inr, sym, ap, ap₂, subst, ◌∙◌}
+use Rattle.std.proofs.Common.{refl, arith, cond}
 use Rattle.std.proofs.lemmas.Bool.{cases_eq, eq-eqb, ne_eqb}
 use Rattle.std.proofs.lemmas.List.{length-map}
 use Rattle.std.proofs.lemmas.List.FromFn.{length-range_with_len}
@@ -33,7 +35,8 @@ has-each P (q ∷ qs) p is all = by (same_process q p) refl is (λ rest. has-eac
 has-contains : (ps : List ProcessId) (p : ProcessId) → list_any (λ q. same_process q p) ps ≡ true → Contains ps p
 has-contains [] p is = absurd (cc is)
 has-contains (q ∷ qs) p is = by (same_process q p) refl is (λ rest. has-contains qs p rest) where
-  by : (b : Bool) → same_process q p ≡ b → (b || list_any (λ x. same_process x p) qs) ≡ true → (list_any (λ x. same_process x p) qs ≡ true → Contains qs p) → Contains (q ∷ qs) p
+  by : (b : Bool) → same_process q p ≡ b → (b || list_any (λ x. same_process x p) qs) ≡ true
+      → (list_any (λ x. same_process x p) qs ≡ true → Contains qs p) → Contains (q ∷ qs) p
   by true same _ later = (0, omega arith, same-eq q p same)
   by false other rest later = let deeper = later rest in (suc deeper.0, omega (arith, deeper.1), deeper.2)
 
@@ -46,13 +49,18 @@ has-not ps p out = by (list_any (λ q. same_process q p) ps) refl where
 -- how many numbers of a range pass a test
 filter-same : (f g : ℕ → Bool) (a n : ℕ) → ((x : ℕ) → a ≤ x → f x ≡ g x) → filter f (range_with_len a n) ≡ filter g (range_with_len a n)
 filter-same f g a zero same = refl
-filter-same f g a (suc n) same = ap₂ (λ (b : Bool) (rest : List ℕ). cond b (a ∷ rest) rest) (same a (omega arith)) (filter-same f g (a + 1) n (λ x above. same x (omega (arith, above))))
+filter-same f g a (suc n) same = ap₂ (λ (b : Bool) (rest : List ℕ). cond b (a ∷ rest) rest) (same a (omega arith))
+    (filter-same f g (a + 1) n (λ x above. same x (omega (arith, above))))
 
-count-more : (test : ℕ → Bool) (e a n : ℕ) → test e ≡ false → a ≤ e → e < a + n → length (filter (λ d. e == d || test d) (range_with_len a n)) ≡ suc (length (filter test (range_with_len a n)))
+count-more : (test : ℕ → Bool) (e a n : ℕ) → test e ≡ false → a ≤ e → e < a + n
+    → length (filter (λ d. e == d || test d) (range_with_len a n)) ≡ suc (length (filter test (range_with_len a n)))
 count-more test e a zero fails low high = absurd (omega (arith, low, high))
 count-more test e a (suc n) fails low high = by (cases_eq e a) (λ above. count-more test e (a + 1) n fails above (omega (arith, high))) where
-  by : (e ≡ a) ⊎ (e ≢ a) → (a + 1 ≤ e → length (filter (λ d. e == d || test d) (range_with_len (a + 1) n)) ≡ suc (length (filter test (range_with_len (a + 1) n))))
-      → length (cond (e == a || test a) (a ∷ filter (λ d. e == d || test d) (range_with_len (a + 1) n)) (filter (λ d. e == d || test d) (range_with_len (a + 1) n)))
+  by : (e ≡ a) ⊎ (e ≢ a)
+      → (a + 1 ≤ e → length (filter (λ d. e == d || test d) (range_with_len (a + 1) n))
+      ≡ suc (length (filter test (range_with_len (a + 1) n))))
+      → length (cond (e == a || test a) (a ∷ filter (λ d. e == d || test d) (range_with_len (a + 1) n))
+      (filter (λ d. e == d || test d) (range_with_len (a + 1) n)))
       ≡ suc (length (cond (test a) (a ∷ filter test (range_with_len (a + 1) n)) (filter test (range_with_len (a + 1) n))))
   by (inl same) later =
       let head : test a ≡ false = ap test (sym same) ∙ fails in
@@ -75,7 +83,8 @@ pub count-both : (test : ℕ → Bool) (xs : List ℕ) → length (filter test x
 count-both test [] = refl
 count-both test (x ∷ xs) = by (test x) (count-both test xs) where
   by : (b : Bool) → length (filter test xs) + length (filter (λ y. not (test y)) xs) ≡ length xs
-      → length (cond b (x ∷ filter test xs) (filter test xs)) + length (cond (not b) (x ∷ filter (λ y. not (test y)) xs) (filter (λ y. not (test y)) xs)) ≡ suc (length xs)
+      → length (cond b (x ∷ filter test xs) (filter test xs)) + length
+      (cond (not b) (x ∷ filter (λ y. not (test y)) xs) (filter (λ y. not (test y)) xs)) ≡ suc (length xs)
   by true is = omega (arith, is)
   by false is = omega (arith, is)
 
@@ -90,18 +99,21 @@ unfolding data_in parity_in
 count-all s [] distinct inside = let a = count-none (λ d. false) 0 s.k (λ x. refl) in let b = count-none (λ d. false) 0 s.m (λ x. refl) in omega (arith, a, b)
 count-all s (DataNode e ∷ ps) distinct inside =
     let rest = count-all s ps distinct.1 inside.1 in
-    let more = count-more (λ d. list_any (λ q. same_process q (DataNode d)) ps) e 0 s.k (has-not ps (DataNode e) distinct.0) (omega arith) (let low = inside.0 in omega (arith, low)) in
+    let more = count-more (λ d. list_any (λ q. same_process q (DataNode d)) ps) e 0 s.k
+    (has-not ps (DataNode e) distinct.0) (omega arith) (let low = inside.0 in omega (arith, low)) in
     omega (arith, rest, more)
 count-all s (ParityNode i ∷ ps) distinct inside =
     let rest = count-all s ps distinct.1 inside.1 in
-    let more = count-more (λ j. list_any (λ q. same_process q (ParityNode j)) ps) i 0 s.m (has-not ps (ParityNode i) distinct.0) (omega arith) (let low = inside.0 in omega (arith, low)) in
+    let more = count-more (λ j. list_any (λ q. same_process q (ParityNode j)) ps) i 0 s.m
+    (has-not ps (ParityNode i) distinct.0) (omega arith) (let low = inside.0 in omega (arith, low)) in
     omega (arith, rest, more)
 
 numbers-map : (f : ℕ → List ℕ) (xs : List ℕ) → numbers_of (map (λ x. record { number = x; bytes = f x }) xs) ≡ xs
 numbers-map f [] = refl
 numbers-map f (x ∷ xs) = ap (λ (rest : List ℕ). x ∷ rest) (numbers-map f xs)
 
-module _ (s : Dimensions) (ps : List ProcessId) (space : ProcessId → List ℕ) (shaped : IsShape s) (many : length ps ≡ s.k) (distinct : AreDistinct ps) (inside : Each (IsProcess s) ps) where
+module _ (s : Dimensions) (ps : List ProcessId) (space : ProcessId → List ℕ) (shaped : IsShape s)
+    (many : length ps ≡ s.k) (distinct : AreDistinct ps) (inside : Each (IsProcess s) ps) where
   known : List Column
   known = map (λ d. record { number = d; bytes = space (DataNode d) }) (data_in s ps)
 
@@ -130,7 +142,10 @@ module _ (s : Dimensions) (ps : List ProcessId) (space : ProcessId → List ℕ)
     processes = let a = shaped.k in let b = shaped.m in omega (arith, a, b);
     partitions = subst (λ (xs : List ℕ). IsEachBelow s.k (lost ++ xs)) (sym known_are)
         (each-below-of s.k lost (data_in s ps) (differ-rising lost (rising-filtered _ s.k)) (differ-rising (data_in s ps) (rising-filtered _ s.k))
-        (λ x out there. let a = (among-filter (λ d. not (list_any (λ q. same_process q (DataNode d)) ps)) x (range_with_len 0 s.k) out).1 in let b = (among-filter (λ d. list_any (λ q. same_process q (DataNode d)) ps) x (range_with_len 0 s.k) there).1 in cc (a, ap not b))
+        (λ x out there. let a = (among-filter (λ d. not (list_any (λ q. same_process q (DataNode d)) ps)) x
+        (range_with_len 0 s.k) out).1 in
+        let b = (among-filter (λ d. list_any (λ q. same_process q (DataNode d)) ps) x (range_with_len 0 s.k) there).1
+        in cc (a, ap not b))
         (filtered-below _ s.k) (filtered-below _ s.k) (λ d below. either d below (list_any (λ q. same_process q (DataNode d)) ps) refl));
     different = subst AreDifferent (sym rows_are) (differ-pairs (parity_in s ps) (differ-rising (parity_in s ps) (rising-filtered _ s.m)));
     below = subst (All (λ i. i < s.m)) (sym rows_are) (all-each (λ i. i < s.m) (parity_in s ps) (filtered-below _ s.m));
@@ -143,28 +158,39 @@ module _ (s : Dimensions) (ps : List ProcessId) (space : ProcessId → List ℕ)
     either : (d : ℕ) → d < s.k → (b : Bool) → list_any (λ q. same_process q (DataNode d)) ps ≡ b
         → Among d (filter (λ e. not (list_any (λ q. same_process q (DataNode e)) ps)) (range_with_len 0 s.k)) ⊎ Among d
         (filter (λ e. list_any (λ q. same_process q (DataNode e)) ps) (range_with_len 0 s.k))
-    either d below true is = inr (filter-among (λ e. list_any (λ q. same_process q (DataNode e)) ps) d (range_with_len 0 s.k) (among-range d 0 s.k (omega arith) (omega (arith, below))) is)
+    either d below true is =
+        inr (filter-among (λ e. list_any (λ q. same_process q (DataNode e)) ps) d (range_with_len 0 s.k)
+        (among-range d 0 s.k (omega arith) (omega (arith, below))) is)
     either d below false is =
-        inl (filter-among (λ e. not (list_any (λ q. same_process q (DataNode e)) ps)) d (range_with_len 0 s.k) (among-range d 0 s.k (omega arith) (omega (arith, below))) (ap not is))
+        inl (filter-among (λ e. not (list_any (λ q. same_process q (DataNode e)) ps)) d (range_with_len 0 s.k)
+        (among-range d 0 s.k (omega arith) (omega (arith, below))) (ap not is))
 
   agrees : (cs : List (List ℕ)) → AreSpaces s cs → Each (λ p. SpaceIs s cs p (space p)) ps → Agree s.k s.m (space_of s) rows known cs
   unfolding known rows data_in parity_in
   agrees cs are fit = record {
     many = are.many;
     long = are.long;
-    holds = all-each (λ c. get_or cs c.number [] ≡ c.bytes) known (each-map (λ c. get_or cs c.number [] ≡ c.bytes) (λ d. record { number = d; bytes = space (DataNode d) }) (data_in s ps)
+    holds = all-each (λ c. get_or cs c.number [] ≡ c.bytes) known
+        (each-map (λ c. get_or cs c.number [] ≡ c.bytes) (λ d. record { number = d; bytes = space (DataNode d) })
+        (data_in s ps)
         (among-each (λ d. get_or cs d [] ≡ space (DataNode d)) (data_in s ps) (λ d there.
-        get_or_from_slice_get cs d (space (DataNode d)) [] (has-each (λ p. SpaceIs s cs p (space p)) ps (DataNode d) (among-filter (λ e. list_any (λ q. same_process q (DataNode e)) ps) d (range_with_len 0 s.k) there).1 fit))));
+        get_or_from_slice_get cs d (space (DataNode d)) []
+        (has-each (λ p. SpaceIs s cs p (space p)) ps (DataNode d)
+        (among-filter (λ e. list_any (λ q. same_process q (DataNode e)) ps) d (range_with_len 0 s.k) there).1 fit))));
     codes =
         all-each (λ c. c.bytes ≡ coded s.m c.number (space_of s) cs) rows
         (each-map (λ c. c.bytes ≡ coded s.m c.number (space_of s) cs) (λ i. record { number = i; bytes = space (ParityNode i) }) (parity_in s ps)
         (among-each (λ i. space (ParityNode i) ≡ coded s.m i (space_of s) cs) (parity_in s ps) (λ i there.
-        has-each (λ p. SpaceIs s cs p (space p)) ps (ParityNode i) (among-filter (λ e. list_any (λ q. same_process q (ParityNode e)) ps) i (range_with_len 0 s.m) there).1 fit)));
+        has-each (λ p. SpaceIs s cs p (space p)) ps (ParityNode i)
+        (among-filter (λ e. list_any (λ q. same_process q (ParityNode e)) ps) i (range_with_len 0 s.m) there).1
+        fit)));
   }
 
-  pub determined : (cs others : List (List ℕ)) → AreSpaces s cs → AreSpaces s others → Each (λ p. SpaceIs s cs p (space p)) ps → Each (λ p. SpaceIs s others p (space p)) ps → others ≡ cs
+  pub determined : (cs others : List (List ℕ)) → AreSpaces s cs → AreSpaces s others
+      → Each (λ p. SpaceIs s cs p (space p)) ps → Each (λ p. SpaceIs s others p (space p)) ps → others ≡ cs
   determined cs others are others_are fit others_fit =
       only_one_agrees s.k s.m (space_of s) lost rows known cs others can are.bytes others_are.bytes (agrees cs are fit) (agrees others others_are others_fit)
 
 pub spaces_determine : SpacesDetermine
-spaces_determine s ps space cs others shaped many distinct inside are others_are fit others_fit = determined s ps space shaped many distinct inside cs others are others_are fit others_fit
+spaces_determine s ps space cs others shaped many distinct inside are others_are fit others_fit =
+    determined s ps space shaped many distinct inside cs others are others_are fit others_fit

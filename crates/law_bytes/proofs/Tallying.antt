@@ -1,5 +1,6 @@
 -- What a process makes of each message, and of each call: how a session's tokens change.
-use Rattle.std.proofs.Common.{◌≡◌, ℕ, suc, ◌+◌, ◌<◌, ◌≤◌, ◌==◌, ◌&&◌, nat_le, Bool, true, false, not, List, [], ◌∷◌, length, filter, find, Option, Some, None, ◌⊎◌, inl, inr, sym, ap, subst, ◌∙◌, refl, arith}
+use Rattle.std.proofs.Common.{◌≡◌, ℕ, suc, ◌+◌, ◌<◌, ◌≤◌, ◌==◌, ◌&&◌, nat_le, Bool, true, false, not, List, [], ◌∷◌}
+use Rattle.std.proofs.Common.{length, filter, find, Option, Some, None, ◌⊎◌, inl, inr, sym, ap, subst, ◌∙◌, refl, arith}
 use Rattle.std.specs.List.{list_any, range_with_len}
 use Rattle.group_types.specs.Dimensions.{Dimensions, space_of}
 use Rattle.group_types.specs.Hash.{home_of}
@@ -18,8 +19,10 @@ use Rattle.group_message.specs.declared.update.Update.{Update}
 use Rattle.group_calls.specs.Turns.{CallName}
 use Rattle.group_calls.specs.declared.decision.Decision.{Decision}
 use Rattle.group_calls.specs.declared.decision.Decision.TheVariants as decides
-use Rattle.group_run.specs.Applying.{ProcessStep, and_then, apply_to, for_each, head_at, held_at, quiet, replica_of, sending, when, with_head, with_held, with_replica}
-use Rattle.group_run.specs.Asking.{Oldest, act_on, ask_head, collect_from, collect_held, found_at, handed_out, holding, is_call, issued, oldest_inherited, retry_block, ticketed, update_of}
+use Rattle.group_run.specs.Applying.{ProcessStep, and_then, apply_to, for_each, head_at, held_at, quiet, replica_of}
+use Rattle.group_run.specs.Applying.{sending, when, with_head, with_held, with_replica}
+use Rattle.group_run.specs.Asking.{Oldest, act_on, ask_head, collect_from, collect_held, found_at, handed_out, holding}
+use Rattle.group_run.specs.Asking.{is_call, issued, oldest_inherited, retry_block, ticketed, update_of}
 use Rattle.group_run.specs.Deciding.{decide}
 use Rattle.group_run.specs.Heading.{acknowledge, acknowledged, judge, tell_stable, tell_stables, to_others}
 use Rattle.group_run.specs.Leaders.{lost_of, mark_comes, open_session, own_mark, session_opened, session_starts, start_session}
@@ -33,7 +36,9 @@ use Rattle.law_moves.proofs.Calls.{Owes, Seated, step-treats}
 use Rattle.law_moves.proofs.Cores.{SentWell}
 use Rattle.law_bytes.proofs.Unasked.{never-asks}
 use Rattle.law_bytes.proofs.Tokens.{Token, block_way, is_kept_in, is_marked_in, is_token, marks_way, of_session, one_if, row_way}
-use Rattle.law_bytes.proofs.Local.{Fact, Fewer, Gains, Silent, fewer-apply, fewer-at, fewer-ceased, fewer-self, fewer-trans, gains-fewer, gains-from, gains-judge, gains-more, gains-notice, gains-then, gains-when, silent-others}
+use Rattle.law_bytes.proofs.Local.{Fact, Fewer, Gains, Silent, fewer-apply, fewer-at, fewer-ceased, fewer-self}
+use Rattle.law_bytes.proofs.Local.{fewer-trans, gains-fewer, gains-from, gains-judge, gains-more, gains-notice}
+use Rattle.law_bytes.proofs.Local.{gains-then, gains-when, silent-others}
 use Rattle.law_bytes.proofs.Marks.{same_session, session-cases}
 use Rattle.law_bytes.proofs.Starting.{block-gains, read-gains, start-last, start-new, start-other, started}
 use Rattle.law_bytes.proofs.Taking.{mark-gains, row-gains}
@@ -71,46 +76,66 @@ module _ (s : Dimensions) (t : Token) (below : t.partition < s.k) where
 
   pub receive-gains : (x : ProcessId) (m : Message) (p : Process) → Fact m → ComesTo x m p.name → Gains t p (receive s x m p) (one_if (is_token t x p.name m))
   receive-gains x (tells.Update r d u stable) p fact comes =
-      from-none x p (tells.Update r d u stable) _ (gains-when t (nat_le (at 0 p.ranks d.0) r.0) p (ack_to x r.0 d.0 u.number (update_taken s d.0 u stable p)) 0 (λ is.
+      from-none x p (tells.Update r d u stable) _
+      (gains-when t (nat_le (at 0 p.ranks d.0) r.0) p (ack_to x r.0 d.0 u.number (update_taken s d.0 u stable p)) 0
+      (λ is.
       let q : Process = apply_to s d.0 stable p in
       gains-fewer t p (ack_to x r.0 d.0 u.number (update_taken s d.0 u stable p))
-      (fewer-trans t p q (with_replica d.0 (with_update u (replica_of q d.0)) q) (fewer-apply t s d.0 stable p) (same-tokens q (with_replica d.0 (with_update u (replica_of q d.0)) q) refl refl refl)) (tt, tt)))
+      (fewer-trans t p q (with_replica d.0 (with_update u (replica_of q d.0)) q) (fewer-apply t s d.0 stable p)
+      (same-tokens q (with_replica d.0 (with_update u (replica_of q d.0)) q) refl refl refl)) (tt, tt)))
   receive-gains (DataNode e) (tells.Ack r d n) p fact comes = gains-fewer t p (quiet p) (fewer-self t p) tt
   receive-gains (ParityNode i) (tells.Ack r d n) p fact comes = acked-gains p i r.0 d.0 n (head_at p d.0)
   receive-gains x (tells.Stable r d n) p fact comes =
       from-none x p (tells.Stable r d n) _
-      (gains-when t (nat_le (at 0 p.ranks d.0) r.0) p (quiet (apply_to s d.0 n p)) 0 (λ is. gains-fewer t p (quiet (apply_to s d.0 n p)) (fewer-apply t s d.0 n p) tt))
+      (gains-when t (nat_le (at 0 p.ranks d.0) r.0) p (quiet (apply_to s d.0 n p)) 0
+      (λ is. gains-fewer t p (quiet (apply_to s d.0 n p)) (fewer-apply t s d.0 n p) tt))
   receive-gains x (tells.Adopt r d base list) p fact comes =
-      from-none x p (tells.Adopt r d base list) _ (gains-when t (nat_le (at 0 p.ranks d.0) r.0) p (ack_to x r.0 d.0 (base + length list) (log_adopted s r.0 d.0 base list p)) 0 (λ is.
+      from-none x p (tells.Adopt r d base list) _
+      (gains-when t (nat_le (at 0 p.ranks d.0) r.0) p
+      (ack_to x r.0 d.0 (base + length list) (log_adopted s r.0 d.0 base list p)) 0 (λ is.
       let ranked : Process = with_rank d.0 r.0 p in
       let q : Process = apply_to s d.0 base ranked in
       gains-fewer t p (ack_to x r.0 d.0 (base + length list) (log_adopted s r.0 d.0 base list p))
-      (fewer-trans t p ranked _ (same-tokens p ranked refl refl refl) (fewer-trans t ranked q _ (fewer-apply t s d.0 base ranked) (same-tokens q (with_replica d.0 (adopting base list (replica_of q d.0)) q) refl refl refl))) (tt, tt)))
+      (fewer-trans t p ranked _ (same-tokens p ranked refl refl refl)
+      (fewer-trans t ranked q _ (fewer-apply t s d.0 base ranked)
+      (same-tokens q (with_replica d.0 (adopting base list (replica_of q d.0)) q) refl refl refl))) (tt, tt)))
   receive-gains x (tells.ReadBlock session block rows) p fact comes = by p.name refl comes.1 where
-    by : (y : ProcessId) → p.name ≡ y → IsData y → Gains t p (read_comes s session block rows p y) (one_if (of_session t session && same_process y (DataNode t.partition)))
+    by : (y : ProcessId) → p.name ≡ y → IsData y → Gains t p (read_comes s session block rows p y)
+        (one_if (of_session t session && same_process y (DataNode t.partition)))
     by (DataNode e) is data_here = read-gains s t session block rows p e is comes.0 fact
     by (ParityNode i) is data_here = elim data_here [ ]
   receive-gains (DataNode e) (tells.Block session bytes n) p fact comes = by session.leader refl where
-    by : (y : ProcessId) → session.leader ≡ y → Gains t p (receive s (DataNode e) (tells.Block session bytes n) p) (one_if (of_session t session && block_way t.way t.partition (DataNode e)))
+    by : (y : ProcessId) → session.leader ≡ y → Gains t p (receive s (DataNode e) (tells.Block session bytes n) p)
+        (one_if (of_session t session && block_way t.way t.partition (DataNode e)))
     by (ParityNode l) is =
         subst
-        (λ (z : ProcessId). Gains t p (receive s (DataNode e) (tells.Block session bytes n) p) (one_if ((same_process z (ParityNode t.leader) && session.number == t.number) && block_way t.way t.partition (DataNode e))))
+        (λ (z : ProcessId). Gains t p (receive s (DataNode e) (tells.Block session bytes n) p)
+        (one_if ((same_process z (ParityNode t.leader) && session.number == t.number) && block_way t.way t.partition
+        (DataNode e))))
         (sym is)
         (block-gains s t l session.number e bytes p (sym comes ∙ is))
     by (DataNode d) is = absurd (subst IsParity is fact)
-  receive-gains (ParityNode i) (tells.Block session bytes n) p fact comes = from-none (ParityNode i) p (tells.Block session bytes n) (quiet p) (gains-fewer t p (quiet p) (fewer-self t p) tt)
+  receive-gains (ParityNode i) (tells.Block session bytes n) p fact comes =
+      from-none (ParityNode i) p (tells.Block session bytes n) (quiet p) (gains-fewer t p (quiet p) (fewer-self t p) tt)
   receive-gains x (tells.Mark session r block d n) p fact comes = by session.leader refl where
-    by : (y : ProcessId) → session.leader ≡ y → Gains t p (receive s x (tells.Mark session r block d n) p) (one_if (is_token t x p.name (tells.Mark session r block d n)))
+    by : (y : ProcessId) → session.leader ≡ y → Gains t p (receive s x (tells.Mark session r block d n) p)
+        (one_if (is_token t x p.name (tells.Mark session r block d n)))
     by (ParityNode l) is =
-        subst (λ (z : ProcessId). Gains t p (mark_comes s (parity_number z) session.number r.0 block d.0 n p) (one_if ((same_process z (ParityNode t.leader) && session.number == t.number) && marks_way t.way t.partition d.0 p.name))) (sym is)
+        subst (λ (z : ProcessId). Gains t p (mark_comes s (parity_number z) session.number r.0 block d.0 n p)
+        (one_if ((same_process z (ParityNode t.leader) && session.number == t.number) && marks_way t.way t.partition
+        d.0 p.name))) (sym is)
         (mark-gains s t l session.number r.0 block d.0 n p below)
     by (DataNode e) is = absurd (subst IsParity is fact)
-  receive-gains (DataNode e) (tells.Row session bytes stamp) p fact comes = from-none (DataNode e) p (tells.Row session bytes stamp) (quiet p) (gains-fewer t p (quiet p) (fewer-self t p) tt)
+  receive-gains (DataNode e) (tells.Row session bytes stamp) p fact comes =
+      from-none (DataNode e) p (tells.Row session bytes stamp) (quiet p) (gains-fewer t p (quiet p) (fewer-self t p) tt)
   receive-gains (ParityNode i) (tells.Row session bytes stamp) p fact comes = by session.leader refl where
-    by : (y : ProcessId) → session.leader ≡ y → Gains t p (receive s (ParityNode i) (tells.Row session bytes stamp) p) (one_if (of_session t session && row_way t.way (ParityNode i)))
+    by : (y : ProcessId) → session.leader ≡ y → Gains t p (receive s (ParityNode i) (tells.Row session bytes stamp) p)
+        (one_if (of_session t session && row_way t.way (ParityNode i)))
     by (ParityNode l) is =
         subst
-        (λ (z : ProcessId). Gains t p (receive s (ParityNode i) (tells.Row session bytes stamp) p) (one_if ((same_process z (ParityNode t.leader) && session.number == t.number) && row_way t.way (ParityNode i))))
+        (λ (z : ProcessId). Gains t p (receive s (ParityNode i) (tells.Row session bytes stamp) p)
+        (one_if ((same_process z (ParityNode t.leader) && session.number == t.number) && row_way t.way
+        (ParityNode i))))
         (sym is)
         (row-gains s t l session.number i bytes p (sym comes ∙ is))
     by (DataNode d) is = absurd (subst IsParity is fact)
@@ -132,10 +157,20 @@ module _ (s : Dimensions) (t : Token) (below : t.partition < s.k) where
   start-claims : (block l : ℕ) (p : Process) (name : p.name ≡ ParityNode l) → Claims p (start_session s block p)
   start-claims block l p name =
       subst
-      (λ (z : ℕ). Claims p (and_then (sending (session_starts s z (suc p.as_leader.last_session) block p) (session_opened s (suc p.as_leader.last_session) block p)) (for_each (lost_of s p) (own_mark s z (suc p.as_leader.last_session) block))))
+      (λ (z : ℕ). Claims p
+      (and_then (sending (session_starts s z (suc p.as_leader.last_session) block p)
+      (session_opened s (suc p.as_leader.last_session) block p))
+      (for_each (lost_of s p) (own_mark s z (suc p.as_leader.last_session) block))))
       (sym (ap parity_number name)) (by (session-cases t l (suc p.as_leader.last_session))) where
-        by : ((l ≡ t.leader) × (suc p.as_leader.last_session ≡ t.number)) ⊎ (same_session t l (suc p.as_leader.last_session) ≡ false) → Claims p (started s t block l p name)
-        by (inl same) = inr (record { leader = name ∙ ap ParityNode same.0; number = sym same.1; last = start-last s t block l p name below; gains = start-new s t block l p name below })
+        by : ((l ≡ t.leader) × (suc p.as_leader.last_session ≡ t.number))
+            ⊎ (same_session t l (suc p.as_leader.last_session) ≡ false) → Claims p (started s t block l p name)
+        by (inl same) =
+            inr (record {
+              leader = name ∙ ap ParityNode same.0;
+              number = sym same.1;
+              last = start-last s t block l p name below;
+              gains = start-new s t block l p name below;
+            })
         by (inr other) = inl (start-other s t block l p name other below)
 
   module _ (p : Process) (x : ProcessId) (name : p.name ≡ x) (inside : IsProcess s x) (living : knows_dead p.known x ≡ false) where
@@ -166,11 +201,13 @@ module _ (s : Dimensions) (t : Token) (below : t.partition < s.k) where
     ticketed-gains false d u step gains = record {
       name = gains.name;
       last = gains.last;
-      weighs = let a = gains.weighs in let b = fewer-at t step.process (holding d u step.process) (same-tokens step.process (holding d u step.process) refl refl refl) in omega (arith, a, b);
+      weighs = let a = gains.weighs in let b = fewer-at t step.process (holding d u step.process)
+          (same-tokens step.process (holding d u step.process) refl refl refl) in omega (arith, a, b);
       facts = gains.facts;
     }
 
-    act-claims : (call : CallName) (op : Asked) (d : ℕ) (h : Head) (decision : Decision) → SentWell Owes s.k (act_on s call op d h p decision).step.process (act_on s call op d h p decision).step.sent
+    act-claims : (call : CallName) (op : Asked) (d : ℕ) (h : Head) (decision : Decision)
+        → SentWell Owes s.k (act_on s call op d h p decision).step.process (act_on s call op d h p decision).step.sent
         → (act_on s call op d h p decision).step.process.name ≡ p.name → Claims p (act_on s call op d h p decision).step
     act-claims call op d h (decides.Answer r) well same = inl (gains-fewer t p (quiet p) (fewer-self t p) tt)
     act-claims call op d h (decides.Retry n) well same = inl (gains-fewer t p (quiet p) (fewer-self t p) tt)
@@ -180,13 +217,16 @@ module _ (s : Dimensions) (t : Token) (below : t.partition < s.k) where
         let u : Update = update_of call op d body outcome p in
         inl (ticketed-gains (nat_le u.number (replica_of (issued s d h u p).process d).applied) d u (issued s d h u p) (issued-gains d h u))
 
-    ask-claims : (call : CallName) (op : Asked) (d : ℕ) (o : Option Head) → SentWell Owes s.k (ask_head s call op d p o).step.process (ask_head s call op d p o).step.sent
+    ask-claims : (call : CallName) (op : Asked) (d : ℕ) (o : Option Head)
+        → SentWell Owes s.k (ask_head s call op d p o).step.process (ask_head s call op d p o).step.sent
         → (ask_head s call op d p o).step.process.name ≡ p.name → Claims p (ask_head s call op d p o).step
     ask-claims call op d None well same = inl (gains-fewer t p (quiet p) (fewer-self t p) tt)
     ask-claims call op d (Some h) well same = act-claims call op d h (decide (space_of s) h.inherited (replica_of p d) op (found_at s d p p.name)) well same
 
     handed-gains : (b : Bool) (d : ℕ) (h : Held) → Gains t p (handed_out b d h p).step 0
-    handed-gains true d h = gains-fewer t p (quiet _) (same-tokens p (with_held d (filter (λ y. not (is_call h.caller h.call y)) (held_at p d)) p) refl refl refl) tt
+    handed-gains true d h =
+        gains-fewer t p (quiet _)
+        (same-tokens p (with_held d (filter (λ y. not (is_call h.caller h.call y)) (held_at p d)) p) refl refl refl) tt
     handed-gains false d h = gains-fewer t p (quiet p) (fewer-self t p) tt
 
     collect-gains : (caller call : ℕ) (ds : List ℕ) → Gains t p (collect_from caller call p ds).step 0
@@ -198,14 +238,17 @@ module _ (s : Dimensions) (t : Token) (below : t.partition < s.k) where
 
     stables-silent : (ds : List ℕ) → Each (λ z. Silent z.message) (tell_stables s p ds)
     stables-silent [] = tt
-    stables-silent (d ∷ ds) = each-append (λ z. Silent z.message) (tell_stable s p d (head_at p d)) (tell_stables s p ds) (by (head_at p d)) (stables-silent ds) where
-      by : (o : Option Head) → Each (λ z. Silent z.message) (tell_stable s p d o)
-      by None = tt
-      by (Some h) = silent-others t s p _ tt
+    stables-silent (d ∷ ds) = each-append (λ z. Silent z.message) (tell_stable s p d (head_at p d))
+        (tell_stables s p ds) (by (head_at p d)) (stables-silent ds) where
+          by : (o : Option Head) → Each (λ z. Silent z.message) (tell_stable s p d o)
+          by None = tt
+          by (Some h) = silent-others t s p _ tt
 
     pub treats-claims : (step : ProcessStep) → Treats s p step → Seated s p x → Claims p step
     treats-claims _ (Asks call op bytes) seated =
         let well = step-treats s p x _ seated (Asks call op bytes) in
         ask-claims call op (home_of (key_of op.act) s.k) (head_at p (home_of (key_of op.act) s.k)) well.sent well.same.name
     treats-claims _ (Collects caller call) seated = inl (collect-gains caller call (range_with_len 0 s.k))
-    treats-claims _ Flushes seated = inl (gains-fewer t p (sending (tell_stables s p (range_with_len 0 s.k)) p) (fewer-self t p) (stables-silent (range_with_len 0 s.k)))
+    treats-claims _ Flushes seated =
+        inl (gains-fewer t p (sending (tell_stables s p (range_with_len 0 s.k)) p) (fewer-self t p)
+        (stables-silent (range_with_len 0 s.k)))

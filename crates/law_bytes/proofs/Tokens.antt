@@ -111,7 +111,8 @@ tokens s v t = sum_of (everyone s) (around s v t)
 
 -- it is at most one, and nothing of a session that its leader hasn't opened yet
 abbrev pub TokensHold : Dimensions → State → Type 0
-TokensHold s v = (t : Token) → t.partition < s.k → t.leader < s.m → tokens s v t ≤ one_if (nat_lt t.number (suc (v.process (ParityNode t.leader)).as_leader.last_session))
+TokensHold s v = (t : Token) → t.partition < s.k → t.leader < s.m
+    → tokens s v t ≤ one_if (nat_lt t.number (suc (v.process (ParityNode t.leader)).as_leader.last_session))
 
 -- so it is along every run
 abbrev pub TokensAlways : Type 0

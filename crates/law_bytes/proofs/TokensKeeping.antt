@@ -1,5 +1,6 @@
 -- Every move keeps the tokens of every session few.
-use Rattle.std.proofs.Common.{◌≡◌, ◌≢◌, ℕ, suc, ◌+◌, ◌<◌, ◌≤◌, nat_lt, Bool, true, false, None, [], ◌∷◌, take, ◌⊎◌, inl, inr, sym, ap, subst, ◌∙◌, refl, arith, if◌then◌else◌}
+use Rattle.std.proofs.Common.{◌≡◌, ◌≢◌, ℕ, suc, ◌+◌, ◌<◌, ◌≤◌, nat_lt, Bool, true, false, None, [], ◌∷◌, take, ◌⊎◌, inl}
+use Rattle.std.proofs.Common.{inr, sym, ap, subst, ◌∙◌, refl, arith, if◌then◌else◌}
 use Rattle.std.proofs.lemmas.Grind.{common_steps}
 use Rattle.group_types.specs.Dimensions.{Dimensions}
 use Rattle.group_types.specs.Names.{IsProcess, same_process}
@@ -24,7 +25,9 @@ use Rattle.law_moves.proofs.Members.{IsParity, MayStand, Members}
 use Rattle.law_moves.proofs.Keeping.{living-unknown}
 use Rattle.law_moves.proofs.Standing.{each-sent_to}
 use Rattle.law_moves.proofs.Keeping as members
-use Rattle.law_bytes.proofs.Tokens.{Own, Row, Token, TokensAlways, TokensHold, Way, around, at_process, between, everyone, in_copy, in_link, in_session, is_kept_in, is_token, one_if, sum_of, tokens}
+use Rattle.law_bytes.proofs.Tokens.{Own, Row, Token, TokensAlways, TokensHold, Way, around, at_process, between}
+use Rattle.law_bytes.proofs.Tokens.{everyone, in_copy, in_link, in_session, is_kept_in, is_token, one_if, sum_of}
+use Rattle.law_bytes.proofs.Tokens.{tokens}
 use Rattle.law_bytes.proofs.Finding.{and-split, true-false}
 use Rattle.law_bytes.proofs.Groups.{acted-tokens, died-tokens, in_sent, popped-tokens}
 use Rattle.law_bytes.proofs.Local.{Fact, Gains, bit-le}
@@ -75,11 +78,13 @@ module _ (s : Dimensions) where
   comes-to v x q (tells.Notice dead) may = tt
 
   -- the step of one process, in a group whose members are as they should be after it
-  module _ (u w : State) (p : ProcessId) (step : ProcessStep) (pin : IsProcess s p) (lives : u.dead p ≡ false) (after : Members s w) (acts : Acted s u w p step) where
+  module _ (u w : State) (p : ProcessId) (step : ProcessStep) (pin : IsProcess s p) (lives : u.dead p ≡ false)
+      (after : Members s w) (acts : Acted s u w p step) where
     pub unknown : (q : ProcessId) → IsProcess s q → q ≢ p → u.dead q ≡ false → knows_dead step.process.known q ≡ false
     unknown q qin other living =
         subst (λ (y : Process). knows_dead y.known q ≡ false) acts.process
-        (living-unknown q (w.dead q) (knows_dead (w.process p).known q) (w.link q p) (after.stands q p qin pin other (acts.dead p pin ∙ lives)) (acts.dead q qin ∙ living))
+        (living-unknown q (w.dead q) (knows_dead (w.process p).known q) (w.link q p)
+        (after.stands q p qin pin other (acts.dead p pin ∙ lives)) (acts.dead q qin ∙ living))
 
     facts-acted : LinkFacts s u → Each (λ z. Fact z.message) step.sent → LinkFacts s w
     facts-acted facts sent x q xin qin apart living = by (same-cases x p) where
@@ -92,11 +97,14 @@ module _ (s : Dimensions) where
           let other : q ≢ p = λ (same : q ≡ p). apart (is ∙ sym same) in
           subst (λ (y : ProcessId). Each Fact (w.link y q)) (sym is)
           (subst (Each Fact) (sym (acts.sends q qin (unknown q qin other lived)))
-          (each-append Fact (u.link p q) (sent_to q step.sent) (facts p q pin qin (λ same. other (sym same)) lived) (each-sent_to (λ to m. Fact m) q step.sent sent)))
+          (each-append Fact (u.link p q) (sent_to q step.sent) (facts p q pin qin (λ same. other (sym same)) lived)
+          (each-sent_to (λ to m. Fact m) q step.sent sent)))
 
     last-same : (t : Token) → t.leader < s.m → ((u.process p).as_leader.last_session ≤ step.process.as_leader.last_session) → last_of u t ≤ last_of w t
     last-same t inside rises = by (same-cases (ParityNode t.leader) p) where
-      by : (ParityNode t.leader ≡ p) ⊎ (ParityNode t.leader ≢ p) → (u.process (ParityNode t.leader)).as_leader.last_session ≤ (w.process (ParityNode t.leader)).as_leader.last_session
+      by : (ParityNode t.leader ≡ p) ⊎ (ParityNode t.leader ≢ p)
+          → (u.process (ParityNode t.leader)).as_leader.last_session
+          ≤ (w.process (ParityNode t.leader)).as_leader.last_session
       by (inl is) =
           subst (λ (y : ProcessId). (u.process y).as_leader.last_session ≤ (w.process y).as_leader.last_session) (sym is)
           (let now = ap (λ (y : Process). y.as_leader.last_session) acts.process in omega (arith, now, rises))
@@ -112,7 +120,12 @@ module _ (s : Dimensions) where
   treated : (v w : State) (p : ProcessId) (step : ProcessStep) → IsShape s → IsProcess s p → v.dead p ≡ false → Treats s (v.process p) step → Carried s v
       → Members s w → Acted s v w p step → Carried s w
   treated v w p step shaped pin lives treats carried after acts =
-      record { members = after; facts = facts_after; tokens = λ t below inside. by t below inside (claims t below); strangers = λ t below outside. out t below outside (claims t below) } where
+      record {
+        members = after;
+        facts = facts_after;
+        tokens = λ t below inside. by t below inside (claims t below);
+        strangers = λ t below outside. out t below outside (claims t below);
+      } where
         some : 0 < s.k
         some = let first = shaped.k in omega (arith, first)
 
@@ -142,10 +155,14 @@ module _ (s : Dimensions) where
             let less = acted-gains v w p step pin lives after acts t 1 (carried.members.named p pin) opens.gains in
             let leads : ParityNode t.leader ≡ p = sym opens.leader ∙ carried.members.named p pin in
             let before = carried.tokens t below inside in
-            let last_before : (v.process (ParityNode t.leader)).as_leader.last_session ≡ (v.process p).as_leader.last_session = ap (λ (y : ProcessId). (v.process y).as_leader.last_session) leads in
-            let last_after : (w.process (ParityNode t.leader)).as_leader.last_session ≡ step.process.as_leader.last_session = ap (λ (y : ProcessId). (w.process y).as_leader.last_session) leads
+            let last_before : (v.process (ParityNode t.leader)).as_leader.last_session
+            ≡ (v.process p).as_leader.last_session = ap (λ (y : ProcessId). (v.process y).as_leader.last_session)
+            leads in
+            let last_after : (w.process (ParityNode t.leader)).as_leader.last_session
+            ≡ step.process.as_leader.last_session = ap (λ (y : ProcessId). (w.process y).as_leader.last_session) leads
             ∙ ap (λ (y : Process). y.as_leader.last_session) acts.process in
-            let none : one_if (nat_lt t.number (suc (v.process (ParityNode t.leader)).as_leader.last_session)) ≡ 0 = ap (λ (k : ℕ). one_if (nat_lt t.number (suc k))) last_before
+            let none : one_if (nat_lt t.number (suc (v.process (ParityNode t.leader)).as_leader.last_session)) ≡ 0 =
+            ap (λ (k : ℕ). one_if (nat_lt t.number (suc k))) last_before
             ∙ ap (λ (k : ℕ). one_if (nat_lt t.number k)) (sym opens.number) ∙ nothing-below t.number in
             let number = opens.number in
             let last = opens.last in
@@ -164,61 +181,81 @@ module _ (s : Dimensions) where
   -- a message
   received : (v u w : State) (x p : ProcessId) (m : Message) → IsShape s → IsProcess s x → IsProcess s p → x ≢ p → v.dead p ≡ false → Carried s v → Members s w
       → Popped s v u x p m → Acted s u w p (receive s x m (v.process p)) → Carried s w
-  received v u w x p m shaped xin pin apart lives carried after pops acts = record { members = after; facts = facts_after; tokens = λ t below inside. by t below inside; strangers = out } where
-    step : ProcessStep
-    step = receive s x m (v.process p)
+  received v u w x p m shaped xin pin apart lives carried after pops acts =
+      record {
+        members = after;
+        facts = facts_after;
+        tokens = λ t below inside. by t below inside;
+        strangers = out;
+      } where
+        step : ProcessStep
+        step = receive s x m (v.process p)
 
-    lived : u.dead p ≡ false
-    lived = pops.dead p pin ∙ lives
+        lived : u.dead p ≡ false
+        lived = pops.dead p pin ∙ lives
 
-    may : MayStand s v x p m
-    may = (subst (Each (MayStand s v x p)) pops.first (carried.members.may x p xin pin apart lives)).0
+        may : MayStand s v x p m
+        may = (subst (Each (MayStand s v x p)) pops.first (carried.members.may x p xin pin apart lives)).0
 
-    fact : Fact m
-    fact = (subst (Each Fact) pops.first (carried.facts x p xin pin apart lives)).0
+        fact : Fact m
+        fact = (subst (Each Fact) pops.first (carried.facts x p xin pin apart lives)).0
 
-    name : (v.process p).name ≡ p
-    name = carried.members.named p pin
+        name : (v.process p).name ≡ p
+        name = carried.members.named p pin
 
-    gains : (t : Token) → t.partition < s.k → Gains t (u.process p) step (one_if (is_token t x p m))
-    gains t below =
-        subst (λ (y : ProcessId). Gains t (u.process p) step (one_if (is_token t x y m))) name
-        (subst (λ (y : Process). Gains t y step (one_if (is_token t x (v.process p).name m))) (sym (pops.processes p pin)) (receive-gains s t below x m (v.process p) fact (subst (ComesTo x m) (sym name) (comes-to v x p m may))))
+        gains : (t : Token) → t.partition < s.k → Gains t (u.process p) step (one_if (is_token t x p m))
+        gains t below =
+            subst (λ (y : ProcessId). Gains t (u.process p) step (one_if (is_token t x y m))) name
+            (subst (λ (y : Process). Gains t y step (one_if (is_token t x (v.process p).name m)))
+            (sym (pops.processes p pin))
+            (receive-gains s t below x m (v.process p) fact (subst (ComesTo x m) (sym name) (comes-to v x p m may))))
 
-    popped_facts : LinkFacts s u
-    popped_facts y q yin qin between_two living = cases (same-cases y x) (same-cases q p) where
-      before : Each Fact (v.link y q)
-      before = carried.facts y q yin qin between_two (sym (pops.dead q qin) ∙ living)
+        popped_facts : LinkFacts s u
+        popped_facts y q yin qin between_two living = cases (same-cases y x) (same-cases q p) where
+          before : Each Fact (v.link y q)
+          before = carried.facts y q yin qin between_two (sym (pops.dead q qin) ∙ living)
 
-      cases : (y ≡ x) ⊎ (y ≢ x) → (q ≡ p) ⊎ (q ≢ p) → Each Fact (u.link y q)
-      cases (inr other) _ = subst (Each Fact) (sym (pops.links y q yin qin (inl other))) before
-      cases (inl is) (inr other) = subst (Each Fact) (sym (pops.links y q yin qin (inr other))) before
-      cases (inl is) (inl here) =
-          subst (λ (z : ProcessId). Each Fact (u.link z q)) (sym is) (subst (λ (z : ProcessId). Each Fact (u.link x z)) (sym here)
-          ((subst (Each Fact) pops.first (carried.facts x p xin pin apart lives)).1))
+          cases : (y ≡ x) ⊎ (y ≢ x) → (q ≡ p) ⊎ (q ≢ p) → Each Fact (u.link y q)
+          cases (inr other) _ = subst (Each Fact) (sym (pops.links y q yin qin (inl other))) before
+          cases (inl is) (inr other) = subst (Each Fact) (sym (pops.links y q yin qin (inr other))) before
+          cases (inl is) (inl here) =
+              subst (λ (z : ProcessId). Each Fact (u.link z q)) (sym is) (subst (λ (z : ProcessId). Each Fact (u.link x z)) (sym here)
+              ((subst (Each Fact) pops.first (carried.facts x p xin pin apart lives)).1))
 
-    facts_after : LinkFacts s w
-    facts_after = facts-acted u w p step pin lived after acts popped_facts (gains (record { leader = 0; number = 0; partition = 0; way = Own }) (let first = shaped.k in omega (arith, first))).facts
+        facts_after : LinkFacts s w
+        facts_after = facts-acted u w p step pin lived after acts popped_facts
+            (gains (record { leader = 0; number = 0; partition = 0; way = Own }) (let first = shaped.k in
+            omega (arith, first))).facts
 
-    by : (t : Token) (below : t.partition < s.k) → t.leader < s.m → tokens s w t ≤ one_if (nat_lt t.number (suc (w.process (ParityNode t.leader)).as_leader.last_session))
-    by t below inside =
-        let less = acted-gains u w p step pin lived after acts t (one_if (is_token t x p m)) (ap (λ (y : Process). y.name) (pops.processes p pin) ∙ name) (gains t below) in
-        let popped = popped-tokens s t v u x p m xin pin apart lives pops in
-        let before = carried.tokens t below inside in
-        let rises = last-same u w p step pin lived after acts t inside (gains t below).last in
-        let same = ap (λ (y : Process). y.as_leader.last_session) (pops.processes (ParityNode t.leader) inside) in
-        let more = below-more t.number (suc (v.process (ParityNode t.leader)).as_leader.last_session) (suc (w.process (ParityNode t.leader)).as_leader.last_session) (omega (arith, rises, same)) in
-        omega (arith, less, popped, before, more)
+        by : (t : Token) (below : t.partition < s.k) → t.leader < s.m
+            → tokens s w t ≤ one_if (nat_lt t.number (suc (w.process (ParityNode t.leader)).as_leader.last_session))
+        by t below inside =
+            let less = acted-gains u w p step pin lived after acts t (one_if (is_token t x p m))
+            (ap (λ (y : Process). y.name) (pops.processes p pin) ∙ name) (gains t below) in
+            let popped = popped-tokens s t v u x p m xin pin apart lives pops in
+            let before = carried.tokens t below inside in
+            let rises = last-same u w p step pin lived after acts t inside (gains t below).last in
+            let same = ap (λ (y : Process). y.as_leader.last_session) (pops.processes (ParityNode t.leader) inside) in
+            let more = below-more t.number (suc (v.process (ParityNode t.leader)).as_leader.last_session)
+            (suc (w.process (ParityNode t.leader)).as_leader.last_session) (omega (arith, rises, same)) in
+            omega (arith, less, popped, before, more)
 
-    out : (t : Token) → t.partition < s.k → s.m ≤ t.leader → tokens s w t ≤ 0
-    out t below outside =
-        let less = acted-gains u w p step pin lived after acts t (one_if (is_token t x p m)) (ap (λ (y : Process). y.name) (pops.processes p pin) ∙ name) (gains t below) in
-        let popped = popped-tokens s t v u x p m xin pin apart lives pops in
-        let before = carried.strangers t below outside in
-        omega (arith, less, popped, before)
+        out : (t : Token) → t.partition < s.k → s.m ≤ t.leader → tokens s w t ≤ 0
+        out t below outside =
+            let less = acted-gains u w p step pin lived after acts t (one_if (is_token t x p m))
+            (ap (λ (y : Process). y.name) (pops.processes p pin) ∙ name) (gains t below) in
+            let popped = popped-tokens s t v u x p m xin pin apart lives pops in
+            let before = carried.strangers t below outside in
+            omega (arith, less, popped, before)
 
   died : (v w : State) (p : ProcessId) (keep : ℕ) → IsProcess s p → Carried s v → Members s w → Died s v w p keep → Carried s w
-  died v w p keep pin carried after dies = record { members = after; facts = facts_after; tokens = few; strangers = λ t below outside. (let less = died-tokens s t v w p keep pin dies in let before = carried.strangers t below outside in omega (arith, less, before)) } where
+  died v w p keep pin carried after dies = record {
+    members = after;
+    facts = facts_after;
+    tokens = few;
+    strangers = λ t below outside. (let less = died-tokens s t v w p keep pin dies in
+        let before = carried.strangers t below outside in omega (arith, less, before));
+  } where
     facts_after : LinkFacts s w
     facts_after x q xin qin apart living = by (same-cases x p) where
       other : q ≢ p
@@ -230,7 +267,8 @@ module _ (s : Dimensions) where
       by : (x ≡ p) ⊎ (x ≢ p) → Each Fact (w.link x q)
       by (inr from) = subst (Each Fact) (sym (dies.links x q xin qin from)) (carried.facts x q xin qin apart lived)
       by (inl is) = subst (λ (y : ProcessId). Each Fact (w.link y q)) (sym is) (subst (Each Fact) (sym (dies.cut q qin))
-          (each-append Fact (take keep (v.link p q)) (tells.Notice p ∷ []) (each-take Fact keep (v.link p q) (carried.facts p q pin qin (λ same. other (sym same)) lived)) (tt, tt)))
+          (each-append Fact (take keep (v.link p q)) (tells.Notice p ∷ [])
+          (each-take Fact keep (v.link p q) (carried.facts p q pin qin (λ same. other (sym same)) lived)) (tt, tt)))
 
     few : TokensHold s w
     few t below inside =
@@ -244,7 +282,9 @@ module _ (s : Dimensions) where
   opening-none t p =
       let a : one_if (in_copy t t.way (opening_process s p)) ≡ 0 = ap one_if (copy t.way) in
       let b : one_if (in_session t (opening_process s p)) ≡ 0 = ap one_if
-      (true-false (in_session t (opening_process s p)) (λ is. cc (sym (and-split (same_process p (ParityNode t.leader)) (is_kept_in t.way t.partition None) is).1 ∙ kept t.way))) in
+      (true-false (in_session t (opening_process s p))
+      (λ is. cc (sym (and-split (same_process p (ParityNode t.leader)) (is_kept_in t.way t.partition None) is).1
+      ∙ kept t.way))) in
       omega (arith, a, b)
     where
       copy : (w : Way) → in_copy t w (opening_process s p) ≡ false
@@ -280,7 +320,8 @@ module _ (s : Dimensions) where
   pub keeps : IsShape s → Keeps s (Carried s)
   keeps shaped = record {
     opens = λ v starts. opens v (kept.opens v starts) starts;
-    treats = λ v w p t pin up lives treats carried acts. treated v w p t shaped pin lives treats carried (kept.treats v w p t pin up lives treats carried.members acts) acts;
+    treats = λ v w p t pin up lives treats carried acts. treated v w p t shaped pin lives treats carried
+        (kept.treats v w p t pin up lives treats carried.members acts) acts;
     receives = λ v u w x p m xin pin apart up lives carried pops acts.
         received v u w x p m shaped xin pin apart lives carried (kept.receives v u w x p m xin pin apart up lives carried.members pops acts) pops acts;
     dies = λ v w p keep pin carried dies. died v w p keep pin carried (kept.dies v w p keep pin carried.members dies) dies;

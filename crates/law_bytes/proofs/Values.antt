@@ -1,5 +1,6 @@
 -- What updates leave at an address: values and code are sums over the updates.
-use Rattle.std.proofs.Common.{◌≡◌, ◌≢◌, ℕ, ◌+◌, ◌-◌, ◌<◌, ◌≤◌, ◌*◌, ◌==◌, List, [], ◌∷◌, ◌++◌, length, get_or, bit_xor, All, ◌⊎◌, inl, inr, sym, ap, subst, ◌∙◌, refl, arith, if◌then◌else◌}
+use Rattle.std.proofs.Common.{◌≡◌, ◌≢◌, ℕ, ◌+◌, ◌-◌, ◌<◌, ◌≤◌, ◌*◌, ◌==◌, List, [], ◌∷◌, ◌++◌, length, get_or, bit_xor}
+use Rattle.std.proofs.Common.{All, ◌⊎◌, inl, inr, sym, ap, subst, ◌∙◌, refl, arith, if◌then◌else◌}
 use Rattle.std.specs.Int.Bits.{xor_assoc, xor_zero_l, xor_zero_r}
 use Rattle.std.proofs.lemmas.Bool.{cases_eq, cases_lt, eq-eqb, ne_eqb}
 use Rattle.std.proofs.lemmas.List.{get_or_past}
@@ -76,7 +77,8 @@ delta-byte s (DataNode e) d delta i = refl
 delta-byte s (ParityNode j) d delta i = get_or-scale (coefficient s.m j d) delta i
 
 -- a process adds its share of a difference
-shifted-share : (s : Dimensions) (name : ProcessId) (d at : ℕ) (delta : List ℕ) (x : ℕ) → shifted at (coded_delta s name d delta) x ≡ share s name d (shifted at delta x)
+shifted-share : (s : Dimensions) (name : ProcessId) (d at : ℕ) (delta : List ℕ) (x : ℕ)
+    → shifted at (coded_delta s name d delta) x ≡ share s name d (shifted at delta x)
 shifted-share s name d at delta x = by (cases_lt x at) where
   by : (x < at) ⊎ (at ≤ x) → shifted at (coded_delta s name d delta) x ≡ share s name d (shifted at delta x)
   by (inl early) = shifted-before at (coded_delta s name d delta) x early ∙ sym (ap (share s name d) (shifted-before at delta x early) ∙ share-zero s name d)
@@ -124,7 +126,8 @@ module _ (s : Dimensions) (name : ProcessId) (d : ℕ) where
   shares u us x first rest = sym (share-sum s name d (change u.body x) (value us x) (change-byte u.body x first.bytes) (value-byte s us x rest))
 
   -- a space after updates of one partition
-  pub space-added : (us : List Update) (space : List ℕ) → length space ≡ space_of s → Each (WritesBytes s) us → IsAdded (λ x. share s name d (value us x)) space (space_after s name d us space)
+  pub space-added : (us : List Update) (space : List ℕ) → length space ≡ space_of s → Each (WritesBytes s) us
+      → IsAdded (λ x. share s name d (value us x)) space (space_after s name d us space)
   space-added [] space long write = added-nothing (λ x. share s name d 0) space (λ x. share-zero s name d)
   space-added (u ∷ us) space long write =
       let one : IsAdded (λ x. share s name d (change u.body x)) space (space_added s name d u.body space) = space-one u.body space long u refl write.0 in
@@ -135,17 +138,20 @@ module _ (s : Dimensions) (name : ProcessId) (d : ℕ) where
   block-one : (b : ℕ) (body : Body) (bytes : List ℕ) → IsAdded (λ x. share s name d (change body (b * s.block + x))) bytes (block_added s name d b body bytes)
   block-one b (Put flags until run delta) bytes = record {
     long = area_long (b * s.block) run.at (coded_delta s name d delta) bytes;
-    bytes = λ x below. area_byte (b * s.block) run.at (coded_delta s name d delta) bytes x below ∙ ap (bit_xor (get_or bytes x 0)) (shifted-share s name d run.at delta (b * s.block + x));
+    bytes = λ x below. area_byte (b * s.block) run.at (coded_delta s name d delta) bytes x below
+        ∙ ap (bit_xor (get_or bytes x 0)) (shifted-share s name d run.at delta (b * s.block + x));
   }
   block-one b Remove bytes = added-nothing (λ x. share s name d 0) bytes (λ x. share-zero s name d)
   block-one b (Touch until) bytes = added-nothing (λ x. share s name d 0) bytes (λ x. share-zero s name d)
 
   -- a block after updates of one partition
-  pub block-added : (b : ℕ) (us : List Update) (bytes : List ℕ) → Each (WritesBytes s) us → IsAdded (λ x. share s name d (value us (b * s.block + x))) bytes (block_after s name d b us bytes)
+  pub block-added : (b : ℕ) (us : List Update) (bytes : List ℕ) → Each (WritesBytes s) us
+      → IsAdded (λ x. share s name d (value us (b * s.block + x))) bytes (block_after s name d b us bytes)
   block-added b [] bytes write = added-nothing (λ x. share s name d 0) bytes (λ x. share-zero s name d)
   block-added b (u ∷ us) bytes write =
       let one : IsAdded (λ x. share s name d (change u.body (b * s.block + x))) bytes (block_added s name d b u.body bytes) = block-one b u.body bytes in
-      added-both (λ x. share s name d (change u.body (b * s.block + x))) (λ x. share s name d (value us (b * s.block + x))) (λ x. share s name d (value (u ∷ us) (b * s.block + x)))
+      added-both (λ x. share s name d (change u.body (b * s.block + x)))
+      (λ x. share s name d (value us (b * s.block + x))) (λ x. share s name d (value (u ∷ us) (b * s.block + x)))
       bytes (block_added s name d b u.body bytes) (block_after s name d b (u ∷ us) bytes)
       (λ x. shares u us (b * s.block + x) write.0 write.1) one (block-added b us (block_added s name d b u.body bytes) write.1)
 
@@ -162,7 +168,8 @@ Concerns s (DataNode e) d = (d ≡ e) × (d < s.k)
 Concerns s (ParityNode i) d = d < s.k
 
 -- a term that changes in a sum
-sum-changed : (n d : ℕ) (f g : ℕ → ℕ) (y : ℕ) → d < n → g d ≡ bit_xor (f d) y → ((e : ℕ) → e < n → e ≢ d → g e ≡ f e) → field_sum n g ≡ bit_xor (field_sum n f) y
+sum-changed : (n d : ℕ) (f g : ℕ → ℕ) (y : ℕ) → d < n → g d ≡ bit_xor (f d) y → ((e : ℕ) → e < n → e ≢ d → g e ≡ f e)
+    → field_sum n g ≡ bit_xor (field_sum n f) y
 sum-changed n d f g y below here others =
     sum_same n g (λ e. bit_xor (f e) (one e)) each ∙ sum_of_sums n f one
     ∙ ap (bit_xor (field_sum n f)) (sum_of_one n d one below (λ e _ other. rw (ne_eqb e d other)) ∙ rw (eq-eqb d d refl))
@@ -177,15 +184,18 @@ sum-changed n d f g y below here others =
       by (inr other) = rw (ne_eqb e d other) (others e low other ∙ sym (xor_zero_r (f e)))
 
 -- what a process has grows by its share of what the new updates add
-pub held-grows : (s : Dimensions) (name : ProcessId) (d : ℕ) (news : List Update) (us grown : ℕ → List Update) (x : ℕ) → Concerns s name d → Grows s d news us grown
+pub held-grows : (s : Dimensions) (name : ProcessId) (d : ℕ) (news : List Update) (us grown : ℕ → List Update) (x : ℕ)
+    → Concerns s name d → Grows s d news us grown
     → held s name grown x ≡ bit_xor (held s name us x) (share s name d (value news x))
 held-grows s (DataNode e) d news us grown x concerns grows =
     ap (λ (j : ℕ). value (grown j) x) (sym concerns.0) ∙ ap (λ (l : List Update). value l x) grows.here ∙ value-append (us d) news x
     ∙ ap (λ (j : ℕ). bit_xor (value (us j) x) (value news x)) concerns.0
 held-grows s (ParityNode i) d news us grown x concerns grows =
-    sum-changed s.k d (λ e. product (coefficient s.m i e) (value (us e) x)) (λ e. product (coefficient s.m i e) (value (grown e) x)) (product (coefficient s.m i d) (value news x)) concerns
+    sum-changed s.k d (λ e. product (coefficient s.m i e) (value (us e) x))
+    (λ e. product (coefficient s.m i e) (value (grown e) x)) (product (coefficient s.m i d) (value news x)) concerns
     (ap (λ (l : List Update). product (coefficient s.m i d) (value l x)) grows.here ∙ ap (product (coefficient s.m i d)) (value-append (us d) news x)
-    ∙ product_sum_r (coefficient s.m i d) (value (us d) x) (value news x) (coefficient-byte s.m i d) (value-byte s (us d) x (grows.before d concerns)) (value-byte s news x grows.new))
+    ∙ product_sum_r (coefficient s.m i d) (value (us d) x) (value news x) (coefficient-byte s.m i d)
+    (value-byte s (us d) x (grows.before d concerns)) (value-byte s news x grows.new))
     (λ e low other. ap (λ (l : List Update). product (coefficient s.m i e) (value l x)) (grows.others e low other))
 
 -- a data process is one of the group
@@ -198,9 +208,11 @@ inside-concerned s (DataNode e) d concerns = subst (λ (j : ℕ). j < s.k) conce
 inside-concerned s (ParityNode i) d concerns = tt
 
 -- what a process has depends on the updates of the group's partitions alone
-pub held-same : (s : Dimensions) (name : ProcessId) (us vs : ℕ → List Update) (x : ℕ) → Inside s name → ((e : ℕ) → e < s.k → vs e ≡ us e) → held s name vs x ≡ held s name us x
+pub held-same : (s : Dimensions) (name : ProcessId) (us vs : ℕ → List Update) (x : ℕ) → Inside s name
+    → ((e : ℕ) → e < s.k → vs e ≡ us e) → held s name vs x ≡ held s name us x
 held-same s (DataNode e) us vs x inside same = ap (λ (l : List Update). value l x) (same e inside)
-held-same s (ParityNode i) us vs x inside same = sum_same s.k _ _ (λ e below. ap (λ (l : List Update). product (coefficient s.m i e) (value l x)) (same e below))
+held-same s (ParityNode i) us vs x inside same =
+    sum_same s.k _ _ (λ e below. ap (λ (l : List Update). product (coefficient s.m i e) (value l x)) (same e below))
 
 -- an area to which what it grew by was added
 pub area-grown : (from len : ℕ) (f g h : ℕ → ℕ) (before after : List ℕ) → IsArea from len f before → IsAdded (λ x. g (from + x)) before after

@@ -50,7 +50,8 @@ seat-head p d r seat = by (head_at p d) refl where
 ready-heads : (s : Dimensions) (es : List Event) → IsRun s es → ReadyHeads (after s es)
 ready-heads s es run =
     let h : History = history_of s es in
-    let members : Members h.world.shape (state_of h) = subst (λ (t : Dimensions). Members t (state_of h)) (sym (shape-from (no_history s) es)) (members_always s es run) in
+    let members : Members h.world.shape (state_of h) = subst (λ (t : Dimensions). Members t (state_of h))
+    (sym (shape-from (no_history s) es)) (members_always s es run) in
     subst ReadyHeads (world-from (no_history s) es) (λ p d pin low up ready.
     let seat = seat-from-ready h members p d pin up.process low ready in seat-head (process_of h.world p) d seat.0 seat.1)
 
@@ -64,12 +65,14 @@ unfinished_always s es run = record {
 }
 
 some-partition : (s : Dimensions) (es : List Event) → IsRun s es → 1 ≤ (after s es).shape.k
-some-partition s es run = subst (λ (w : World). 1 ≤ w.shape.k) (world-from (no_history s) es) (subst (λ (t : Dimensions). 1 ≤ t.k) (sym (shape-from (no_history s) es)) run.0.k.0)
+some-partition s es run = subst (λ (w : World). 1 ≤ w.shape.k) (world-from (no_history s) es)
+    (subst (λ (t : Dimensions). 1 ≤ t.k) (sym (shape-from (no_history s) es)) run.0.k.0)
 
 pub waits_always : WaitsAlways
 waits_always s es run = record {
   asks = λ caller op p d n may is.
-      ask-waits w p may.1 (heads-always s es run) (λ e low up ready. ready-heads s es run p e may.1 low up ready) op (home-below (key_of op.act) w.shape.k (some-partition s es run))
+      ask-waits w p may.1 (heads-always s es run) (λ e low up ready. ready-heads s es run p e may.1 low up ready) op
+      (home-below (key_of op.act) w.shape.k (some-partition s es run))
       (step w (Ask caller op p)).world d n (step w (Ask caller op p)).turn.answer (asks_always s es run caller op p may) is;
   collects = λ caller call p may is.
       collect-waits w p may.1 (heads-always s es run) (λ e low up ready. ready-heads s es run p e may.1 low up ready) caller call

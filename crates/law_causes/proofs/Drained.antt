@@ -1,5 +1,6 @@
 -- No delivery is next exactly where the group is drained.
-use Rattle.std.proofs.Common.{ℕ, zero, suc, ◌≡◌, ◌≢◌, ◌<◌, ◌≤◌, ◌+◌, ◌⊎◌, inl, inr, Bool, true, false, not, ◌&&◌, if◌then◌else◌, List, [], ◌∷◌, Option, Some, None, refl, sym, ap, ◌∙◌, arith}
+use Rattle.std.proofs.Common.{ℕ, zero, suc, ◌≡◌, ◌≢◌, ◌<◌, ◌≤◌, ◌+◌, ◌⊎◌, inl, inr, Bool, true, false, not, ◌&&◌}
+use Rattle.std.proofs.Common.{if◌then◌else◌, List, [], ◌∷◌, Option, Some, None, refl, sym, ap, ◌∙◌, arith}
 use Rattle.std.proofs.lemmas.Bool.{cases_eq}
 use Rattle.std.specs.List.{range_with_len}
 use Rattle.group_types.specs.Lists.{at}
@@ -22,19 +23,23 @@ module _ (w : World) where
 
   none-target : (x n a y : ℕ) → next_target w x (range_with_len a n) ≡ None → a ≤ y → y < a + n → is_waiting w x y ≡ false
   none-target x zero a y none low high = absurd (omega (arith, low, high))
-  none-target x (suc n) a y none low high = by (is_waiting w x a) refl none (cases_eq y a) (λ later other. none-target x n (a + 1) y later (omega (arith, low, other)) (omega (arith, high))) where
-    by : (b : Bool) → is_waiting w x a ≡ b → (if b then Some a else next_target w x (range_with_len (a + 1) n)) ≡ None → (y ≡ a) ⊎ (y ≢ a)
-        → (next_target w x (range_with_len (a + 1) n) ≡ None → y ≢ a → is_waiting w x y ≡ false) → is_waiting w x y ≡ false
-    by true waits none either rest = absurd (cc none)
-    by false waits none (inl same) rest = ap (is_waiting w x) same ∙ waits
-    by false waits none (inr other) rest = rest none other
+  none-target x (suc n) a y none low high = by (is_waiting w x a) refl none (cases_eq y a)
+      (λ later other. none-target x n (a + 1) y later (omega (arith, low, other)) (omega (arith, high))) where
+        by : (b : Bool) → is_waiting w x a ≡ b → (if b then Some a else next_target w x (range_with_len (a + 1) n)) ≡ None → (y ≡ a) ⊎ (y ≢ a)
+            → (next_target w x (range_with_len (a + 1) n) ≡ None → y ≢ a → is_waiting w x y ≡ false) → is_waiting w x y ≡ false
+        by true waits none either rest = absurd (cc none)
+        by false waits none (inl same) rest = ap (is_waiting w x) same ∙ waits
+        by false waits none (inr other) rest = rest none other
 
   none-among : (n a x : ℕ) → next_among w (range_with_len a n) ≡ None → a ≤ x → x < a + n → next_target w x (range_with_len 0 count) ≡ None
   none-among zero a x none low high = absurd (omega (arith, low, high))
   none-among (suc n) a x none low high =
-      by (next_target w a (range_with_len 0 count)) refl none (cases_eq x a) (λ later other. none-among n (a + 1) x later (omega (arith, low, other)) (omega (arith, high))) where
-        by : (o : Option ℕ) → next_target w a (range_with_len 0 count) ≡ o → event_or (next_from w a o) (next_among w (range_with_len (a + 1) n)) ≡ None → (x ≡ a) ⊎ (x ≢ a)
-            → (next_among w (range_with_len (a + 1) n) ≡ None → x ≢ a → next_target w x (range_with_len 0 count) ≡ None) → next_target w x (range_with_len 0 count) ≡ None
+      by (next_target w a (range_with_len 0 count)) refl none (cases_eq x a)
+      (λ later other. none-among n (a + 1) x later (omega (arith, low, other)) (omega (arith, high))) where
+        by : (o : Option ℕ) → next_target w a (range_with_len 0 count) ≡ o
+            → event_or (next_from w a o) (next_among w (range_with_len (a + 1) n)) ≡ None → (x ≡ a) ⊎ (x ≢ a)
+            → (next_among w (range_with_len (a + 1) n) ≡ None → x ≢ a → next_target w x (range_with_len 0 count) ≡ None)
+            → next_target w x (range_with_len 0 count) ≡ None
         by (Some y) is none either rest = absurd (cc none)
         by None is none (inl same) rest = ap (λ (z : ℕ). next_target w z (range_with_len 0 count)) same ∙ is
         by None is none (inr other) rest = rest none other
@@ -55,7 +60,9 @@ module _ (w : World) where
       let y-low = index-below w.shape to lives.0 in
       let here : node_at w x ≡ node_of w from = ap (node_of w) (process_at-index w.shape from fin) in
       let there : node_at w y ≡ node_of w to = ap (node_of w) (process_at-index w.shape to lives.0) in
-      let quiet : is_waiting w x y ≡ false = none-target x count 0 y (none-among count 0 x none (omega arith) (omega (arith, x-low))) (omega arith) (omega (arith, y-low)) in
+      let quiet : is_waiting w x y ≡ false =
+      none-target x count 0 y (none-among count 0 x none (omega arith) (omega (arith, x-low))) (omega arith)
+      (omega (arith, y-low)) in
       ap (λ (n : Node). at [] n.links y) (sym here)
       ∙ silent (at [] (node_at w x).links y) (quiet-there (node_at w y).dead _ (ap (λ (n : Node). n.dead) there ∙ lives.1) quiet)
 

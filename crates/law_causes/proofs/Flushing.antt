@@ -17,7 +17,8 @@ use Rattle.group_run.specs.Asking.{CallStep}
 use Rattle.group_run.specs.Heading.{other_parities, partition, rank, tell_stable, tell_stables, to_parities}
 use Rattle.group_run.specs.Meaning.{link, process_of}
 use Rattle.group_run.specs.Process.{Head, Node, Process}
-use Rattle.group_run.specs.World.{Ledger, NodeStep, World, after, flush_process, grown, if_up, ledger_after, link_after, node_after, node_of, ops_moved, sent_to, step, treated, with_node}
+use Rattle.group_run.specs.World.{Ledger, NodeStep, World, after, flush_process, grown, if_up, ledger_after, link_after}
+use Rattle.group_run.specs.World.{node_after, node_of, ops_moved, sent_to, step, treated, with_node}
 use Rattle.law_moves.proofs.Moves.{Flushes}
 use Rattle.law_moves.proofs.Reading.{link-living, link-sent, node-here, node-other}
 use Rattle.law_histories.proofs.Calls.{sent-one}
@@ -76,7 +77,8 @@ world_with w p t =
       tickets = ops_moved ledger.logged w.tickets;
     }
 
-module _ (w : World) (size : length w.nodes ≡ w.shape.k + w.shape.m) (wide : IsWide w) (p : ProcessId) (pin : IsProcess w.shape p) (name : (process_of w p).name ≡ p) where
+module _ (w : World) (size : length w.nodes ≡ w.shape.k + w.shape.m) (wide : IsWide w) (p : ProcessId)
+    (pin : IsProcess w.shape p) (name : (process_of w p).name ≡ p) where
   abbrev x : Process
   x = process_of w p
 
@@ -96,8 +98,10 @@ module _ (w : World) (size : length w.nodes ≡ w.shape.k + w.shape.m) (wide : I
   here = node-here w.shape w.nodes p new
 
   -- the link to a process afterwards
-  sent-link : (q : ProcessId) → IsProcess w.shape q → link later p q ≡ link_after (knows_dead x.known q) (link w p q) (sent_to q (tell_stables w.shape x (range_with_len 0 w.shape.k)))
-  sent-link q qin = ap (λ (n : Node). at [] n.links (index_of w.shape q)) here ∙ link-sent w.shape x.known (tell_stables w.shape x (range_with_len 0 w.shape.k)) (node_of w p).links q qin
+  sent-link : (q : ProcessId) → IsProcess w.shape q → link later p q ≡ link_after (knows_dead x.known q) (link w p q)
+      (sent_to q (tell_stables w.shape x (range_with_len 0 w.shape.k)))
+  sent-link q qin = ap (λ (n : Node). at [] n.links (index_of w.shape q)) here
+      ∙ link-sent w.shape x.known (tell_stables w.shape x (range_with_len 0 w.shape.k)) (node_of w p).links q qin
 
   none-sent : (q : ProcessId) → IsProcess w.shape q → sent_to q (tell_stables w.shape x (range_with_len 0 w.shape.k)) ≡ [] → link later p q ≡ link w p q
   none-sent q qin none = sent-link q qin ∙ ap (link_after (knows_dead x.known q) (link w p q)) none ∙ quiet-link (knows_dead x.known q) (link w p q)
@@ -107,9 +111,12 @@ module _ (w : World) (size : length w.nodes ≡ w.shape.k + w.shape.m) (wide : I
     told = λ i low other living.
         ap (λ (n : Node). at [] n.links (index_of w.shape (ParityNode i))) here
         ∙ link-living w.shape x.known (tell_stables w.shape x (range_with_len 0 w.shape.k)) (node_of w p).links (ParityNode i) low living
-        ∙ ap (λ (ms : List Message). link w p (ParityNode i) ++ ms) (all-told w.shape x i low (λ same. other (same ∙ name)) living (range_with_len 0 w.shape.k));
+        ∙ ap (λ (ms : List Message). link w p (ParityNode i) ++ ms)
+        (all-told w.shape x i low (λ same. other (same ∙ name)) living (range_with_len 0 w.shape.k));
     to_data = λ d low. none-sent (DataNode d) low (no-data w.shape x d (range_with_len 0 w.shape.k));
-    to_dead = λ q qin dead. sent-link q qin ∙ ap (λ (b : Bool). link_after b (link w p q) (sent_to q (tell_stables w.shape x (range_with_len 0 w.shape.k)))) dead;
+    to_dead = λ q qin dead. sent-link q qin
+        ∙ ap (λ (b : Bool). link_after b (link w p q) (sent_to q (tell_stables w.shape x (range_with_len 0 w.shape.k))))
+        dead;
     to_itself = none-sent p pin (none-to p (tell_stables w.shape x (range_with_len 0 w.shape.k)) (treated-out p w.shape x call.step name Flushes).others);
     process = ap (λ (n : Node). n.process) here;
     lives = ap (λ (n : Node). n.dead) here;

@@ -54,25 +54,31 @@ call-of s calls d n store [] u steps (k, low, is) = absurd (omega (arith, low))
 call-of s calls d n store (v ∷ us) u steps (zero, low, is) = (steps.0.call, steps.0.asked, steps.0.fits, ap update_name (sym is) ∙ steps.0.name)
 call-of s calls d n store (v ∷ us) u steps (suc k, low, is) = call-of s calls d (suc n) (stored s d v store) us u steps.1 (k, omega (arith, low), is)
 
-module _ (h : History) (reached : Reached h.world.shape (state_of h)) (held : HeldStand h.world.shape (state_of h)) (p : ProcessId) (lives : Lives h.world p) where
+module _ (h : History) (reached : Reached h.world.shape (state_of h)) (held : HeldStand h.world.shape (state_of h))
+    (p : ProcessId) (lives : Lives h.world p) where
   -- the head of a partition that the process holds a call of
-  held-head : (d : ℕ) (x : Held) → d < h.world.shape.k → Contains (held_at (process_of h.world p) d) x → (y : Head) × (head_at (process_of h.world p) d ≡ Some y)
+  held-head : (d : ℕ) (x : Held) → d < h.world.shape.k → Contains (held_at (process_of h.world p) d) x → (y : Head)
+      × (head_at (process_of h.world p) d ≡ Some y)
   held-head d x low there = by (head_at (process_of h.world p) d) refl where
     by : (o : Option Head) → head_at (process_of h.world p) d ≡ o → (y : Head) × (head_at (process_of h.world p) d ≡ Some y)
     by (Some y) is = (y, is)
-    by None is = absurd (let none = (held p d lives.0 lives.1 low).none is in let few = there.1 in let long : length (held_at (process_of h.world p) d) ≡ 0 = ap length none in omega (arith, few, long))
+    by None is = absurd (let none = (held p d lives.0 lives.1 low).none is in let few = there.1 in
+        let long : length (held_at (process_of h.world p) d) ≡ 0 = ap length none in omega (arith, few, long))
 
   held-update : (d : ℕ) (x : Held) (y : Head) → d < h.world.shape.k → head_at (process_of h.world p) d ≡ Some y → Contains (held_at (process_of h.world p) d) x
       → IsHeldOf (history ((state_of h).settled d) (replica_of (process_of h.world p) d)) x
   held-update d x y low heads there =
-      each-contained (IsHeldOf (history ((state_of h).settled d) (replica_of (process_of h.world p) d))) (held_at (process_of h.world p) d) x ((held p d lives.0 lives.1 low).heads y heads) there
+      each-contained (IsHeldOf (history ((state_of h).settled d) (replica_of (process_of h.world p) d)))
+      (held_at (process_of h.world p) d) x ((held p d lives.0 lives.1 low).heads y heads) there
 
   issued-here : (d : ℕ) (x : Held) → d < h.world.shape.k → Contains (held_at (process_of h.world p) d) x → IsIssuedHere h.world p d x
   issued-here d x low there =
       let head = held-head d x low there in
       let of : IsHeldOf (history ((state_of h).settled d) (replica_of (process_of h.world p) d)) x = held-update d x head.0 low head.1 there in
       let reaches : ReplicaReaches Any d ((state_of h).settled d) ((state_of h).process p)
-      = (reached.1 d low).replicas p lives.0 lives.1 (keeper-rank d head.0.rank p (head-from h.world.shape (state_of h) d reached.0 low p head.0 lives.0 lives.1 head.1).0) in
+      = (reached.1 d low).replicas p lives.0 lives.1
+      (keeper-rank d head.0.rank p (head-from h.world.shape (state_of h) d reached.0 low p head.0 lives.0 lives.1
+      head.1).0) in
       let number = of.number in
       let high = (number-in 1 (history ((state_of h).settled d) (replica_of (process_of h.world p) d)) of.update reaches.fine.0 of.there).1 in
       let long = length-history ((state_of h).settled d) (replica_of (process_of h.world p) d) reaches.applied in
@@ -103,7 +109,8 @@ module _ (h : History) (reached : Reached h.world.shape (state_of h)) (held : He
     Named z caller call = ◌≡◌ {A = CallName} (record { caller = z.caller; call = z.call }) (record { caller = caller; call = call })
 
     -- a call of one name is held of one partition
-    pub one-partition : EachTwo (λ a b. a.name ≢ b.name) calls → (caller call d e : ℕ) (x y : Held) → HoldsCall h.world p caller call d x → HoldsCall h.world p caller call e y → d ≡ e
+    pub one-partition : EachTwo (λ a b. a.name ≢ b.name) calls → (caller call d e : ℕ) (x y : Held)
+        → HoldsCall h.world p caller call d x → HoldsCall h.world p caller call e y → d ≡ e
     one-partition differ caller call d e x y first second = by (held-call d x first.partition first.held) (held-call e y second.partition second.held) where
       named : (z : Held) → is_call caller call z ≡ true → Named z caller call
       named z is =

@@ -1,5 +1,7 @@
 -- A held call stays held, but by a collect of it that is replied to.
-use Rattle.std.proofs.Common.{ℕ, zero, suc, ◌≡◌, ◌≢◌, ◌<◌, ◌+◌, ◌==◌, nat_le, Bool, true, false, not, List, [], ◌∷◌, ◌++◌, length, slice_index_or, Option, Some, None, ◌⊎◌, inl, inr, refl, sym, ap, subst, ◌∙◌, arith}
+use Rattle.std.proofs.Common.{ℕ, zero, suc, ◌≡◌, ◌≢◌, ◌<◌, ◌+◌, ◌==◌, nat_le, Bool, true, false, not, List, [], ◌∷◌}
+use Rattle.std.proofs.Common.{◌++◌, length, slice_index_or, Option, Some, None, ◌⊎◌, inl, inr, refl, sym, ap, subst}
+use Rattle.std.proofs.Common.{◌∙◌, arith}
 use Rattle.std.proofs.lemmas.Bool.{cases_eq}
 use Rattle.std.proofs.lemmas.Grind.{common_steps}
 use Rattle.std.proofs.lemmas.List.Elements.{Contains-append_left}
@@ -22,7 +24,9 @@ use Rattle.group_calls.specs.declared.event.Answer.{Answer}
 use Rattle.group_calls.specs.declared.event.Event.{Event}
 use Rattle.group_calls.specs.declared.event.Event.TheVariants.{Ask, Collect, Deliver, Fail, Flush, Trace}
 use Rattle.group_run.specs.Applying.{ProcessStep, head_at, held_at, replica_of, with_held, with_replica}
-use Rattle.group_run.specs.Asking.{CallStep, Oldest, act_on, ask_head, ask_process, collect_from, collect_held, found_at, handed_out, is_call, issued, oldest_inherited, retry_block, ticketed, update_of}
+use Rattle.group_run.specs.Asking.{CallStep, Oldest, act_on, ask_head, ask_process, collect_from, collect_held}
+use Rattle.group_run.specs.Asking.{found_at, handed_out, is_call, issued, oldest_inherited, retry_block, ticketed}
+use Rattle.group_run.specs.Asking.{update_of}
 use Rattle.group_run.specs.Deciding.{decide}
 use Rattle.group_run.specs.Headline.{MayCome}
 use Rattle.group_run.specs.History.{History}
@@ -71,7 +75,9 @@ module _ (s : Dimensions) (d : ℕ) (x : Held) where
   has-more e y p there = by (cases_eq d e) where
     by : (d ≡ e) ⊎ (d ≢ e) → Has (with_held e (held_at p e ++ y ∷ []) p)
     by (inl same) =
-        subst (λ (ys : List Held). Contains ys x) (sym (ap (at [] (put [] p.held e (held_at p e ++ y ∷ []))) same ∙ at-put [] [] p.held e (held_at p e ++ y ∷ [])))
+        subst (λ (ys : List Held). Contains ys x)
+        (sym (ap (at [] (put [] p.held e (held_at p e ++ y ∷ []))) same
+        ∙ at-put [] [] p.held e (held_at p e ++ y ∷ [])))
         (Contains-append_left (held_at p e) (y ∷ []) x (subst (λ (k : ℕ). Contains (held_at p k) x) same there))
     by (inr other) = subst (λ (ys : List Held). Contains ys x) (sym (at-put-other [] p.held e d (held_at p e ++ y ∷ []) other)) there
 
@@ -104,7 +110,8 @@ module _ (s : Dimensions) (d : ℕ) (x : Held) where
     abbrev pub KeptOr : Process → Answer → Type 0
     KeptOr p answer = Has p ⊎ IsCollected (Collect caller call q) y x answer
 
-    has-handed : (e : ℕ) (z : Held) (p : Process) → is_call caller call z ≡ true → Has p → (b : Bool) → KeptOr (handed_out b e z p).step.process (handed_out b e z p).answer
+    has-handed : (e : ℕ) (z : Held) (p : Process) → is_call caller call z ≡ true → Has p → (b : Bool)
+        → KeptOr (handed_out b e z p).step.process (handed_out b e z p).answer
     has-handed e z p named there false = inl there
     has-handed e z p named there true = by (cases_eq d e) (is_call z.caller z.call x) refl where
       left : List Held
@@ -126,16 +133,20 @@ module _ (s : Dimensions) (d : ℕ) (x : Held) where
           let four = second.1 in
           inr (own, grind (arith, common_steps), grind (arith, common_steps))
 
-    pub has-collect : (n a : ℕ) (p : Process) → Has p → KeptOr (collect_from caller call p (range_with_len a n)).step.process (collect_from caller call p (range_with_len a n)).answer
+    pub has-collect : (n a : ℕ) (p : Process) → Has p
+        → KeptOr (collect_from caller call p (range_with_len a n)).step.process
+        (collect_from caller call p (range_with_len a n)).answer
     has-collect zero a p there = inl there
     has-collect (suc n) a p there = by (find (is_call caller call) (held_at p a)) refl (has-collect n (a + 1) p there) where
       by : (o : Option Held) → find (is_call caller call) (held_at p a) ≡ o
           → KeptOr (collect_from caller call p (range_with_len (a + 1) n)).step.process (collect_from caller call p (range_with_len (a + 1) n)).answer
-          → KeptOr (collect_held a o p (collect_from caller call p (range_with_len (a + 1) n))).step.process (collect_held a o p (collect_from caller call p (range_with_len (a + 1) n))).answer
+          → KeptOr (collect_held a o p (collect_from caller call p (range_with_len (a + 1) n))).step.process
+          (collect_held a o p (collect_from caller call p (range_with_len (a + 1) n))).answer
       by None found later = later
       by (Some z) found later = has-handed a z p (found-there (is_call caller call) (held_at p a) z found).1 there (nat_le z.number (replica_of p a).applied)
 
-module _ (h : History) (framed : FramedHistory h) (p : ProcessId) (pin : IsProcess h.world.shape p) (d : ℕ) (x : Held) (there : Contains (held_at (process_of h.world p) d) x) where
+module _ (h : History) (framed : FramedHistory h) (p : ProcessId) (pin : IsProcess h.world.shape p) (d : ℕ) (x : Held)
+    (there : Contains (held_at (process_of h.world p) d) x) where
   abbrev s : Dimensions
   s = h.world.shape
 
@@ -146,7 +157,8 @@ module _ (h : History) (framed : FramedHistory h) (p : ProcessId) (pin : IsProce
   same-kept w same = subst Kept (sym same) there
 
   -- a process acts, on a state that has this process as it was
-  acted-kept : (v w : State) (q : ProcessId) (t : ProcessStep) → v.process p ≡ process_of h.world p → Acted h.world.shape v w q t → (q ≡ p → Contains (held_at t.process d) x) → Kept w
+  acted-kept : (v w : State) (q : ProcessId) (t : ProcessStep) → v.process p ≡ process_of h.world p
+      → Acted h.world.shape v w q t → (q ≡ p → Contains (held_at t.process d) x) → Kept w
   acted-kept v w q t was acts own = by (same-cases p q) where
     by : (p ≡ q) ⊎ (p ≢ q) → Kept w
     by (inl same) = subst (λ (y : Process). Contains (held_at y d) x) (sym (ap w.process same ∙ acts.process)) (own (sym same))
@@ -157,20 +169,29 @@ module _ (h : History) (framed : FramedHistory h) (p : ProcessId) (pin : IsProce
 
   pub lasts : (e : Event) → MayCome h.world e → Contains (held_at (process_of (step h.world e).world p) d) x ⊎ IsCollected e p x (step h.world e).turn.answer
   lasts (Ask caller op q) may = inl (by
-      (call-comes h.world.shape h.world.nodes h.settled framed q (ask_process h.world.shape (next_name h.world caller) op (process_of h.world q)) may.1 (node_of h.world q).down (node_of h.world q).dead refl refl)) where
-        by : {w : State} {answer : Answer} → Answers h.world.shape (state_of h) w q (ask_process h.world.shape (next_name h.world caller) op (process_of h.world q)) answer → Kept w
+      (call-comes h.world.shape h.world.nodes h.settled framed q
+      (ask_process h.world.shape (next_name h.world caller) op (process_of h.world q)) may.1 (node_of h.world q).down
+      (node_of h.world q).dead refl refl)) where
+        by : {w : State} {answer : Answer}
+            → Answers h.world.shape (state_of h) w q
+            (ask_process h.world.shape (next_name h.world caller) op (process_of h.world q)) answer → Kept w
         by {w} {answer} (Idle same idle) = same-kept w same
         by {w} {answer} (Acts up lives acts is) = acted-kept (state_of h) w q _ refl acts (λ same.
-            has-ask h.world.shape d x (next_name h.world caller) op (home_of (key_of op.act) h.world.shape.k) (process_of h.world q) (head_at (process_of h.world q) (home_of (key_of op.act) h.world.shape.k)) (at_own q same))
+            has-ask h.world.shape d x (next_name h.world caller) op (home_of (key_of op.act) h.world.shape.k)
+            (process_of h.world q) (head_at (process_of h.world q) (home_of (key_of op.act) h.world.shape.k))
+            (at_own q same))
   lasts (Collect caller call q) may = by
-      (call-comes h.world.shape h.world.nodes h.settled framed q (collect_from caller call (process_of h.world q) (range_with_len 0 h.world.shape.k)) may.1 (node_of h.world q).down (node_of h.world q).dead refl refl) where
+      (call-comes h.world.shape h.world.nodes h.settled framed q
+      (collect_from caller call (process_of h.world q) (range_with_len 0 h.world.shape.k)) may.1
+      (node_of h.world q).down (node_of h.world q).dead refl refl) where
         made : CallStep
         made = collect_from caller call (process_of h.world q) (range_with_len 0 h.world.shape.k)
 
         by : {w : State} {answer : Answer} → Answers h.world.shape (state_of h) w q made answer → Kept w ⊎ IsCollected (Collect caller call q) p x answer
         by {w} {answer} (Idle same idle) = inl (same-kept w same)
         by {w} {answer} (Acts up lives acts is) = by_process (same-cases q p) where
-          told : Contains (held_at made.step.process d) x ⊎ IsCollected (Collect caller call q) p x made.answer → Kept w ⊎ IsCollected (Collect caller call q) p x answer
+          told : Contains (held_at made.step.process d) x ⊎ IsCollected (Collect caller call q) p x made.answer
+              → Kept w ⊎ IsCollected (Collect caller call q) p x answer
           told (inl has) = inl (acted-kept (state_of h) w q made.step refl acts (λ same. has))
           told (inr collected) = inr (subst (IsCollected (Collect caller call q) p x) (sym is) collected)
 
@@ -178,21 +199,28 @@ module _ (h : History) (framed : FramedHistory h) (p : ProcessId) (pin : IsProce
           by_process (inl same) = told (has-collect h.world.shape d x caller call q p same h.world.shape.k 0 (process_of h.world q) (at_own q same))
           by_process (inr other) = inl (acted-kept (state_of h) w q made.step refl acts (λ same. absurd (other same)))
   lasts (Flush q) may = inl (by
-      (call-comes h.world.shape h.world.nodes h.settled framed q (flush_process h.world.shape (process_of h.world q)) may (node_of h.world q).down (node_of h.world q).dead refl refl)) where
+      (call-comes h.world.shape h.world.nodes h.settled framed q (flush_process h.world.shape (process_of h.world q))
+      may (node_of h.world q).down (node_of h.world q).dead refl refl)) where
         by : {w : State} {answer : Answer} → Answers h.world.shape (state_of h) w q (flush_process h.world.shape (process_of h.world q)) answer → Kept w
         by {w} {answer} (Idle same idle) = same-kept w same
         by {w} {answer} (Acts up lives acts is) = acted-kept (state_of h) w q _ refl acts (at_own q)
   lasts (Trace caller call e q) may = inl (same-kept _ (trace-stays h framed caller call e.0 q may.3 (node_of h.world q).down (node_of h.world q).dead).1)
   lasts (Deliver from to) may = inl (by
-      (message-comes h.world.shape h.world.nodes h.settled framed from to may.0 may.1 may.2 (node_of h.world to).down (node_of h.world to).dead refl refl (at [] (node_of h.world from).links (index_of h.world.shape to)) refl)) where
+      (message-comes h.world.shape h.world.nodes h.settled framed from to may.0 may.1 may.2 (node_of h.world to).down
+      (node_of h.world to).dead refl refl (at [] (node_of h.world from).links (index_of h.world.shape to))
+      refl)) where
         by : {w : State} → Delivers h.world.shape (state_of h) w from to → Kept w
         by {w} (Nothing same) = same-kept w same
         by {w} (Takes u m up lives pops acts) = acted-kept u w to (receive h.world.shape from m (process_of h.world to)) (pops.processes p pin) acts
-            (λ same. has-same h.world.shape d x (process_of h.world to) (receive h.world.shape from m (process_of h.world to)).process (holds-receive h.world.shape from m (process_of h.world to)) (at_own to same))
+            (λ same. has-same h.world.shape d x (process_of h.world to)
+            (receive h.world.shape from m (process_of h.world to)).process
+            (holds-receive h.world.shape from m (process_of h.world to)) (at_own to same))
   lasts (Fail q keep) may = inl (by (failure-comes h.world.shape h.world.nodes h.settled framed q keep may (node_of h.world q).dead refl)) where
     by : {w : State} → Fails h.world.shape (state_of h) w q keep → Kept w
     by {w} (Was same) = same-kept w same
     by {w} (Dies died) = subst (λ (y : Process). Contains (held_at y d) x) (sym (died.processes p pin)) there
 
 pub held_last_always : HeldLastAlways
-held_last_always s es run = subst HeldLast (book-world s es) (λ e p d x may pin there. lasts (book_of s es).history (book-framed s es run) p pin d x there e may)
+held_last_always s es run =
+    subst HeldLast (book-world s es) (λ e p d x may pin there. lasts (book_of s es).history (book-framed s es run) p pin
+    d x there e may)

@@ -31,10 +31,12 @@ pub record HeadStands (w : World) (p : ProcessId) (d : ℕ) (h : Head) : Type 0 
   pub inherited : h.inherited ≤ last_of (replica_of (process_of w p) d)
 
 module _ (h : History) (reached : Reached h.world.shape (state_of h)) (told : Told h.world.shape (state_of h)) where
-  heads-stand : (p : ProcessId) (d : ℕ) (y : Head) → Lives h.world p → d < h.world.shape.k → head_at (process_of h.world p) d ≡ Some y → HeadStands h.world p d y
+  heads-stand : (p : ProcessId) (d : ℕ) (y : Head) → Lives h.world p → d < h.world.shape.k
+      → head_at (process_of h.world p) d ≡ Some y → HeadStands h.world p d y
   heads-stand p d y lives low heads =
       let reaches : ReplicaReaches Any d ((state_of h).settled d) ((state_of h).process p)
-      = (reached.1 d low).replicas p lives.0 lives.1 (keeper-rank d y.rank p (head-from h.world.shape (state_of h) d reached.0 low p y lives.0 lives.1 heads).0) in
+      = (reached.1 d low).replicas p lives.0 lives.1
+      (keeper-rank d y.rank p (head-from h.world.shape (state_of h) d reached.0 low p y lives.0 lives.1 heads).0) in
       record {
         name = reached.0.named p lives.0;
         settles = told.settles p d lives.0 lives.1 low;

@@ -1,5 +1,6 @@
 -- What is unfinished at a head is exactly what stands in its log.
-use Rattle.std.proofs.Common.{ℕ, zero, suc, ◌≡◌, ◌≢◌, ◌<◌, ◌≤◌, ◌+◌, Bool, true, false, List, [], ◌∷◌, length, Option, Some, ◌⊎◌, inl, inr, refl, ap, arith, if◌then◌else◌}
+use Rattle.std.proofs.Common.{ℕ, zero, suc, ◌≡◌, ◌≢◌, ◌<◌, ◌≤◌, ◌+◌, Bool, true, false, List, [], ◌∷◌, length, Option}
+use Rattle.std.proofs.Common.{Some, ◌⊎◌, inl, inr, refl, ap, arith, if◌then◌else◌}
 use Rattle.std.proofs.lemmas.Bool.{cases_lt}
 use Rattle.std.specs.Prelude.{Contains, filter, unwrap_or}
 use Rattle.std.specs.List.{range_with_len}
@@ -23,7 +24,8 @@ least-below : (h : Head) (last : ℕ) (test : ℕ → Bool) (x n a : ℕ) → x 
     → (i : ℕ) × (a ≤ i) × (i < a + n) × (test i ≡ true) × (acked_by h i < x)
 least-below h last test x zero a most less = absurd (omega (arith, most, less))
 least-below h last test x (suc n) a most less = by (test a) refl less (λ low. more (least-below h last test x n (a + 1) most low)) where
-  more : (i : ℕ) × (a + 1 ≤ i) × (i < a + 1 + n) × (test i ≡ true) × (acked_by h i < x) → (i : ℕ) × (a ≤ i) × (i < a + suc n) × (test i ≡ true) × (acked_by h i < x)
+  more : (i : ℕ) × (a + 1 ≤ i) × (i < a + 1 + n) × (test i ≡ true) × (acked_by h i < x) → (i : ℕ) × (a ≤ i)
+      × (i < a + suc n) × (test i ≡ true) × (acked_by h i < x)
   more (i, low, high, passes, lags) = (i, omega (arith, low), omega (arith, high), passes, lags)
 
   here : test a ≡ true → least_acked h last (a ∷ filter test (range_with_len (a + 1) n)) < x → (acked_by h a < x) ⊎ (x ≤ acked_by h a)
@@ -42,7 +44,8 @@ least-below h last test x (suc n) a most less = by (test a) refl less (λ low. m
 pub number-in : (a : ℕ) (us : List Update) (u : Update) → NumberedFrom a us → Contains us u → (a ≤ u.number) × (u.number < a + length us)
 number-in a [] u all (k, low, is) = absurd (omega (arith, low))
 number-in a (v ∷ us) u all (zero, low, is) =
-    let first : v.number ≡ a = all.0 in let same : v.number ≡ u.number = ap (λ (y : Update). y.number) is in (omega (arith, first, same), omega (arith, first, same))
+    let first : v.number ≡ a = all.0 in let same : v.number ≡ u.number = ap (λ (y : Update). y.number) is in
+    (omega (arith, first, same), omega (arith, first, same))
 number-in a (v ∷ us) u all (suc k, low, is) =
     let rest = number-in (suc a) us u all.1 (k, omega (arith, low), is) in let from = rest.0 in let to = rest.1 in (omega (arith, from), omega (arith, to))
 
@@ -78,7 +81,9 @@ module _ (w : World) (p : ProcessId) (d : ℕ) (h : Head) (heads : head_at (proc
 
   pub log-unfinished : LogIsUnfinished w p d h
   log-unfinished = record {
-    waits = λ u there. let in_log = number-in (suc r.applied) r.log u stands.numbered there in let from = in_log.0 in let to = in_log.1 in unfinished u.number (omega (arith, from)) (omega (arith, to));
-    stands = λ n is. let above = is.above in let within = is.within in update-of (suc r.applied) r.log n stands.numbered (omega (arith, above)) (omega (arith, within));
+    waits = λ u there. let in_log = number-in (suc r.applied) r.log u stands.numbered there in let from = in_log.0 in
+        let to = in_log.1 in unfinished u.number (omega (arith, from)) (omega (arith, to));
+    stands = λ n is. let above = is.above in let within = is.within in update-of (suc r.applied) r.log n stands.numbered
+        (omega (arith, above)) (omega (arith, within));
     numbers = λ n. (λ is. (is.above, is.within), λ both. unfinished n both.0 both.1);
   }

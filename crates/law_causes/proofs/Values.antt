@@ -1,5 +1,7 @@
 -- An update has a run exactly where its op gives its key a value.
-use Rattle.std.proofs.Common.{ℕ, zero, suc, ◌≡◌, ◌<◌, ◌==◌, nat_le, Bool, true, false, not, ◌&&◌, List, [], ◌∷◌, ◌++◌, length, Option, Some, None, is_some, inl, inr, refl, sym, ap, subst, ◌∙◌, arith, if◌then◌else◌}
+use Rattle.std.proofs.Common.{ℕ, zero, suc, ◌≡◌, ◌<◌, ◌==◌, nat_le, Bool, true, false, not, ◌&&◌, List, [], ◌∷◌, ◌++◌}
+use Rattle.std.proofs.Common.{length, Option, Some, None, is_some, inl, inr, refl, sym, ap, subst, ◌∙◌, arith}
+use Rattle.std.proofs.Common.{if◌then◌else◌}
 use Rattle.std.specs.Prelude.{Contains, slice_get}
 use Rattle.group_types.specs.Dimensions.{Dimensions}
 use Rattle.group_types.specs.Hash.{home_of}
@@ -87,7 +89,8 @@ gives t n (Decr key by') (Some h) = by (number_of h.item.value) where
   by (Some v) = refl
 
 -- the body of an update has a run where the op leaves a value that isn't the old one
-body-run : (s : Dimensions) (store : Store) (touch : Bool) (leaves : Option Holding) (body : Body) → IsBodyOf s store touch leaves body → is_some (run_of body) ≡ (is_some leaves && not touch)
+body-run : (s : Dimensions) (store : Store) (touch : Bool) (leaves : Option Holding) (body : Body)
+    → IsBodyOf s store touch leaves body → is_some (run_of body) ≡ (is_some leaves && not touch)
 body-run s store touch None body is = ap (λ (b : Body). is_some (run_of b)) is
 body-run s store true (Some h) body is = ap (λ (b : Body). is_some (run_of b)) is
 body-run s store false (Some h) body is = ap (λ (b : Body). is_some (run_of b)) is.is
@@ -117,13 +120,15 @@ entry-of k d t runs (e ∷ es) m l is = by (is_update_of k d e) refl m is (entry
       ((0, omega arith, ap (λ (x : Logged). x.entry) same), ap (λ (x : Logged). accepts x.entry.reply) (sym same) ∙ accepted (accepts e.reply) refl test)
 
   by : (b : Bool) → is_update_of k d e ≡ b → (m : ℕ) → slice_get (front_if b u (updates_from k d (table_after t e.op) (runs_left b runs) es)) m ≡ Some l
-      → ((m : ℕ) (l : Logged) → slice_get (updates_from k d (table_after t e.op) (runs_left (is_update_of k d e) runs) es) m ≡ Some l → Contains es l.entry × (accepts l.entry.reply ≡ true))
+      → ((m : ℕ) (l : Logged) → slice_get (updates_from k d (table_after t e.op) (runs_left (is_update_of k d e) runs)
+      es) m ≡ Some l → Contains es l.entry × (accepts l.entry.reply ≡ true))
       → Contains (e ∷ es) l.entry × (accepts l.entry.reply ≡ true)
   by true test zero is rest = first test (ap (λ (o : Option Logged). elim o [ None ↦ u | Some x ↦ x ]) is)
   by true test (suc m) is rest = later (rest m l (ap (λ (b : Bool). slice_get (updates_from k d (table_after t e.op) (runs_left b runs) es) m) test ∙ is))
   by false test m is rest = later (rest m l (ap (λ (b : Bool). slice_get (updates_from k d (table_after t e.op) (runs_left b runs) es) m) test ∙ is))
 
-module _ (s : Dimensions) (es : List Event) (run : IsRun s es) (d n : ℕ) (l : Logged) (low : d < s.k) (there : slice_get (updates_of (after s es) d) n ≡ Some l) where
+module _ (s : Dimensions) (es : List Event) (run : IsRun s es) (d n : ℕ) (l : Logged) (low : d < s.k)
+    (there : slice_get (updates_of (after s es) d) n ≡ Some l) where
   always : StandsAlways s
   always = stands-always s (whole-always s)
 
@@ -137,20 +142,25 @@ module _ (s : Dimensions) (es : List Event) (run : IsRun s es) (d n : ℕ) (l : 
   logs = logs_always s always es run
 
   found : ShownAt s calls d 0 n (no_store s) settled l
-  found = shown-at s calls d 0 n (no_store s) settled (updates_of (after s es) d) l (no_store-fits s) ((always es run).settled d low).steps (log_shows_settled s always es run d low).updates there
+  found = shown-at s calls d 0 n (no_store s) settled (updates_of (after s es) d) l (no_store-fits s)
+      ((always es run).settled d low).steps (log_shows_settled s always es run d low).updates there
 
   entry : Contains (after s es).log l.entry × (accepts l.entry.reply ≡ true)
   entry = entry-of (after s es).shape.k d (empty_table (after s es).shape.k) (at [] (after s es).places d) (after s es).log n l there
 
   named : name_of l.entry ≡ found.step.call.name
-  named = let caller = found.shown.logged.caller in let call = found.shown.logged.call in (λ i. record { caller = (sym caller) i; call = (sym call) i }) ∙ found.step.name
+  named = let caller = found.shown.logged.caller in let call = found.shown.logged.call in
+      (λ i. record { caller = (sym caller) i; call = (sym call) i }) ∙ found.step.name
 
   -- the entry has the op of the call that the update is of
   same-op : l.entry.op ≡ found.step.call.op
-  same-op = by (each-contained (EntryStands s calls (book_of s es).history.settled) (after s es).log l.entry (log_is_tied s always es run).stands.entries entry.0) where
-    by : EntryStands s calls (book_of s es).history.settled l.entry → l.entry.op ≡ found.step.call.op
-    by (inl is) = ap (λ (c : Call). c.op) (same-issued calls (record { name = name_of l.entry; op = l.entry.op }) found.step.call logs.differ is.call found.step.asked named)
-    by (inr is) = let refused = is.refused in let takes = entry.1 in absurd (cc (refused, takes))
+  same-op = by (each-contained (EntryStands s calls (book_of s es).history.settled) (after s es).log l.entry
+      (log_is_tied s always es run).stands.entries entry.0) where
+        by : EntryStands s calls (book_of s es).history.settled l.entry → l.entry.op ≡ found.step.call.op
+        by (inl is) =
+            ap (λ (c : Call). c.op) (same-issued calls (record { name = name_of l.entry; op = l.entry.op }) found.step.call
+            logs.differ is.call found.step.asked named)
+        by (inr is) = let refused = is.refused in let takes = entry.1 in absurd (cc (refused, takes))
 
   pub has-run : is_some l.run ≡ gives_value l.entry.op.act
   has-run =

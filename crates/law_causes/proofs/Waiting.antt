@@ -1,5 +1,6 @@
 -- What is waited for is unfinished.
-use Rattle.std.proofs.Common.{ℕ, suc, ◌≡◌, ◌<◌, ◌≤◌, ◌+◌, ◌==◌, ◌&&◌, Bool, true, false, List, [], ◌∷◌, Option, Some, None, ◌⊎◌, inl, inr, refl, sym, ap, subst, ◌∙◌, arith, if◌then◌else◌}
+use Rattle.std.proofs.Common.{ℕ, suc, ◌≡◌, ◌<◌, ◌≤◌, ◌+◌, ◌==◌, ◌&&◌, Bool, true, false, List, [], ◌∷◌, Option, Some}
+use Rattle.std.proofs.Common.{None, ◌⊎◌, inl, inr, refl, sym, ap, subst, ◌∙◌, arith, if◌then◌else◌}
 use Rattle.std.proofs.lemmas.Grind.{common_steps}
 use Rattle.std.specs.Prelude.{Contains}
 use Rattle.group_types.specs.Lists.{same_key}
@@ -19,7 +20,8 @@ use Rattle.group_calls.specs.declared.event.Answer.{Answer}
 use Rattle.group_calls.specs.declared.event.Answer.TheVariants.{NotYet, Retry}
 use Rattle.group_calls.specs.declared.event.Cause.TheVariants.{Pending}
 use Rattle.group_run.specs.Applying.{head_at, replica_of}
-use Rattle.group_run.specs.Causes.{AskCause, CollectCause, FindsWindowFull, HoldsCall, IsOpen, IsAdopted, IsReady, IsUp, TraceCause, WaitsForInherited, WaitsForKey, home_in, table_now, waits_at}
+use Rattle.group_run.specs.Causes.{AskCause, CollectCause, FindsWindowFull, HoldsCall, IsOpen, IsAdopted, IsReady, IsUp}
+use Rattle.group_run.specs.Causes.{TraceCause, WaitsForInherited, WaitsForKey, home_in, table_now, waits_at}
 use Rattle.group_run.specs.Deciding.{is_get}
 use Rattle.group_run.specs.Meaning.{IsUnfinished, Lives, process_of}
 use Rattle.group_run.specs.Process.{Head, Held}
@@ -63,7 +65,8 @@ number-there (u ∷ us) key n is = by (number_on us key) refl is (number-there u
 
 module _ (w : World) (p : ProcessId) (pin : IsProcess w.shape p) (stand : HeadsStand w)
     (ready-head : (d : ℕ) → d < w.shape.k → IsUp w p → IsReady w p d → (h : Head) × (head_at (process_of w p) d ≡ Some h)) where
-  at_log : (d : ℕ) (h : Head) → IsUp w p → d < w.shape.k → head_at (process_of w p) d ≡ Some h → (u : Update) → Contains (replica_of (process_of w p) d).log u → IsUnfinished w p d u.number h
+  at_log : (d : ℕ) (h : Head) → IsUp w p → d < w.shape.k → head_at (process_of w p) d ≡ Some h → (u : Update)
+      → Contains (replica_of (process_of w p) d).log u → IsUnfinished w p d u.number h
   at_log d h up low heads u there = (log-unfinished w p d h heads (stand p d h (pin, up.process) low heads)).waits u there
 
   module _ (op : Asked) (low : home_in w op < w.shape.k) (after : World) (d : Partition) (n : ℕ) where
@@ -72,7 +75,9 @@ module _ (w : World) (p : ProcessId) (pin : IsProcess w.shape p) (stand : HeadsS
       by : (u : Update) × Contains (replica_of (process_of w p) (home_in w op)).log u × (u.number ≡ n) → AskWaits w p op d.0 n
       by (u, there, number) = record {
         head = h;
-        unfinished = subst (λ (e : ℕ). IsUnfinished w p e n h) (sym waits.home) (subst (λ (m : ℕ). IsUnfinished w p (home_in w op) m h) number (at_log (home_in w op) h up low heads u there));
+        unfinished = subst (λ (e : ℕ). IsUnfinished w p e n h) (sym waits.home)
+            (subst (λ (m : ℕ). IsUnfinished w p (home_in w op) m h) number
+            (at_log (home_in w op) h up low heads u there));
         inherited = waits.inherited;
       }
 
@@ -80,7 +85,9 @@ module _ (w : World) (p : ProcessId) (pin : IsProcess w.shape p) (stand : HeadsS
     full up (h, heads) finds = record {
       head = h;
       unfinished = subst (λ (e : ℕ). IsUnfinished w p e n h) (sym finds.home)
-          (let long = finds.full in let next = finds.oldest in unfinished w p (home_in w op) h heads (stand p (home_in w op) h (pin, up.process) low heads) n (omega (arith, next)) (omega (arith, long, next)));
+          (let long = finds.full in let next = finds.oldest in
+          unfinished w p (home_in w op) h heads (stand p (home_in w op) h (pin, up.process) low heads) n
+          (omega (arith, next)) (omega (arith, long, next)));
       inherited = λ gets. let takes = finds.accepted in let refused = get-refused (table_now w) op gets in absurd (cc (takes, refused));
     }
 
@@ -99,14 +106,17 @@ module _ (w : World) (p : ProcessId) (pin : IsProcess w.shape p) (stand : HeadsS
 
     pub ask-waits : (answer : Answer) → AskCause w after p op answer → answer ≡ Retry (Pending d n) → AskWaits w p op d.0 n
     ask-waits answer why is = by (subst (AskCause w after p op) is why) where
-      by : IsUp w p × IsReady w p (home_in w op) × (WaitsForKey w p op d.0 n ⊎ FindsWindowFull w p op d.0 n ⊎ WaitsForInherited w p op d.0 n) → AskWaits w p op d.0 n
+      by : IsUp w p × IsReady w p (home_in w op)
+          × (WaitsForKey w p op d.0 n ⊎ FindsWindowFull w p op d.0 n ⊎ WaitsForInherited w p op d.0 n)
+          → AskWaits w p op d.0 n
       by (up, ready, inl waits) = on-key up (ready-head (home_in w op) low up ready) waits
       by (up, ready, inr (inl finds)) = full up (ready-head (home_in w op) low up ready) finds
       by (up, ready, inr (inr waits)) = oldest up waits
 
   module _ (caller call : ℕ) where
     -- a process holds calls of what it heads, and no call of an update that wasn't issued
-    pub collect-waits : ((d : ℕ) (x : Held) → Lives w p → HoldsCall w p caller call d x → (h : Head) × (head_at (process_of w p) d ≡ Some h) × (x.number ≤ last_of (replica_of (process_of w p) d)))
+    pub collect-waits : ((d : ℕ) (x : Held) → Lives w p → HoldsCall w p caller call d x → (h : Head)
+        × (head_at (process_of w p) d ≡ Some h) × (x.number ≤ last_of (replica_of (process_of w p) d)))
         → (answer : Answer) → CollectCause w p caller call answer → answer ≡ NotYet → CollectWaits w p caller call
     collect-waits held answer why is = by (subst (CollectCause w p caller call) is why) where
       at_head : (up : IsUp w p) (d : ℕ) (x : Held) → HoldsCall w p caller call d x → (replica_of (process_of w p) d).applied < x.number
@@ -119,10 +129,13 @@ module _ (w : World) (p : ProcessId) (pin : IsProcess w.shape p) (stand : HeadsS
         unfinished = unfinished w p d h heads (stand p d h (pin, up.process) holds.partition heads) x.number above within;
       }
 
-      by : IsUp w p × ((d : ℕ) × (x : Held) × HoldsCall w p caller call d x × ((replica_of (process_of w p) d).applied < x.number)) → CollectWaits w p caller call
+      by : IsUp w p
+          × ((d : ℕ) × (x : Held) × HoldsCall w p caller call d x
+          × ((replica_of (process_of w p) d).applied < x.number)) → CollectWaits w p caller call
       by (up, (d, x, holds, above)) = at_head up d x holds above (held d x (pin, up.process) holds)
 
-    pub trace-waits : (d : ℕ) → d < w.shape.k → (answer : Answer) → TraceCause w p caller call d answer → answer ≡ NotYet → TraceWaits w p caller call d ⊎ MayBeElsewhere w p caller call d
+    pub trace-waits : (d : ℕ) → d < w.shape.k → (answer : Answer) → TraceCause w p caller call d answer
+        → answer ≡ NotYet → TraceWaits w p caller call d ⊎ MayBeElsewhere w p caller call d
     trace-waits d low answer why is = by (subst (TraceCause w p caller call d) is why) where
       here : (h : Head) → IsUp w p → head_at (process_of w p) d ≡ Some h
           → (u : Update) × Contains (replica_of (process_of w p) d).log u × ((u.caller == caller && u.call == call) ≡ true) → TraceWaits w p caller call d
@@ -139,7 +152,9 @@ module _ (w : World) (p : ProcessId) (pin : IsProcess w.shape p) (stand : HeadsS
             unfinished = at_log d h up low heads u there;
           }
 
-      by : IsUp w p × IsReady w p d × ((waits_at w p caller call d ≡ true) ⊎ (IsOpen w p caller call d × ((h : Head) × (head_at (process_of w p) d ≡ Some h) × (¬ (IsAdopted w p h)))))
+      by : IsUp w p × IsReady w p d
+          × ((waits_at w p caller call d ≡ true)
+          ⊎ (IsOpen w p caller call d × ((h : Head) × (head_at (process_of w p) d ≡ Some h) × (¬ (IsAdopted w p h)))))
           → TraceWaits w p caller call d ⊎ MayBeElsewhere w p caller call d
       by (up, ready, inl waits) =
           let head = ready-head d low up ready in

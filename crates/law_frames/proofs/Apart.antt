@@ -50,7 +50,9 @@ slot-of u items =
     let now = slot_after u.number u.body (slot_in items u.key) in
     slot_in-with u.key u.key now items ∙ ap (λ (b : Bool). if b then now else slot_in items u.key) (key-refl u.key)
 
-apart-by : (n : ℕ) (old : Option Slot) (b c : Body) → IfSome (run_of c) (λ run. OfSlot (λ x. AreApart run (run_in x)) (slot_after n b old)) → (a : ℕ) → in_some_run a (run_of b) ≡ true → in_some_run a (run_of c) ≡ false
+apart-by : (n : ℕ) (old : Option Slot) (b c : Body)
+    → IfSome (run_of c) (λ run. OfSlot (λ x. AreApart run (run_in x)) (slot_after n b old)) → (a : ℕ)
+    → in_some_run a (run_of b) ≡ true → in_some_run a (run_of c) ≡ false
 apart-by n old Remove c apart a hit = absurd cc
 apart-by n old (Touch until) c apart a hit = absurd cc
 apart-by n old (Put flags until run delta) Remove apart a hit = refl
@@ -60,9 +62,11 @@ apart-by n old (Put flags until run delta) (Put others later other change) apart
   by false is = is
   by true is = let not = apart a is in absurd (cc (not, hit))
 
-clear-of : (u : Update) (items : Items) (c : Option Run) → IfSome c (IsClear (item_settled u items)) → IfSome c (λ run. OfSlot (λ x. AreApart run (run_in x)) (slot_after u.number u.body (slot_in items u.key)))
+clear-of : (u : Update) (items : Items) (c : Option Run) → IfSome c (IsClear (item_settled u items))
+    → IfSome c (λ run. OfSlot (λ x. AreApart run (run_in x)) (slot_after u.number u.body (slot_in items u.key)))
 clear-of u items None clear = tt
-clear-of u items (Some run) clear = subst (OfSlot (λ x. AreApart run (run_in x))) (slot-of u items) (each-slot (λ x. AreApart run (run_in x)) u.key (item_settled u items) clear)
+clear-of u items (Some run) clear = subst (OfSlot (λ x. AreApart run (run_in x))) (slot-of u items)
+    (each-slot (λ x. AreApart run (run_in x)) u.key (item_settled u items) clear)
 
 clear-all : (items : Items) (us : List Update) → AreClear items us → Each (WritesClear items) us
 clear-all items [] clear = tt
@@ -80,7 +84,8 @@ hits-one items [] clear a = omega arith
 hits-one items (u ∷ us) clear a = by (in_some_run a (run_of u.body)) refl (hits-one (item_settled u items) us clear.2 a) where
   others : in_some_run a (run_of u.body) ≡ true → Each (λ v. in_some_run a (run_of v.body) ≡ false) us
   others hit = each-weaker (WritesClear (item_settled u items)) (λ v. in_some_run a (run_of v.body) ≡ false)
-      (λ v writes. apart-by u.number (slot_in items u.key) u.body v.body (clear-of u items (run_of v.body) writes) a hit) us (clear-all (item_settled u items) us clear.2)
+      (λ v writes. apart-by u.number (slot_in items u.key) u.body v.body (clear-of u items (run_of v.body) writes) a
+      hit) us (clear-all (item_settled u items) us clear.2)
 
   by : (b : Bool) → in_some_run a (run_of u.body) ≡ b → hits a us ≤ 1 → bit b + hits a us ≤ 1
   by true hit rest = let none = hits-none a us (others hit) in omega (arith, none)

@@ -30,7 +30,8 @@ heads-by : (o : Option Head) (r : ℕ) → option_map (λ h. h.rank) o ≡ Some 
 heads-by None r is = absurd cc
 heads-by (Some h) r is = (h, refl, cc)
 
-module _ (s : Dimensions) (shaped : IsShape s) (calls : List Call) (fits : Each CallFits calls) (v : State) (whole : Whole s calls v) (sound : LinksSound s v) (n : ℕ) (few : n < 2 ^ 63)
+module _ (s : Dimensions) (shaped : IsShape s) (calls : List Call) (fits : Each CallFits calls) (v : State)
+    (whole : Whole s calls v) (sound : LinksSound s v) (n : ℕ) (few : n < 2 ^ 63)
     (low : (p : ProcessId) (d : ℕ) → IsProcess s p → v.dead p ≡ false → last_of (replica_of (v.process p) d) ≤ n) where
   seated : (x : ProcessId) (d r : ℕ) → v.dead x ≡ false → IsFrom s v x d r → (h : Head) × (head_at (v.process x) d ≡ Some h) × (h.rank ≡ r)
   seated x d r lives from =
@@ -92,7 +93,9 @@ module _ (s : Dimensions) (shaped : IsShape s) (calls : List Call) (fits : Each 
     )
 
   -- what is told of a partition that its end heads
-  lanes-of : (x q : ProcessId) → IsProcess s x → IsProcess s q → x ≢ q → v.dead x ≡ false → v.dead q ≡ false → (d : ℕ) (h : Head) → IsParity q → d < s.k → head_at (v.process x) d ≡ Some h → Each (Found n d h.rank) (v.link x q)
+  lanes-of : (x q : ProcessId) → IsProcess s x → IsProcess s q → x ≢ q → v.dead x ≡ false → v.dead q ≡ false
+      → (d : ℕ) (h : Head) → IsParity q → d < s.k → head_at (v.process x) d ≡ Some h
+      → Each (Found n d h.rank) (v.link x q)
   lanes-of x (DataNode e) xin qin apart lives receives d h parity below heads = absurd parity
   lanes-of x (ParityNode i) xin qin apart lives receives d h parity below heads =
       let lane = (whole.reach d below).lanes x i xin qin apart receives in
@@ -101,9 +104,13 @@ module _ (s : Dimensions) (shaped : IsShape s) (calls : List Call) (fits : Each 
       let long = length-history (v.settled d) (replica_of (v.process (ParityNode i)) d) mine.applied in
       let most = low (ParityNode i) d qin receives in
       let ends = (lane.ends lives h heads).rank in
-      lane-found s shaped calls fits n few d (v.settled d) (omega (arith, reaches, long, most)) (seen_at d (v.settled d) (v.process (ParityNode i))) (v.link x (ParityNode i)) h.rank lane.goes (omega (arith, ends)) reaches
+      lane-found s shaped calls fits n few d (v.settled d) (omega (arith, reaches, long, most))
+      (seen_at d (v.settled d) (v.process (ParityNode i))) (v.link x (ParityNode i)) h.rank lane.goes
+      (omega (arith, ends)) reaches
 
-  acks-of : (x q : ProcessId) → IsProcess s x → IsProcess s q → x ≢ q → v.dead q ≡ false → (d : ℕ) (h : Head) → IsParity x → d < s.k → head_at (v.process q) d ≡ Some h → Each (AckBelow d (last_of (replica_of (v.process q) d))) (v.link x q)
+  acks-of : (x q : ProcessId) → IsProcess s x → IsProcess s q → x ≢ q → v.dead q ≡ false → (d : ℕ) (h : Head)
+      → IsParity x → d < s.k → head_at (v.process q) d ≡ Some h
+      → Each (AckBelow d (last_of (replica_of (v.process q) d))) (v.link x q)
   acks-of (DataNode e) q xin qin apart receives d h parity below heads = absurd parity
   acks-of (ParityNode i) q xin qin apart receives d h parity below heads = (whole.reach d below).issued q i h qin receives xin (λ same. apart (sym same)) heads
 

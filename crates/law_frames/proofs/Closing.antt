@@ -49,7 +49,8 @@ module _ (s : Dimensions) (n : ℕ) where
   risen : (v : State) → LinksClose s n v → LinksClose s (suc n) v
   risen v old x q xin qin apart lives = each-weaker (ClosesLow s n) (ClosesLow s (suc n)) (λ m low. more s n m low) (v.link x q) (old x q xin qin apart lives)
 
-  acted-close : (u w : State) (p : ProcessId) (step : ProcessStep) → IsProcess s p → u.dead p ≡ false → Members s w → Acted s u w p step → LinksClose s n u → Sends s n step → LinksClose s n w
+  acted-close : (u w : State) (p : ProcessId) (step : ProcessStep) → IsProcess s p → u.dead p ≡ false → Members s w
+      → Acted s u w p step → LinksClose s n u → Sends s n step → LinksClose s n w
   acted-close u w p step pin lives now acts old sends x q xin qin apart living = by (same-cases x p) where
     lived : u.dead q ≡ false
     lived = sym (acts.dead q qin) ∙ living
@@ -60,9 +61,12 @@ module _ (s : Dimensions) (n : ℕ) where
         let other : q ≢ p = λ (same : q ≡ p). apart (is ∙ sym same) in
         subst (λ (y : ProcessId). Each (ClosesLow s n) (w.link y q)) (sym is)
         (subst (Each (ClosesLow s n)) (sym (acts.sends q qin (unknown s u w p step pin lives now acts q qin other lived)))
-        (each-append (ClosesLow s n) (u.link p q) (sent_to q step.sent) (old p q pin qin (λ same. other (sym same)) lived) (each-sent_to (λ to m. ClosesLow s n m) q step.sent sends)))
+        (each-append (ClosesLow s n) (u.link p q) (sent_to q step.sent)
+        (old p q pin qin (λ same. other (sym same)) lived)
+        (each-sent_to (λ to m. ClosesLow s n m) q step.sent sends)))
 
-  popped-close : (v u : State) (x p : ProcessId) (m : Message) → IsProcess s x → IsProcess s p → x ≢ p → v.dead p ≡ false → Popped s v u x p m → LinksClose s n v → LinksClose s n u
+  popped-close : (v u : State) (x p : ProcessId) (m : Message) → IsProcess s x → IsProcess s p → x ≢ p
+      → v.dead p ≡ false → Popped s v u x p m → LinksClose s n v → LinksClose s n u
   popped-close v u x p m xin pin apart lives pops old y q yin qin between living = cases (same-cases y x) (same-cases q p) where
     was : Each (ClosesLow s n) (v.link y q)
     was = old y q yin qin between (sym (pops.dead q qin) ∙ living)
@@ -73,7 +77,8 @@ module _ (s : Dimensions) (n : ℕ) where
     cases : (y ≡ x) ⊎ (y ≢ x) → (q ≡ p) ⊎ (q ≢ p) → Each (ClosesLow s n) (u.link y q)
     cases (inr other) _ = subst (Each (ClosesLow s n)) (sym (pops.links y q yin qin (inl other))) was
     cases (inl is) (inr other) = subst (Each (ClosesLow s n)) (sym (pops.links y q yin qin (inr other))) was
-    cases (inl is) (inl same) = subst (λ (z : ProcessId). Each (ClosesLow s n) (u.link z q)) (sym is) (subst (λ (z : ProcessId). Each (ClosesLow s n) (u.link x z)) (sym same) taken)
+    cases (inl is) (inl same) = subst (λ (z : ProcessId). Each (ClosesLow s n) (u.link z q)) (sym is)
+        (subst (λ (z : ProcessId). Each (ClosesLow s n) (u.link x z)) (sym same) taken)
 
   died-close : (v w : State) (p : ProcessId) (keep : ℕ) → IsProcess s p → Died s v w p keep → LinksClose s n v → LinksClose s n w
   died-close v w p keep pin dies old x q xin qin apart living = by (same-cases x p) where
@@ -86,14 +91,18 @@ module _ (s : Dimensions) (n : ℕ) where
     by : (x ≡ p) ⊎ (x ≢ p) → Each (ClosesLow s n) (w.link x q)
     by (inr from) = subst (Each (ClosesLow s n)) (sym (dies.links x q xin qin from)) (old x q xin qin apart lived)
     by (inl is) = subst (λ (y : ProcessId). Each (ClosesLow s n) (w.link y q)) (sym is) (subst (Each (ClosesLow s n)) (sym (dies.cut q qin))
-        (each-append (ClosesLow s n) (take keep (v.link p q)) (tells.Notice p ∷ []) (each-take (ClosesLow s n) keep (v.link p q) (old p q pin qin (λ same. other (sym same)) lived)) (tt, tt)))
+        (each-append (ClosesLow s n) (take keep (v.link p q)) (tells.Notice p ∷ [])
+        (each-take (ClosesLow s n) keep (v.link p q) (old p q pin qin (λ same. other (sym same)) lived)) (tt, tt)))
 
-  moved-close : IsShape s → (v w : State) → Members s v → ((p : ProcessId) → IsProcess s p → (v.process p).as_leader.last_session ≤ n) → Moves s v w → LinksClose s n v → LinksClose s n w
+  moved-close : IsShape s → (v w : State) → Members s v
+      → ((p : ProcessId) → IsProcess s p → (v.process p).as_leader.last_session ≤ n) → Moves s v w → LinksClose s n v
+      → LinksClose s n w
   moved-close shaped v w now low (Stays same) old = subst (LinksClose s n) (sym same) old
   moved-close shaped v w now low (Treated p t pin up lives treats acts) old =
       acted-close v w p t pin lives ((members.keeps s shaped).treats v w p t pin up lives treats now acts) acts old (treats-sends s n (v.process p) t treats)
   moved-close shaped v w now low (Received u x p m xin pin apart up lives pops acts) old =
-      acted-close u w p (receive s x m (v.process p)) pin (pops.dead p pin ∙ lives) ((members.keeps s shaped).receives v u w x p m xin pin apart up lives now pops acts) acts
+      acted-close u w p (receive s x m (v.process p)) pin (pops.dead p pin ∙ lives)
+      ((members.keeps s shaped).receives v u w x p m xin pin apart up lives now pops acts) acts
       (popped-close v u x p m xin pin apart lives pops old) (receive-sends s n x m (v.process p) (low p pin))
   moved-close shaped v w now low (Failed p keep pin dies) old = died-close v w p keep pin dies old
 
@@ -102,8 +111,11 @@ links-close s es run = book_always s (λ b. LinksClose s b.history.world.events 
   start : LinksClose s 0 (state_of (no_history s))
   start x q xin qin apart lives = subst (Each (ClosesLow s 0)) (sym ((runs_move s).opens.links x q xin qin)) tt
 
-  next : (done : List Event) (e : Event) → IsRun s done → IsRun s (done ++ e ∷ []) → MayCome (after s done) e → LinksClose s (book_of s done).history.world.events (state_of (book_of s done).history)
+  next : (done : List Event) (e : Event) → IsRun s done → IsRun s (done ++ e ∷ []) → MayCome (after s done) e
+      → LinksClose s (book_of s done).history.world.events (state_of (book_of s done).history)
       → LinksClose s (booked (book_of s done) e).history.world.events (state_of (booked (book_of s done) e).history)
   next done e ran longer may old = risen s (book_of s done).history.world.events (state_of (prolonged (book_of s done).history e))
-      (moved-close s (book_of s done).history.world.events ran.0 (state_of (book_of s done).history) (state_of (prolonged (book_of s done).history e)) (whole-always s done ran).carried.members (sessions-low s done ran)
+      (moved-close s (book_of s done).history.world.events ran.0 (state_of (book_of s done).history)
+      (state_of (prolonged (book_of s done).history e)) (whole-always s done ran).carried.members
+      (sessions-low s done ran)
       (subst (λ (h : History). Moves s (state_of h) (state_of (prolonged h e))) (sym (book-history (no_book s) done)) ((runs_move s).moves done e ran may)) old)

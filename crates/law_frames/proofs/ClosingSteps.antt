@@ -1,5 +1,6 @@
 -- No step sends the word that sessions are closed but for those that were started.
-use Rattle.std.proofs.Common.{◌≡◌, ℕ, suc, ◌+◌, ◌≤◌, ◌==◌, nat_le, Bool, true, false, not, List, [], ◌∷◌, length, map, filter, find, flat_map, Option, Some, None, refl, arith}
+use Rattle.std.proofs.Common.{◌≡◌, ℕ, suc, ◌+◌, ◌≤◌, ◌==◌, nat_le, Bool, true, false, not, List, [], ◌∷◌, length, map}
+use Rattle.std.proofs.Common.{filter, find, flat_map, Option, Some, None, refl, arith}
 use Rattle.std.specs.List.{list_any, range_with_len}
 use Rattle.group_types.specs.Dimensions.{Dimensions, space_of}
 use Rattle.group_types.specs.Hash.{home_of}
@@ -18,13 +19,18 @@ use Rattle.group_message.specs.declared.update.Update.{Update}
 use Rattle.group_calls.specs.Turns.{CallName}
 use Rattle.group_calls.specs.declared.decision.Decision.{Decision}
 use Rattle.group_calls.specs.declared.decision.Decision.TheVariants as decides
-use Rattle.group_run.specs.Applying.{ProcessStep, Sent, and_then, apply_to, for_each, head_at, held_at, quiet, replica_of, sending, when, with_head, with_replica}
-use Rattle.group_run.specs.Asking.{Oldest, act_on, ask_head, collect_from, collect_held, found_at, handed_out, is_call, issued, oldest_inherited, retry_block, ticketed, update_of}
+use Rattle.group_run.specs.Applying.{ProcessStep, Sent, and_then, apply_to, for_each, head_at, held_at, quiet}
+use Rattle.group_run.specs.Applying.{replica_of, sending, when, with_head, with_replica}
+use Rattle.group_run.specs.Asking.{Oldest, act_on, ask_head, collect_from, collect_held, found_at, handed_out, is_call}
+use Rattle.group_run.specs.Asking.{issued, oldest_inherited, retry_block, ticketed, update_of}
 use Rattle.group_run.specs.Deciding.{decide}
 use Rattle.group_run.specs.Heading.{acknowledge, acknowledged, judge, judge_head, other_parities, partition, rank, tell_stable, tell_stables, to_others}
-use Rattle.group_run.specs.Leaders.{close_sessions, copy_kept, copy_marked, leader_marks, left_of, lost_of, mark_comes, mark_taken, own_mark, row_finished, rows_of, session_of, session_opened, session_starts, start_session}
+use Rattle.group_run.specs.Leaders.{close_sessions, copy_kept, copy_marked, leader_marks, left_of, lost_of, mark_comes}
+use Rattle.group_run.specs.Leaders.{mark_taken, own_mark, row_finished, rows_of, session_of, session_opened}
+use Rattle.group_run.specs.Leaders.{session_starts, start_session}
 use Rattle.group_run.specs.Process.{Copy, Gathering, Head, Held, Process}
-use Rattle.group_run.specs.Receiving.{ack_to, death_known, enthroned, log_adopted, notice_comes, read_comes, receive, take_over_if, taken_over, takes_over, update_taken}
+use Rattle.group_run.specs.Receiving.{ack_to, death_known, enthroned, log_adopted, notice_comes, read_comes, receive}
+use Rattle.group_run.specs.Receiving.{take_over_if, taken_over, takes_over, update_taken}
 use Rattle.group_run.specs.Replica.{with_update}
 use Rattle.group_run.specs.Rows.{accepts_mark, begin_copy, copy_in, is_marked, marked, parity_number, with_copies, without_copy}
 use Rattle.law_moves.proofs.Moves.{Asks, Collects, Flushes, Treats}
@@ -63,7 +69,9 @@ module _ (s : Dimensions) (n : ℕ) where
   takes-sends : (d : ℕ) (p : Process) → Sends (take_over_if s d p)
   takes-sends d p = when-sends (takes_over p d p.name) p (taken_over s d p)
       (let q : Process = enthroned s (suc (parity_number p.name)) d p in
-      then-sends (sending (to_others s p (tells.Adopt (rank (suc (parity_number p.name))) (partition d) (replica_of p d).applied (replica_of p d).log)) q) (judge s d) (others-send p _ tt) (judge-sends d q))
+      then-sends (sending
+      (to_others s p (tells.Adopt (rank (suc (parity_number p.name))) (partition d) (replica_of p d).applied
+      (replica_of p d).log)) q) (judge s d) (others-send p _ tt) (judge-sends d q))
 
   finished-sends : (own : Bool) (c : Copy) (p : Process) → Sends (row_finished own s c p)
   finished-sends true c p = tt
@@ -104,7 +112,12 @@ module _ (s : Dimensions) (n : ℕ) where
       all_marks : (ls : List ℕ) → Each (λ z. ClosesLow z.message) (flat_map (leader_marks s l number block p) ls)
       all_marks [] = tt
       all_marks (e ∷ ls) = each-append (λ z. ClosesLow z.message) (leader_marks s l number block p e) (flat_map (leader_marks s l number block p) ls)
-          (each-map (λ z. ClosesLow z.message) (λ i. record { to = ParityNode i; message = tells.Mark (session_of l number) (rank (at 0 p.ranks e)) block (partition e) (replica_of p e).applied }) (filter (λ i. not (i == l)) (rows_of s p))
+          (each-map (λ z. ClosesLow z.message)
+          (λ i. record {
+            to = ParityNode i;
+            message = tells.Mark (session_of l number) (rank (at 0 p.ranks e)) block
+                (partition e) (replica_of p e).applied;
+          }) (filter (λ i. not (i == l)) (rows_of s p))
           (each-all (λ i. Unit {0}) (λ i. tt) (filter (λ i. not (i == l)) (rows_of s p)))) (all_marks ls)
 
   -- calls
@@ -134,7 +147,9 @@ module _ (s : Dimensions) (n : ℕ) where
     ask-sends : (call : CallName) (op : Asked) (o : Option Head) → Sends (ask_head s call op (home_of (key_of op.act) s.k) p o).step
     ask-sends call op None = tt
     ask-sends call op (Some h) =
-        act-sends call op (home_of (key_of op.act) s.k) h (decide (space_of s) h.inherited (replica_of p (home_of (key_of op.act) s.k)) op (found_at s (home_of (key_of op.act) s.k) p p.name))
+        act-sends call op (home_of (key_of op.act) s.k) h
+        (decide (space_of s) h.inherited (replica_of p (home_of (key_of op.act) s.k)) op
+        (found_at s (home_of (key_of op.act) s.k) p p.name))
 
     collect-sends : (caller call : ℕ) (ds : List ℕ) → Sends (collect_from caller call p ds).step
     collect-sends caller call [] = tt
@@ -149,10 +164,11 @@ module _ (s : Dimensions) (n : ℕ) where
 
     stables-send : (ds : List ℕ) → Each (λ z. ClosesLow z.message) (tell_stables s p ds)
     stables-send [] = tt
-    stables-send (d ∷ ds) = each-append (λ z. ClosesLow z.message) (tell_stable s p d (head_at p d)) (tell_stables s p ds) (by (head_at p d)) (stables-send ds) where
-      by : (o : Option Head) → Each (λ z. ClosesLow z.message) (tell_stable s p d o)
-      by None = tt
-      by (Some h) = others-send p _ tt
+    stables-send (d ∷ ds) = each-append (λ z. ClosesLow z.message) (tell_stable s p d (head_at p d))
+        (tell_stables s p ds) (by (head_at p d)) (stables-send ds) where
+          by : (o : Option Head) → Each (λ z. ClosesLow z.message) (tell_stable s p d o)
+          by None = tt
+          by (Some h) = others-send p _ tt
 
     pub treats-sends : (t : ProcessStep) → Treats s p t → Sends t
     treats-sends _ (Asks call op bytes) = ask-sends call op (head_at p (home_of (key_of op.act) s.k))
@@ -175,7 +191,9 @@ module _ (s : Dimensions) (n : ℕ) where
       let closed : ProcessStep = close_sessions s q.as_leader.sessions q in
       let judged : ProcessStep = and_then closed (for_each (range_with_len 0 s.k) (judge s)) in
       then-sends judged (for_each (range_with_len 0 s.k) (take_over_if s))
-      (then-sends closed (for_each (range_with_len 0 s.k) (judge s)) (close-sends q.as_leader.sessions q (omega (arith, low, same))) (each-sends (range_with_len 0 s.k) (judge s) closed.process judge-sends))
+      (then-sends closed (for_each (range_with_len 0 s.k) (judge s))
+      (close-sends q.as_leader.sessions q (omega (arith, low, same)))
+      (each-sends (range_with_len 0 s.k) (judge s) closed.process judge-sends))
       (each-sends (range_with_len 0 s.k) (take_over_if s) judged.process takes-sends)
 
   ack-sends : (i r d k : ℕ) (o : Option Head) (p : Process) → Sends (acknowledge s i r d k o p)
@@ -188,15 +206,22 @@ module _ (s : Dimensions) (n : ℕ) where
   read-sends session block rows p (ParityNode i) = tt
   read-sends session block rows p (DataNode e) = (
     tt,
-    each-map (λ z. ClosesLow z.message) (λ i. record { to = ParityNode i; message = tells.Mark session (rank 0) block (partition e) (replica_of p e).applied }) rows (each-all (λ i. Unit {0}) (λ i. tt) rows),
+    each-map (λ z. ClosesLow z.message)
+        (λ i. record {
+          to = ParityNode i;
+          message = tells.Mark session (rank 0) block (partition e)
+              (replica_of p e).applied;
+        }) rows (each-all (λ i. Unit {0}) (λ i. tt) rows),
   )
 
   pub receive-sends : (x : ProcessId) (m : Message) (p : Process) → p.as_leader.last_session ≤ n → Sends (receive s x m p)
-  receive-sends x (tells.Update r d u stable) p low = when-sends (nat_le (at 0 p.ranks d.0) r.0) p (ack_to x r.0 d.0 u.number (update_taken s d.0 u stable p)) (tt, tt)
+  receive-sends x (tells.Update r d u stable) p low = when-sends (nat_le (at 0 p.ranks d.0) r.0) p
+      (ack_to x r.0 d.0 u.number (update_taken s d.0 u stable p)) (tt, tt)
   receive-sends (DataNode e) (tells.Ack r d k) p low = tt
   receive-sends (ParityNode i) (tells.Ack r d k) p low = ack-sends i r.0 d.0 k (head_at p d.0) p
   receive-sends x (tells.Stable r d k) p low = when-sends (nat_le (at 0 p.ranks d.0) r.0) p (quiet (apply_to s d.0 k p)) tt
-  receive-sends x (tells.Adopt r d base list) p low = when-sends (nat_le (at 0 p.ranks d.0) r.0) p (ack_to x r.0 d.0 (base + length list) (log_adopted s r.0 d.0 base list p)) (tt, tt)
+  receive-sends x (tells.Adopt r d base list) p low = when-sends (nat_le (at 0 p.ranks d.0) r.0) p
+      (ack_to x r.0 d.0 (base + length list) (log_adopted s r.0 d.0 base list p)) (tt, tt)
   receive-sends x (tells.ReadBlock session block rows) p low = read-sends session block rows p p.name
   receive-sends (DataNode e) (tells.Block session bytes k) p low = tt
   receive-sends (ParityNode i) (tells.Block session bytes k) p low = tt

@@ -37,8 +37,10 @@ Found n d rank (tells.Adopt r e base list) = e.0 ≡ d → r.0 ≡ rank → Each
 Found n d rank (tells.Stable r e number) = e.0 ≡ d → r.0 ≡ rank → number ≤ n
 Found n d rank _ = Unit {0}
 
-module _ (s : Dimensions) (shaped : IsShape s) (calls : List Call) (fits : Each CallFits calls) (n : ℕ) (few : n < 2 ^ 63) (d : ℕ) (settled : List Update) (low : length settled ≤ n) where
-  update-found : (seen : Seen) (r : ℕ) (u : Update) (stable : ℕ) → UpdateGoes (FineIn s calls) d settled seen r u stable → FitsUpdate u × (written u.body ≤ most_space) × (stable ≤ n)
+module _ (s : Dimensions) (shaped : IsShape s) (calls : List Call) (fits : Each CallFits calls) (n : ℕ)
+    (few : n < 2 ^ 63) (d : ℕ) (settled : List Update) (low : length settled ≤ n) where
+  update-found : (seen : Seen) (r : ℕ) (u : Update) (stable : ℕ) → UpdateGoes (FineIn s calls) d settled seen r u stable
+      → FitsUpdate u × (written u.body ≤ most_space) × (stable ≤ n)
   update-found seen r u stable goes =
       let whole = seen.history ++ u ∷ [] in
       let number = last-number seen.history u goes.fine.0 in
@@ -46,8 +48,11 @@ module _ (s : Dimensions) (shaped : IsShape s) (calls : List Call) (fits : Each 
       let told = goes.stable_settled in
       let long = length-append seen.history (u ∷ []) in
       let space = shaped.blocks.1 in
-      let all = steps-fit s shaped calls fits d 0 (no_store s) whole (omega (arith, number, near, told, long, low, few)) (no_store-fits s) tt goes.fine.1.steps in
-      let last = (subst (Each (UpdateFits s shaped calls fits d)) (drop_at seen.history (u ∷ []) (length seen.history) refl) (each-drop (UpdateFits s shaped calls fits d) (length seen.history) whole all)).0 in
+      let all = steps-fit s shaped calls fits d 0 (no_store s) whole (omega (arith, number, near, told, long, low, few))
+      (no_store-fits s) tt goes.fine.1.steps in
+      let last = (subst (Each (UpdateFits s shaped calls fits d))
+      (drop_at seen.history (u ∷ []) (length seen.history) refl)
+      (each-drop (UpdateFits s shaped calls fits d) (length seen.history) whole all)).0 in
       let size = written-few (space_of s) u.body last.1 in
       (last.0, omega (arith, size, space), omega (arith, told, low))
 
@@ -61,15 +66,21 @@ module _ (s : Dimensions) (shaped : IsShape s) (calls : List Call) (fits : Each 
       let cut : length front ≡ base = length-take-le base seen.history (omega (arith, told, begins)) in
       let long = length-append front list in
       let behind = drop_at front list base cut in
-      let all = steps-fit s shaped calls fits d 0 (no_store s) (front ++ list) (omega (arith, cut, long, short, told, low, few)) (no_store-fits s) tt goes.fine.1.steps in
+      let all = steps-fit s shaped calls fits d 0 (no_store s) (front ++ list)
+      (omega (arith, cut, long, short, told, low, few)) (no_store-fits s) tt goes.fine.1.steps in
       let mine = subst (Each (UpdateFits s shaped calls fits d)) behind (each-drop (UpdateFits s shaped calls fits d) base (front ++ list) all) in
-      let size = total-few (space_of s) _ list (each-weaker (UpdateFits s shaped calls fits d) (λ u. Writes (space_of s) u.body) (λ u both. both.1) list mine) (subst (AreClear _) behind goes.fine.1.clear) in
+      let size = total-few (space_of s) _ list
+      (each-weaker (UpdateFits s shaped calls fits d) (λ u. Writes (space_of s) u.body) (λ u both. both.1) list mine)
+      (subst (AreClear _) behind goes.fine.1.clear) in
       (each-weaker (UpdateFits s shaped calls fits d) FitsUpdate (λ u both. both.0) list mine, omega (arith, size, space), short, omega (arith, told, low))
 
   -- of one message, at what is seen before it
-  found : (seen : Seen) (m : Message) (rank : ℕ) → Goes (FineIn s calls) d settled seen m → seen.rank ≤ rank → length settled ≤ length seen.history → Found n d rank m
-  found seen (tells.Update r e u stable) rank goes below begins = λ same is. update-found seen r.0 u stable (goes (live-is d seen e.0 r.0 same (omega (arith, below, is))))
-  found seen (tells.Adopt r e base list) rank goes below begins = λ same is. adopt-found seen r.0 base list begins (goes (live-is d seen e.0 r.0 same (omega (arith, below, is))))
+  found : (seen : Seen) (m : Message) (rank : ℕ) → Goes (FineIn s calls) d settled seen m → seen.rank ≤ rank
+      → length settled ≤ length seen.history → Found n d rank m
+  found seen (tells.Update r e u stable) rank goes below begins = λ same is. update-found seen r.0 u stable
+      (goes (live-is d seen e.0 r.0 same (omega (arith, below, is))))
+  found seen (tells.Adopt r e base list) rank goes below begins = λ same is. adopt-found seen r.0 base list begins
+      (goes (live-is d seen e.0 r.0 same (omega (arith, below, is))))
   found seen (tells.Stable r e number) rank goes below begins = λ same is.
       let told = (goes (live-is d seen e.0 r.0 same (omega (arith, below, is)))).number_settled in
       omega (arith, told, low)
@@ -86,7 +97,8 @@ module _ (s : Dimensions) (shaped : IsShape s) (calls : List Call) (fits : Each 
   raised-begins false number seen begins = begins
 
   -- what is seen goes on to have all that is settled
-  begins-next : (seen : Seen) (m : Message) → Goes (FineIn s calls) d settled seen m → length settled ≤ length seen.history → length settled ≤ length (next d seen m).history
+  begins-next : (seen : Seen) (m : Message) → Goes (FineIn s calls) d settled seen m
+      → length settled ≤ length seen.history → length settled ≤ length (next d seen m).history
   begins-next seen (tells.Update r e u stable) goes begins = by (is_live d seen e.0 r.0) where
     by : (b : Bool) → length settled ≤ length (appended b u stable seen).history
     by true = let long = length-append seen.history (u ∷ []) in omega (arith, begins, long)
@@ -104,7 +116,8 @@ module _ (s : Dimensions) (shaped : IsShape s) (calls : List Call) (fits : Each 
   begins-next seen (tells.Cease upto) goes begins = begins
   begins-next seen (tells.Notice dead) goes begins = begins
 
-  pub lane-found : (seen : Seen) (ms : List Message) (rank : ℕ) → Along (next d) (Goes (FineIn s calls) d settled) seen ms → (run (next d) seen ms).rank ≤ rank → length settled ≤ length seen.history → Each (Found n d rank) ms
+  pub lane-found : (seen : Seen) (ms : List Message) (rank : ℕ) → Along (next d) (Goes (FineIn s calls) d settled) seen
+      ms → (run (next d) seen ms).rank ≤ rank → length settled ≤ length seen.history → Each (Found n d rank) ms
   lane-found seen [] rank along below begins = tt
   lane-found seen (m ∷ ms) rank along below begins =
       let rises = run-rises d seen (m ∷ ms) in (

@@ -30,7 +30,14 @@ length-frees (Some r) = omega arith
 length-body : (b : Body) → length (body b) ≤ 26 + written b
 length-body (Put flags until r delta) =
     let few = length-until until in
-    omega (arith, few, length-append (0 ∷ four flags ++ maybe eight until ++ run r) (four (length delta) ++ delta), length-append (0 ∷ four flags ++ maybe eight until) (run r), length-append (0 ∷ four flags) (maybe eight until), length-append (four (length delta)) delta)
+    omega (
+      arith,
+      few,
+      length-append (0 ∷ four flags ++ maybe eight until ++ run r) (four (length delta) ++ delta),
+      length-append (0 ∷ four flags ++ maybe eight until) (run r),
+      length-append (0 ∷ four flags) (maybe eight until),
+      length-append (four (length delta)) delta,
+    )
 length-body Remove = omega arith
 length-body (Touch until) = let few = length-until until in omega (arith, few)
 
@@ -70,7 +77,8 @@ all-fit [] all = tt
 all-fit (u ∷ us) all = (all.0, all-fit us all.1)
 
 -- a whole log whose updates write no more than a space
-pub adopt-frame : (r d base : ℕ) (us : List Update) → IsOne r → IsOne d → IsEight base → length us ≤ window → Each FitsUpdate us → total us ≤ most_space → HasFrame (tells.Adopt (rank r) (partition d) base us)
+pub adopt-frame : (r d base : ℕ) (us : List Update) → IsOne r → IsOne d → IsEight base → length us ≤ window
+    → Each FitsUpdate us → total us ≤ most_space → HasFrame (tells.Adopt (rank r) (partition d) base us)
 adopt-frame r d base us is_r is_d is_base few all small =
     let long = length-updates us all in
     record {
@@ -79,7 +87,8 @@ adopt-frame r d base us is_r is_d is_base few all small =
     }
 
 -- one update
-pub update-frame : (r d stable : ℕ) (u : Update) → IsOne r → IsOne d → IsEight stable → FitsUpdate u → written u.body ≤ most_space → HasFrame (tells.Update (rank r) (partition d) u stable)
+pub update-frame : (r d stable : ℕ) (u : Update) → IsOne r → IsOne d → IsEight stable → FitsUpdate u
+    → written u.body ≤ most_space → HasFrame (tells.Update (rank r) (partition d) u stable)
 update-frame r d stable u is_r is_d is_stable fits small =
     let long = length-update u fits in
     record {

@@ -1,5 +1,6 @@
 -- Every update of a fine history fits a frame, where its calls do.
-use Rattle.std.proofs.Common.{◌≡◌, ◌<◌, ◌≤◌, ℕ, suc, ◌+◌, ◌^◌, Bool, true, false, List, [], ◌∷◌, length, Option, Some, None, if◌then◌else◌, sym, ap, subst, arith}
+use Rattle.std.proofs.Common.{◌≡◌, ◌<◌, ◌≤◌, ℕ, suc, ◌+◌, ◌^◌, Bool, true, false, List, [], ◌∷◌, length, Option, Some}
+use Rattle.std.proofs.Common.{None, if◌then◌else◌, sym, ap, subst, arith}
 use Rattle.group_types.specs.Dimensions.{Dimensions, space_of}
 use Rattle.group_types.specs.Key.{IsKey}
 use Rattle.group_types.specs.Shape.{IsShape}
@@ -65,26 +66,34 @@ module _ (s : Dimensions) (shaped : IsShape s) where
   run-fits : (at len : ℕ) → at + len ≤ space_of s → IsFour at × IsFour len
   run-fits at len inside = let most = shaped.blocks.1 in (omega (arith, inside, most), omega (arith, inside, most))
 
-  put-fits : (flags : ℕ) (until : Option ℕ) (run : Run) (delta : List ℕ) → IsFour flags × FitsMaybe IsEight until → IsRunOf (space_of s) (length delta) run → FitsBody (Put flags until run delta)
+  put-fits : (flags : ℕ) (until : Option ℕ) (run : Run) (delta : List ℕ) → IsFour flags × FitsMaybe IsEight until
+      → IsRunOf (space_of s) (length delta) run → FitsBody (Put flags until run delta)
   put-fits flags until run delta fits writes =
       let long = writes.long in
       let inside = writes.inside in
       let most = shaped.blocks.1 in
       (fits.0, fits.1, run-fits run.at run.len inside, omega (arith, long, inside, most), sym long)
 
-  body-fits : (store : Store) (touch : Bool) (leaves : Option Holding) (body : Body) → FitsMaybe HoldingFits leaves → IsBodyOf s store touch leaves body → Writes (space_of s) body → FitsBody body
+  body-fits : (store : Store) (touch : Bool) (leaves : Option Holding) (body : Body) → FitsMaybe HoldingFits leaves
+      → IsBodyOf s store touch leaves body → Writes (space_of s) body → FitsBody body
   body-fits store touch None body fits is writes = subst FitsBody (sym is) tt
   body-fits store true (Some h) body fits is writes = subst FitsBody (sym is) fits.1
   body-fits store false (Some h) body fits is writes =
-      subst FitsBody (sym is.is) (put-fits h.item.flags h.until is.run (add_bytes h.item.value (bytes_at is.run.at is.run.len store.space)) fits (subst (Writes (space_of s)) is.is writes))
+      subst FitsBody (sym is.is)
+      (put-fits h.item.flags h.until is.run (add_bytes h.item.value (bytes_at is.run.at is.run.len store.space)) fits
+      (subst (Writes (space_of s)) is.is writes))
 
-  touched-fits : (n : ℕ) (until : Option ℕ) (old : Option Slot) → FitsMaybe IsEight until → OfSlot SlotFits old → OfSlot SlotFits (slot_after n (Touch until) old)
+  touched-fits : (n : ℕ) (until : Option ℕ) (old : Option Slot) → FitsMaybe IsEight until → OfSlot SlotFits old
+      → OfSlot SlotFits (slot_after n (Touch until) old)
   touched-fits n until None fits old = tt
   touched-fits n until (Some slot) fits old = (old.0, fits)
 
-  slot-fits : (n : ℕ) (store : Store) (touch : Bool) (leaves : Option Holding) (body : Body) (old : Option Slot) → FitsMaybe HoldingFits leaves → IsBodyOf s store touch leaves body → OfSlot SlotFits old → OfSlot SlotFits (slot_after n body old)
+  slot-fits : (n : ℕ) (store : Store) (touch : Bool) (leaves : Option Holding) (body : Body) (old : Option Slot)
+      → FitsMaybe HoldingFits leaves → IsBodyOf s store touch leaves body → OfSlot SlotFits old
+      → OfSlot SlotFits (slot_after n body old)
   slot-fits n store touch None body old fits is was = subst (λ (b : Body). OfSlot SlotFits (slot_after n b old)) (sym is) tt
-  slot-fits n store true (Some h) body old fits is was = subst (λ (b : Body). OfSlot SlotFits (slot_after n b old)) (sym is) (touched-fits n h.until old fits.1 was)
+  slot-fits n store true (Some h) body old fits is was = subst (λ (b : Body). OfSlot SlotFits (slot_after n b old))
+      (sym is) (touched-fits n h.until old fits.1 was)
   slot-fits n store false (Some h) body old fits is was = subst (λ (b : Body). OfSlot SlotFits (slot_after n b old)) (sym is.is) fits
 
   frees-fit : (body : Body) (slot : Option Slot) → OfSlot (λ x. x.at + x.len ≤ space_of s) slot → FitsMaybe FitsRun (freed_by body slot)
@@ -96,7 +105,8 @@ module _ (s : Dimensions) (shaped : IsShape s) where
 
   module _ (calls : List Call) (all : Each CallFits calls) (d : ℕ) where
     -- what the call of an update leaves fits
-    leaves-fit : (n : ℕ) (store : Store) (u : Update) → Each (λ x. SlotFits x.1) store.items → (step : IsStep s calls d n store u) → RulingFits (Accepted step.right.reply step.right.leaves)
+    leaves-fit : (n : ℕ) (store : Store) (u : Update) → Each (λ x. SlotFits x.1) store.items
+        → (step : IsStep s calls d n store u) → RulingFits (Accepted step.right.reply step.right.leaves)
     leaves-fit n store u slots step =
         let op = step.call.op in
         let fits = (each-contained CallFits calls step.call all step.asked).0 in
@@ -104,7 +114,8 @@ module _ (s : Dimensions) (shaped : IsShape s) where
         (ruling-fits op.moment n fits.0 op.act (live_at op.moment (held_in store.space (slot_in store.items (key_of op.act)))) fits.1
         (held-fits op.moment store.space (slot_in store.items (key_of op.act)) (each-slot SlotFits (key_of op.act) store.items slots)))
 
-    step-fits : (n : ℕ) (store : Store) (u : Update) → n < 2 ^ 64 → StoreFits s store → Each (λ x. SlotFits x.1) store.items → IsStep s calls d n store u → FitsUpdate u
+    step-fits : (n : ℕ) (store : Store) (u : Update) → n < 2 ^ 64 → StoreFits s store
+        → Each (λ x. SlotFits x.1) store.items → IsStep s calls d n store u → FitsUpdate u
     step-fits n store u low fits slots step =
         let call = each-contained CallFits calls step.call all step.asked in
         let right = step.right in
@@ -119,7 +130,9 @@ module _ (s : Dimensions) (shaped : IsShape s) where
           omega (arith, named, late),
           subst IsKey (sym right.key) (act-key step.call.op.act call.0.1),
           body-fits store (is_touch step.call.op.act) right.leaves u.body leaves.1 right.body (step-writes s calls d n store u fits step),
-          subst (FitsMaybe FitsRun) (sym right.frees) (frees-fit u.body (slot_in store.items u.key) (each-slot (λ x. x.at + x.len ≤ space_of s) u.key store.items fits.inside)),
+          subst (FitsMaybe FitsRun) (sym right.frees)
+              (frees-fit u.body (slot_in store.items u.key) (each-slot (λ x. x.at + x.len ≤ space_of s) u.key store.items
+              fits.inside)),
           subst FitsOutcome (sym right.outcome) leaves.0,
         )
 
@@ -127,14 +140,17 @@ module _ (s : Dimensions) (shaped : IsShape s) where
     abbrev pub UpdateFits : Update → Type 0
     UpdateFits u = FitsUpdate u × Writes (space_of s) u.body
 
-    pub steps-fit : (n : ℕ) (store : Store) (us : List Update) → n + length us < 2 ^ 64 → StoreFits s store → Each (λ x. SlotFits x.1) store.items → AreSteps s calls d n store us → Each UpdateFits us
+    pub steps-fit : (n : ℕ) (store : Store) (us : List Update) → n + length us < 2 ^ 64 → StoreFits s store
+        → Each (λ x. SlotFits x.1) store.items → AreSteps s calls d n store us → Each UpdateFits us
     steps-fit n store [] low fits slots steps = tt
     steps-fit n store (u ∷ us) low fits slots steps =
         let step = steps.0 in
         let leaves = leaves-fit (suc n) store u slots step in (
           (step-fits (suc n) store u (omega (arith, low)) fits slots step, step-writes s calls d (suc n) store u fits step),
-          steps-fit (suc n) (stored s d u store) us (omega (arith, low)) ((right_updates_leave s d (suc n) store step.call.op u fits step.right).fits step.fits.bytes)
+          steps-fit (suc n) (stored s d u store) us (omega (arith, low))
+              ((right_updates_leave s d (suc n) store step.call.op u fits step.right).fits step.fits.bytes)
               (each-with SlotFits u.key (slot_after u.number u.body (slot_in store.items u.key)) store.items
-              (slot-fits u.number store (is_touch step.call.op.act) step.right.leaves u.body (slot_in store.items u.key) leaves.1 step.right.body (each-slot SlotFits u.key store.items slots)) slots)
+              (slot-fits u.number store (is_touch step.call.op.act) step.right.leaves u.body (slot_in store.items u.key)
+              leaves.1 step.right.body (each-slot SlotFits u.key store.items slots)) slots)
               steps.1,
         )

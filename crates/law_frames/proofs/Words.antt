@@ -26,18 +26,23 @@ use Rattle.law_frames.proofs.Sessions.{session-words}
 use Rattle.law_frames.proofs.Started.{sessions-low}
 
 -- of a group, in its own words
-world-words : (s : Dimensions) → IsShape s → (h : History) (calls : List Call) → h.world.shape ≡ s → Whole s calls (state_of h) → LinksSound s (state_of h) → RowsSound s (state_of h) → NumbersAreLow h.world
-    → ((p : ProcessId) → IsProcess s p → ((state_of h).process p).as_leader.last_session ≤ h.world.events) → LinksClose s h.world.events (state_of h) → h.world.events < 2 ^ 63
+world-words : (s : Dimensions) → IsShape s → (h : History) (calls : List Call) → h.world.shape ≡ s
+    → Whole s calls (state_of h) → LinksSound s (state_of h) → RowsSound s (state_of h) → NumbersAreLow h.world
+    → ((p : ProcessId) → IsProcess s p → ((state_of h).process p).as_leader.last_session ≤ h.world.events)
+    → LinksClose s h.world.events (state_of h) → h.world.events < 2 ^ 63
     → (from to : ProcessId) → IsProcess s from → Lives h.world to → from ≢ to → Each HasFrameIfOfSession (link h.world from to)
 world-words s shaped h calls shape whole sound rows low started closes few from to fin tin apart =
     session-words s shaped calls (state_of h) whole sound rows h.world.events few
-    (λ p d pin lives. low-at h.world.events (process_of h.world p).replicas d (low.updates p (subst (λ (t : Dimensions). IsProcess t p) (sym shape) pin, lives))) started
-    from to fin (subst (λ (t : Dimensions). IsProcess t to) shape tin.0) apart tin.1 (closes from to fin (subst (λ (t : Dimensions). IsProcess t to) shape tin.0) apart tin.1)
+    (λ p d pin lives. low-at h.world.events (process_of h.world p).replicas d
+    (low.updates p (subst (λ (t : Dimensions). IsProcess t p) (sym shape) pin, lives))) started
+    from to fin (subst (λ (t : Dimensions). IsProcess t to) shape tin.0) apart tin.1
+    (closes from to fin (subst (λ (t : Dimensions). IsProcess t to) shape tin.0) apart tin.1)
 
 pub sessions_have_frames : SessionsHaveFrames
 sessions_have_frames s es run few from to fin tin apart =
     let same : (book_of s es).history.world ≡ after s es = book-world s es in
     subst (λ (w : World). Each HasFrameIfOfSession (link w from to)) same
     (world-words s run.0 (book_of s es).history (book_of s es).issued (book-shape s es) (whole-always s es run) (sound-always s (whole-always s) es run)
-    (subst (λ (h : History). RowsSound s (state_of h)) (sym (book-history (no_book s) es)) (rows-sound-always s es run)) (subst NumbersAreLow (sym same) (numbers_low_always s es run)) (sessions-low s es run) (links-close s es run)
+    (subst (λ (h : History). RowsSound s (state_of h)) (sym (book-history (no_book s) es)) (rows-sound-always s es run))
+    (subst NumbersAreLow (sym same) (numbers_low_always s es run)) (sessions-low s es run) (links-close s es run)
     (subst (λ (w : World). w.events < 2 ^ 63) (sym same) few) from to fin (subst (λ (w : World). Lives w to) (sym same) tin) apart)

@@ -50,7 +50,8 @@ use Rattle.law_bytes.proofs.Asked.{steps_rebuild}
 use Rattle.law_headline.proofs.Beside.{needs-at}
 use Rattle.law_headline.proofs.Apart.{RebuildsAt, RebuiltAt}
 use Rattle.law_headline.proofs.Issues.{FineIn, fine-laws, head-keeps}
-use Rattle.law_headline.proofs.Joint.{LeavesEach, applies-after, asked-leaves, both_received, dead_received, home-below, marks-received, members_received, more-fine, same_received, write-after}
+use Rattle.law_headline.proofs.Joint.{LeavesEach, applies-after, asked-leaves, both_received, dead_received, home-below}
+use Rattle.law_headline.proofs.Joint.{marks-received, members_received, more-fine, same_received, write-after}
 use Rattle.law_headline.proofs.Offs as offs
 use Rattle.law_headline.proofs.Offs.{WholeOff}
 use Rattle.law_headline.proofs.Rebuilds.{NoneNew, RebuildsStill, ask-rebuilds, receive-rebuilds}
@@ -70,8 +71,10 @@ pub record All (s : Dimensions) (calls : List Call) (v : State) : Type 0 where
 -- what is newly rebuilt, told of the process before the step
 rebuilt-at : (s : Dimensions) (settled : ℕ → List Update) (p q : Process) (x : ProcessId) → p.name ≡ x → knows_dead p.known x ≡ false
     → ((d : ℕ) (h : Head) → d < s.k → head_at p d ≡ Some h → IsKeeper d x)
-    → ((d b : ℕ) (bytes : List ℕ) → d < s.k → rebuilt_block p.as_leader d b ≡ None → rebuilt_block q.as_leader d b ≡ Some bytes → knows_dead p.known (DataNode d) ≡ true → HeadsIt p d)
-    → ((d : ℕ) → d < s.k → (h : Head) → head_at p d ≡ Some h → RebuildsStill d p q) → ((d : ℕ) → d < s.k → Since d p q) → RebuildsGiven s settled p q → RebuildsAt s settled p q
+    → ((d b : ℕ) (bytes : List ℕ) → d < s.k → rebuilt_block p.as_leader d b ≡ None → rebuilt_block q.as_leader d b
+    ≡ Some bytes → knows_dead p.known (DataNode d) ≡ true → HeadsIt p d)
+    → ((d : ℕ) → d < s.k → (h : Head) → head_at p d ≡ Some h → RebuildsStill d p q) → ((d : ℕ) → d < s.k → Since d p q)
+    → RebuildsGiven s settled p q → RebuildsAt s settled p q
 rebuilt-at s settled p q x name self keeps leads still since gives d b bytes below none some = by (still d below head.0 head.1) where
   gave : GivenAt s settled p.known q d b bytes
   gave = gives d b bytes below none some
@@ -117,16 +120,23 @@ module _ (s : Dimensions) (shaped : IsShape s) where
     needs d h op b below heads decided = (needs-at s shaped calls v all.group.stands p pin lives d below op h b heads decided).1
 
     seated : Seated s (v.process p) p
-    seated = record { name = all.group.stands.carried.members.named p pin; some = some; sits = λ d below. all.group.stands.carried.members.sits p d pin lives below }
+    seated = record {
+      name = all.group.stands.carried.members.named p pin;
+      some = some;
+      sits = λ d below. all.group.stands.carried.members.sits p d pin lives below;
+    }
 
     keeps-own : (d : ℕ) (h : Head) → d < s.k → head_at (v.process p) d ≡ Some h → IsKeeper d p
     keeps-own d h below heads = head-keeps (v.process p) d h p (all.group.stands.carried.members.sits p d pin lives below) heads
 
     given-at : (settled : ℕ → List Update) (q : Process)
-        → ((d b : ℕ) (bytes : List ℕ) → d < s.k → rebuilt_block (v.process p).as_leader d b ≡ None → rebuilt_block q.as_leader d b ≡ Some bytes → knows_dead (v.process p).known (DataNode d) ≡ true → HeadsIt (v.process p) d)
+        → ((d b : ℕ) (bytes : List ℕ) → d < s.k → rebuilt_block (v.process p).as_leader d b ≡ None
+        → rebuilt_block q.as_leader d b ≡ Some bytes → knows_dead (v.process p).known (DataNode d) ≡ true
+        → HeadsIt (v.process p) d)
         → ((d : ℕ) → d < s.k → (h : Head) → head_at (v.process p) d ≡ Some h → RebuildsStill d (v.process p) q) → ((d : ℕ) → d < s.k → Since d (v.process p) q)
         → RebuildsGiven s settled (v.process p) q → RebuildsAt s settled (v.process p) q
-    given-at settled q = rebuilt-at s settled (v.process p) q p (all.group.stands.carried.members.named p pin) (all.group.stands.carried.members.not_self p pin lives) keeps-own
+    given-at settled q = rebuilt-at s settled (v.process p) q p (all.group.stands.carried.members.named p pin)
+        (all.group.stands.carried.members.not_self p pin lives) keeps-own
 
     -- a process that treats something
     module _ (w : State) (t : ProcessStep) (more : List Call) (grown : (d a : ℕ) (h : List Update) → FineIn s calls d a h → FineIn s more d a h) (up : IsUp s v)
@@ -186,36 +196,43 @@ module _ (s : Dimensions) (shaped : IsShape s) where
 
     leads-lost : (h : Head) → head_at (v.process p) (home_of (key_of c.op.act) s.k) ≡ Some h → (run : Run) (b : ℕ)
         → found_at s (home_of (key_of c.op.act) s.k) (v.process p) (v.process p).name run ≡ Missing b → LeadsLost s (v.process p)
-    leads-lost h heads run b missing = reaching.leads-lost s v all.group.stands.carried.members p pin lives (home_of (key_of c.op.act) s.k) h run b below heads p refl
+    leads-lost h heads run b missing = reaching.leads-lost s v all.group.stands.carried.members p pin lives
+        (home_of (key_of c.op.act) s.k) h run b below heads p refl
         (ap (λ (y : ProcessId). found_at s (home_of (key_of c.op.act) s.k) (v.process p) y run) (sym (all.group.stands.carried.members.named p pin)) ∙ missing)
 
     leads : (d b : ℕ) (bytes : List ℕ) → d < s.k → rebuilt_block (v.process p).as_leader d b ≡ None → rebuilt_block step.process.as_leader d b ≡ Some bytes
         → knows_dead (v.process p).known (DataNode d) ≡ true → HeadsIt (v.process p) d
-    leads d b bytes low none some_bytes lost = by (ask-news s c.name c.op (home_of (key_of c.op.act) s.k) (v.process p) (head_at (v.process p) (home_of (key_of c.op.act) s.k)) leads-lost) where
-      by : ((e : ℕ) → NoneNew e (v.process p) step.process) ⊎ LeadsLost s (v.process p) → HeadsIt (v.process p) d
-      by (inl new) = absurd (cc (some_bytes, new d b none))
-      by (inr leading) = let head = leading d low lost in (head.0, head.1)
+    leads d b bytes low none some_bytes lost =
+        by (ask-news s c.name c.op (home_of (key_of c.op.act) s.k) (v.process p)
+        (head_at (v.process p) (home_of (key_of c.op.act) s.k)) leads-lost) where
+          by : ((e : ℕ) → NoneNew e (v.process p) step.process) ⊎ LeadsLost s (v.process p) → HeadsIt (v.process p) d
+          by (inl new) = absurd (cc (some_bytes, new d b none))
+          by (inr leading) = let head = leading d low lost in (head.0, head.1)
 
     rebuilds : RebuildsAt s w.settled (v.process p) step.process
     rebuilds = given-at calls v all p pin lives w.settled step.process leads
         (λ d low h heads. ask-rebuilds s d c.name c.op (home_of (key_of c.op.act) s.k) (v.process p) (head_at (v.process p) (home_of (key_of c.op.act) s.k)))
-        (treated-since calls v all p pin lives w step more grown up treats acts both) (treated-given calls v all p pin lives w step more grown up treats acts both)
+        (treated-since calls v all p pin lives w step more grown up treats acts both)
+        (treated-given calls v all p pin lives w step more grown up treats acts both)
 
   collected : (calls : List Call) (v w : State) (p : ProcessId) (caller call : ℕ) → IsProcess s p → IsUp s v → v.dead p ≡ false → All s calls v
       → Acted s v w p (collect_from caller call (v.process p) (range_with_len 0 s.k)).step → All s calls w
   collected calls v w p caller call pin up lives all acts = record {
     group = offs.collected s shaped calls v w p caller call pin up lives all.group acts;
     fits = treated-fits calls v all p pin lives w step calls (λ d a h fine. fine) up (Collects caller call) acts both;
-    led = same-sessions-led s v w all.group.stands.carried.members p pin lives all.led step acts (collected-sessions s caller call (v.process p) (range_with_len 0 s.k)) (λ d low. (both d low).1);
+    led = same-sessions-led s v w all.group.stands.carried.members p pin lives all.led step acts
+        (collected-sessions s caller call (v.process p) (range_with_len 0 s.k)) (λ d low. (both d low).1);
     stamps = treated-stamps calls v all p pin lives w step calls (λ d a h fine. fine) up (Collects caller call) acts both;
   } where
     step : ProcessStep
     step = (collect_from caller call (v.process p) (range_with_len 0 s.k)).step
 
     both : LeavesEach s calls v w p
-    both = reaching.collects-both (FineIn s calls) (fine-laws s calls) s shaped v w p caller call pin up lives all.group.stands.carried.members all.group.stands.reach acts
+    both = reaching.collects-both (FineIn s calls) (fine-laws s calls) s shaped v w p caller call pin up lives
+        all.group.stands.carried.members all.group.stands.reach acts
 
-  flushed : (calls : List Call) (v w : State) (p : ProcessId) → IsProcess s p → IsUp s v → v.dead p ≡ false → All s calls v → Acted s v w p (flush_process s (v.process p)).step → All s calls w
+  flushed : (calls : List Call) (v w : State) (p : ProcessId) → IsProcess s p → IsUp s v → v.dead p ≡ false
+      → All s calls v → Acted s v w p (flush_process s (v.process p)).step → All s calls w
   flushed calls v w p pin up lives all acts = record {
     group = offs.flushed s shaped calls v w p pin up lives all.group acts;
     fits = treated-fits calls v all p pin lives w step calls (λ d a h fine. fine) up Flushes acts both;
@@ -253,8 +270,10 @@ module _ (s : Dimensions) (shaped : IsShape s) where
 
     settles : StepSettles s w.settled (v.process p) (receive s x m (v.process p))
     settles = record {
-      write = write-after s shaped calls calls (λ d a h fine. fine) v w p (receive s x m (v.process p)) pin lives all.group.stands acts.process same dead after both;
-      applies = applies-after s shaped calls calls (λ d a h fine. fine) v w p (receive s x m (v.process p)) pin lives all.group.stands acts.process same dead after both;
+      write = write-after s shaped calls calls (λ d a h fine. fine) v w p (receive s x m (v.process p)) pin lives
+          all.group.stands acts.process same dead after both;
+      applies = applies-after s shaped calls calls (λ d a h fine. fine) v w p (receive s x m (v.process p)) pin lives
+          all.group.stands acts.process same dead after both;
     }
 
     leads : (d b : ℕ) (bytes : List ℕ) → d < s.k → rebuilt_block (v.process p).as_leader d b ≡ None
@@ -263,9 +282,12 @@ module _ (s : Dimensions) (shaped : IsShape s) where
     leads d b bytes low none some_bytes lost = by (receive-news s x m (v.process p)) where
       of-open : (n : ℕ) (g : Gathering) → open_session (v.process p).as_leader n ≡ Some g → HeadsIt (v.process p) d
       of-open n g opens =
-          let is : IsFor s (v.process p).known g = (found-each (λ y. y.number == n) (IsFor s (v.process p).known) (v.process p).as_leader.sessions g opens (all.fits p pin lives)).1 in
+          let is : IsFor s (v.process p).known g =
+          (found-each (λ y. y.number == n) (IsFor s (v.process p).known) (v.process p).as_leader.sessions g opens
+          (all.fits p pin lives)).1 in
           let there = among-contains (lost_by s (v.process p).known) d
-          (filter-among (λ e. knows_dead (v.process p).known (DataNode e)) d (range_with_len 0 s.k) (among-range d 0 s.k (omega arith) (omega (arith, low))) lost) in
+          (filter-among (λ e. knows_dead (v.process p).known (DataNode e)) d (range_with_len 0 s.k)
+          (among-range d 0 s.k (omega arith) (omega (arith, low))) lost) in
           all.led p pin lives n g opens d (subst (λ (ls : List ℕ). Contains ls d) (sym is.lost) there) low
 
       by : ((e : ℕ) → NoneNew e (v.process p) (receive s x m (v.process p)).process) ⊎ HasOpen (v.process p) → HeadsIt (v.process p) d
@@ -274,7 +296,9 @@ module _ (s : Dimensions) (shaped : IsShape s) where
 
     rebuilds : RebuildsAt s w.settled (v.process p) (receive s x m (v.process p)).process
     rebuilds = given-at calls v all p pin lives w.settled (receive s x m (v.process p)).process leads
-        (λ d low h heads. receive-rebuilds s d x m (v.process p) (unmarked s shaped calls v u w x p m xin pin apart up lives all.group.stands pops acts all.group.off m (may s shaped calls v u w x p m xin pin apart up lives all.group.stands pops acts) d low h heads))
+        (λ d low h heads. receive-rebuilds s d x m (v.process p)
+        (unmarked s shaped calls v u w x p m xin pin apart up lives all.group.stands pops acts all.group.off m
+        (may s shaped calls v u w x p m xin pin apart up lives all.group.stands pops acts) d low h heads))
         (λ d low. subst (Since d (v.process p)) acts.process (both d low).1)
         ((steps_rebuild s shaped).receives v u w x p m xin pin apart up lives (backed calls v all p pin lives) after marks settles pops acts all.stamps)
 

@@ -29,7 +29,8 @@ HeadsOff s v = (i d : ℕ) → i < s.m → v.dead (ParityNode i) ≡ false → d
 -- the settled updates up to a number that isn't below what the head inherited have in such a block the values
 -- of all that it has applied
 abbrev pub SameValues : Dimensions → ℕ → List Update → Process → Type 0
-SameValues s d settled p = (h : Head) (b n x : ℕ) → head_at p d ≡ Some h → rebuilt_block p.as_leader d b ≡ None → h.inherited ≤ n → n ≤ (replica_of p d).applied → x < s.block
+SameValues s d settled p = (h : Head) (b n x : ℕ) → head_at p d ≡ Some h → rebuilt_block p.as_leader d b ≡ None
+    → h.inherited ≤ n → n ≤ (replica_of p d).applied → x < s.block
     → value (take n settled) (b * s.block + x) ≡ value (take (replica_of p d).applied settled) (b * s.block + x)
 
 -- a block of partition d that a process newly rebuilds has the settled values at a number from what it inherited,
@@ -45,4 +46,5 @@ pub record RebuiltAt (s : Dimensions) (d b : ℕ) (settled : List Update) (p : P
 
 -- so it is of all blocks that weren't rebuilt before a step, and are after it
 abbrev pub RebuildsAt : Dimensions → (ℕ → List Update) → Process → Process → Type 0
-RebuildsAt s settled p q = (d b : ℕ) (bytes : List ℕ) → d < s.k → rebuilt_block p.as_leader d b ≡ None → rebuilt_block q.as_leader d b ≡ Some bytes → RebuiltAt s d b (settled d) p bytes
+RebuildsAt s settled p q = (d b : ℕ) (bytes : List ℕ) → d < s.k → rebuilt_block p.as_leader d b ≡ None
+    → rebuilt_block q.as_leader d b ≡ Some bytes → RebuiltAt s d b (settled d) p bytes

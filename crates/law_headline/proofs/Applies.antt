@@ -32,7 +32,8 @@ goes-on settled r applied prolongs m short within =
     ∙ ap (λ (us : List Update). take m (drop r.applied us)) prolongs.front
 
 -- and as what is settled later, where a longer history prolongs that
-pub goes-grown : (settled more : List Update) (r : Replica) (whole : List Update) → r.applied ≤ length settled → Prolongs (history settled r) whole → Prolongs more whole → GoesOn more r
+pub goes-grown : (settled more : List Update) (r : Replica) (whole : List Update) → r.applied ≤ length settled
+    → Prolongs (history settled r) whole → Prolongs more whole → GoesOn more r
 goes-grown settled more r whole applied begins prolongs m short within =
     ap (take m) (sym (log-is settled r applied))
     ∙ ap (λ (us : List Update). take m (drop r.applied us)) (sym begins.front)
@@ -48,13 +49,16 @@ keeper-cases : (d : ℕ) (p : ProcessId) → IsKeeper d p ⊎ (¬ (IsKeeper d p)
 keeper-cases d (ParityNode i) = inl tt
 keeper-cases d (DataNode e) = cases_eq e d
 
-module _ (F : ℕ → ℕ → List Update → Type 0) (s : Dimensions) (v w : State) (p : ProcessId) (t : ProcessStep) (pin : IsProcess s p) (lives : v.dead p ≡ false) (still : w.dead p ≡ false) (is : w.process p ≡ t.process)
+module _ (F : ℕ → ℕ → List Update → Type 0) (s : Dimensions) (v w : State) (p : ProcessId) (t : ProcessStep)
+    (pin : IsProcess s p) (lives : v.dead p ≡ false) (still : w.dead p ≡ false) (is : w.process p ≡ t.process)
     (reach : Reach F s v) (unkept : Unkept s v)
     (both : (d : ℕ) → d < s.k → PartitionReaches F s w d × Since d (v.process p) (w.process p) × GrewBy d (v.settled d) (w.settled d) (w.process p)
-    × FollowsBy d (v.settled d) (replica_of (v.process p) d) (w.settled d) (w.process p) × (¬ (IsKeeper d p) → replica_of (w.process p) d ≡ replica_of (v.process p) d)) where
+    × FollowsBy d (v.settled d) (replica_of (v.process p) d) (w.settled d) (w.process p)
+    × (¬ (IsKeeper d p) → replica_of (w.process p) d ≡ replica_of (v.process p) d)) where
   empty-goes : (settled : List Update) (r : Replica) → r ≡ empty_replica → GoesOn settled r
   empty-goes settled r empty =
-      subst (GoesOn settled) (sym empty) (λ m short within. let none : m ≡ 0 = omega (arith, short) in ap (λ (k : ℕ). take k []) none ∙ sym (ap (λ (k : ℕ). take k (drop 0 settled)) none))
+      subst (GoesOn settled) (sym empty) (λ m short within. let none : m ≡ 0 = omega (arith, short) in
+      ap (λ (k : ℕ). take k []) none ∙ sym (ap (λ (k : ℕ). take k (drop 0 settled)) none))
 
   log-goes : (d : ℕ) → d < s.k → IsKeeper d p → GoesOn (w.settled d) (replica_of (v.process p) d)
   log-goes d below keeps = by (both d below).2 where
@@ -65,7 +69,8 @@ module _ (F : ℕ → ℕ → List Update → Type 0) (s : Dimensions) (v w : St
     now = (both d below).0.replicas p pin still keeps
 
     by : GrewBy d (v.settled d) (w.settled d) (w.process p) → GoesOn (w.settled d) (replica_of (v.process p) d)
-    by (inl same) = subst (λ (us : List Update). GoesOn us (replica_of (v.process p) d)) (sym same) (goes-on (v.settled d) (replica_of (v.process p) d) was.applied was.prolongs)
+    by (inl same) = subst (λ (us : List Update). GoesOn us (replica_of (v.process p) d)) (sym same)
+        (goes-on (v.settled d) (replica_of (v.process p) d) was.applied was.prolongs)
     by (inr has) =
         goes-grown (v.settled d) (w.settled d) (replica_of (v.process p) d) (history (w.settled d) (replica_of (w.process p) d)) was.applied
         ((both d below).3 has.head has.heads) now.prolongs
@@ -77,7 +82,8 @@ module _ (F : ℕ → ℕ → List Update → Type 0) (s : Dimensions) (v w : St
   } where
     within : (d : ℕ) → d < s.k → IsKeeper d p ⊎ (¬ (IsKeeper d p)) → (replica_of (w.process p) d).applied ≤ length (w.settled d)
     within d below (inl keeps) = ((both d below).0.replicas p pin still keeps).applied
-    within d below (inr not) = subst (λ (r : Replica). r.applied ≤ length (w.settled d)) (sym ((both d below).4 not ∙ unkept p d pin lives below not)) (omega arith)
+    within d below (inr not) = subst (λ (r : Replica). r.applied ≤ length (w.settled d))
+        (sym ((both d below).4 not ∙ unkept p d pin lives below not)) (omega arith)
 
     log : (d : ℕ) → d < s.k → IsKeeper d p ⊎ (¬ (IsKeeper d p)) → GoesOn (w.settled d) (replica_of (v.process p) d)
     log d below (inl keeps) = log-goes d below keeps

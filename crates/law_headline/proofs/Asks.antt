@@ -1,5 +1,6 @@
 -- A process is asked: what it issues stays off the blocks that it hasn't rebuilt.
-use Rattle.std.proofs.Common.{ℕ, ◌≡◌, ◌≢◌, ◌<◌, ◌+◌, nat_le, Bool, true, false, List, [], ◌∷◌, ◌++◌, length, take, Option, Some, None, ◌⊎◌, inl, inr, refl, sym, ap, subst, ◌∙◌, arith}
+use Rattle.std.proofs.Common.{ℕ, ◌≡◌, ◌≢◌, ◌<◌, ◌+◌, nat_le, Bool, true, false, List, [], ◌∷◌, ◌++◌, length, take}
+use Rattle.std.proofs.Common.{Option, Some, None, ◌⊎◌, inl, inr, refl, sym, ap, subst, ◌∙◌, arith}
 use Rattle.std.proofs.lemmas.Bool.{cases_eq}
 use Rattle.group_types.specs.Dimensions.{Dimensions, space_of}
 use Rattle.group_types.specs.Hash.{home_of}
@@ -49,7 +50,9 @@ ticketed-replica : (b : Bool) (d : ℕ) (u : Update) (t : ProcessStep) → repli
 ticketed-replica true d u t = refl
 ticketed-replica false d u t = refl
 
-module _ (s : Dimensions) (shaped : IsShape s) (calls : List Call) (v w : State) (p : ProcessId) (c : Call) (pin : IsProcess s p) (up : IsUp s v) (lives : v.dead p ≡ false) (next : IsNextCall calls c) (whole : Whole s calls v)
+module _ (s : Dimensions) (shaped : IsShape s) (calls : List Call) (v w : State) (p : ProcessId) (c : Call)
+    (pin : IsProcess s p) (up : IsUp s v) (lives : v.dead p ≡ false) (next : IsNextCall calls c)
+    (whole : Whole s calls v)
     (acts : Acted s v w p (ask_process s c.name c.op (v.process p)).step) where
   abbrev e : ℕ
   e = home_of (key_of c.op.act) s.k
@@ -86,15 +89,18 @@ module _ (s : Dimensions) (shaped : IsShape s) (calls : List Call) (v w : State)
   applies = applies-after s shaped calls more grown v w p t pin lives whole acts.process acts.others acts.dead after both
 
   begins : (d : ℕ) → d < s.k → Prolongs (v.settled d) (w.settled d)
-  begins d below = subst (Prolongs (v.settled d)) (sym (acts.settled d below)) (begins-append (v.settled d) (new_ones (length (v.settled d)) (settled_in d t.settled)))
+  begins d below = subst (Prolongs (v.settled d)) (sym (acts.settled d below))
+      (begins-append (v.settled d) (new_ones (length (v.settled d)) (settled_in d t.settled)))
 
   module _ (i : ℕ) (is : p ≡ ParityNode i) where
     stays : (d : ℕ) → d < s.k → StaysBuilt d (v.process p) (w.process p)
     stays d below = subst (StaysBuilt d (v.process p)) (sym acts.process)
-        (treats-built s shaped v w p t i is pin lives (Asks c.name c.op next.bytes) whole.carried.members whole.bytes ((marks-new s v whole.carried).next p pin lives) write applies settles-next acts d below)
+        (treats-built s shaped v w p t i is pin lives (Asks c.name c.op next.bytes) whole.carried.members whole.bytes
+        ((marks-new s v whole.carried).next p pin lives) write applies settles-next acts d below)
 
     long-own : (d : ℕ) → d < s.k → Long d (v.process p) (w.process p) → HeadOff s d (v.settled d) (v.process p) → HeadOff s d (w.settled d) (w.process p)
-    long-own d below long off = long-off s calls more v w p pin lives whole.reach acts.others acts.dead begins both i d is below (λ h heads. long) (stays d below) off
+    long-own d below long off = long-off s calls more v w p pin lives whole.reach acts.others acts.dead begins both i d
+        is below (λ h heads. long) (stays d below) off
 
     -- it issues an update
     module _ (h : Head) (body : Body) (outcome : Outcome) (heads : head_at (v.process p) e ≡ Some h)
@@ -113,8 +119,11 @@ module _ (s : Dimensions) (shaped : IsShape s) (calls : List Call) (v w : State)
           ap (λ (o : Option Head). (ask_head s c.name c.op e (v.process p) o).step) heads
           ∙ ap (λ (x : Decision). (act_on s c.name c.op e h (v.process p) x).step) decided
 
-      next-here : take ((replica_of (v.process p) e).applied + length (settled_in e made.settled)) (w.settled e) ≡ take (replica_of (v.process p) e).applied (w.settled e) ++ settled_in e made.settled
-      next-here = subst (λ (xs : List Settlement). take ((replica_of (v.process p) e).applied + length (settled_in e xs)) (w.settled e) ≡ take (replica_of (v.process p) e).applied (w.settled e) ++ settled_in e xs)
+      next-here : take ((replica_of (v.process p) e).applied + length (settled_in e made.settled)) (w.settled e)
+          ≡ take (replica_of (v.process p) e).applied (w.settled e) ++ settled_in e made.settled
+      next-here = subst
+          (λ (xs : List Settlement). take ((replica_of (v.process p) e).applied + length (settled_in e xs))
+          (w.settled e) ≡ take (replica_of (v.process p) e).applied (w.settled e) ++ settled_in e xs)
           (ap (λ (x : ProcessStep). x.settled) asked-is ∙ ticketed-settled now e u made) (settles-next e below-home)
 
       grown-history : history (w.settled e) (replica_of (w.process p) e) ≡ history (v.settled e) (replica_of (v.process p) e) ++ u ∷ []
@@ -137,16 +146,22 @@ module _ (s : Dimensions) (shaped : IsShape s) (calls : List Call) (v w : State)
 
       writes : WritesBytes s u
       writes = (each-behind (WritesBytes s) (history (v.settled e) (replica_of (v.process p) e)) (u ∷ [])
-          (fine-writes s (calls ++ c ∷ []) e (replica_of (v.process p) e).applied (history (v.settled e) (replica_of (v.process p) e) ++ u ∷ []) (fine-issue s shaped calls v w p c pin up lives next whole acts h body outcome heads decided))).0
+          (fine-writes s (calls ++ c ∷ []) e (replica_of (v.process p) e).applied
+          (history (v.settled e) (replica_of (v.process p) e) ++ u ∷ [])
+          (fine-issue s shaped calls v w p c pin up lives next whole acts h body outcome heads decided))).0
 
       stays-apart : (b : ℕ) → rebuilt_block (v.process p).as_leader e b ≡ None → StaysOff s b u
-      stays-apart b unbuilt x within = found-off s e i (v.process p) (v.process p).name b (let least = shaped.block.0 in omega (arith, least)) (whole.carried.members.named p pin ∙ is) unbuilt body
-          (subst (IssuesFound (found_at s e (v.process p) (v.process p).name)) decided (issues-found (space_of s) (replica_of (v.process p) e) c.op (found_at s e (v.process p) (v.process p).name) h.inherited))
+      stays-apart b unbuilt x within = found-off s e i (v.process p) (v.process p).name b (let least = shaped.block.0 in
+          omega (arith, least)) (whole.carried.members.named p pin ∙ is) unbuilt body
+          (subst (IssuesFound (found_at s e (v.process p) (v.process p).name)) decided
+          (issues-found (space_of s) (replica_of (v.process p) e) c.op (found_at s e (v.process p) (v.process p).name)
+          h.inherited))
           writes.writes x within
 
       issued-off : HeadOff s e (v.settled e) (v.process p) → HeadOff s e (w.settled e) (w.process p)
       issued-off off =
-          let reached : ReplicaReaches (FineIn s calls) e (v.settled e) (v.process p) = was-reached s calls more v w p pin lives whole.reach acts.others acts.dead begins both i e is below-home in
+          let reached : ReplicaReaches (FineIn s calls) e (v.settled e) (v.process p) =
+          was-reached s calls more v w p pin lives whole.reach acts.others acts.dead begins both i e is below-home in
           off-issued s e (v.settled e) (w.settled e) (v.process p) (w.process p) reached.applied
           (is-reached s calls more v w p pin lives whole.reach acts.others acts.dead begins both i e is below-home).applied (stays e below-home)
           h u heads (reached.heads h heads).inherited same-inherited grown-history stays-apart off
@@ -179,7 +194,9 @@ module _ (s : Dimensions) (shaped : IsShape s) (calls : List Call) (v w : State)
       by : (o : Option Head) → head_at (v.process p) e ≡ o → HeadOff s d (w.settled d) (w.process p)
       by None heads =
           long-own d below
-          (subst (Long d (v.process p)) (sym (acts.process ∙ ap (λ (o : Option Head). (ask_head s c.name c.op e (v.process p) o).step.process) heads)) (long-refl d (v.process p))) off
+          (subst (Long d (v.process p))
+          (sym (acts.process ∙ ap (λ (o : Option Head). (ask_head s c.name c.op e (v.process p) o).step.process)
+          heads)) (long-refl d (v.process p))) off
       by (Some h) heads = act-off d below h (decision-of h) heads refl (cases_eq e d) off
 
   pub asked : HeadsOff s v → HeadsOff s w

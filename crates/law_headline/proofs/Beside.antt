@@ -61,10 +61,14 @@ module _ (s : Dimensions) (shaped : IsShape s) where
 
     -- a block that a head needs rebuilt first is one of the space, and the head is a parity process
     pub needs-at : (p : ProcessId) → IsProcess s p → v.dead p ≡ false → (d : ℕ) → d < s.k → (op : Asked) (h : Head) (b : ℕ) → head_at (v.process p) d ≡ Some h
-        → decide (space_of s) h.inherited (replica_of (v.process p) d) op (found_at s d (v.process p) (v.process p).name) ≡ decides.NeedBlock b → IsParity (v.process p).name × (b < s.blocks)
+        → decide (space_of s) h.inherited (replica_of (v.process p) d) op
+        (found_at s d (v.process p) (v.process p).name) ≡ decides.NeedBlock b → IsParity (v.process p).name
+        × (b < s.blocks)
     needs-at p pin lives d below op h b heads decided = (
       subst (WantsWhere (λ c. IsParity (v.process p).name)) decided
-          (wants-where (space_of s) r op (found_at s d (v.process p) (v.process p).name) (λ c. IsParity (v.process p).name) (λ run c inside is. misses s d (v.process p) (v.process p).name run c is) h.inherited items),
+          (wants-where (space_of s) r op (found_at s d (v.process p) (v.process p).name)
+          (λ c. IsParity (v.process p).name) (λ run c inside is. misses s d (v.process p) (v.process p).name run c is)
+          h.inherited items),
       needs-inside s d h.inherited (v.process p) op b (let least = shaped.block.0 in omega (arith, least)) items decided,
     ) where
       r : Replica
@@ -85,10 +89,12 @@ module _ (s : Dimensions) (shaped : IsShape s) where
           (store-items s d (no_store s) (take r.applied (history (v.settled d) r)) ∙ sym replica.items) (fine.store r.applied).inside
 
     pub needs-sound : (p : ProcessId) → IsProcess s p → v.dead p ≡ false → (op : Asked) → NeedsSound s (v.process p) op
-    needs-sound p pin lives op h b heads decided = needs-at p pin lives (home_of (key_of op.act) s.k) (below-own (fnv1a (key_of op.act)) s.k shaped.k.0) op h b heads decided
+    needs-sound p pin lives op h b heads decided = needs-at p pin lives (home_of (key_of op.act) s.k)
+        (below-own (fnv1a (key_of op.act)) s.k shaped.k.0) op h b heads decided
 
     -- every move keeps what messages carry
-    pub sound-treated : (w : State) (p : ProcessId) (t : ProcessStep) → IsProcess s p → IsUp s v → v.dead p ≡ false → Treats s (v.process p) t → LinksSound s v → Acted s v w p t → LinksSound s w
+    pub sound-treated : (w : State) (p : ProcessId) (t : ProcessStep) → IsProcess s p → IsUp s v → v.dead p ≡ false
+        → Treats s (v.process p) t → LinksSound s v → Acted s v w p t → LinksSound s w
     sound-treated w p t pin up lives treats sound acts =
         (sound_kept s shaped).treats v w p t pin lives treats whole.carried.members
         ((members.keeps s shaped).treats v w p t pin up lives treats whole.carried.members acts) whole.bytes (needs-sound p pin lives) sound acts
@@ -101,7 +107,13 @@ module _ (s : Dimensions) (shaped : IsShape s) where
 
     -- all that the law of messages asks for
     pub group-stands : SessionsFit s v → LinksSound s v → GroupStands s calls v
-    group-stands sessions sound = record { members = whole.carried.members; reach = whole.reach; marks = marks-new s v whole.carried; sessions = sessions; sound = sound }
+    group-stands sessions sound = record {
+      members = whole.carried.members;
+      reach = whole.reach;
+      marks = marks-new s v whole.carried;
+      sessions = sessions;
+      sound = sound;
+    }
 
   pub sound-began : (v : State) → Opens s v → LinksSound s v
   sound-began v starts = (sound_kept s shaped).opens v starts
@@ -113,4 +125,5 @@ module _ (s : Dimensions) (shaped : IsShape s) where
 pub deliveries-fit : (h : History) (s : Dimensions) (calls : List Call) → GroupStands s calls (state_of h) → h.world.shape ≡ s
     → (from to : ProcessId) (m : Message) (rest : List Message) → IsProcess s from → IsProcess s to → from ≢ to → Lives h.world to
     → link h.world from to ≡ m ∷ rest → SameBlock m (process_of h.world to) → RowAsked from m (process_of h.world to) → Fits s from m (process_of h.world to)
-deliveries-fit h s calls stands shape from to m rest fin tin apart lives first same asked = messages_fit s calls (state_of h) stands from to m rest fin tin apart lives.1 first same asked
+deliveries-fit h s calls stands shape from to m rest fin tin apart lives first same asked =
+    messages_fit s calls (state_of h) stands from to m rest fin tin apart lives.1 first same asked

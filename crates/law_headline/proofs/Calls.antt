@@ -28,7 +28,8 @@ module _ (s : Dimensions) (d : ℕ) where
       let number : ℕ = suc p.as_leader.last_session in
       let opened : Process = session_opened s number block p in
       long-trans d p opened (start_session s block p).process (long-as d p opened refl refl)
-      (long-each d (own_mark s leader number block) (λ l q. long-mark s d leader number (at 0 q.ranks l) block l (replica_of q l).applied q) (lost_of s p) opened)
+      (long-each d (own_mark s leader number block)
+      (λ l q. long-mark s d leader number (at 0 q.ranks l) block l (replica_of q l).applied q) (lost_of s p) opened)
 
   long-retry : (block : ℕ) (o : Option Oldest) (p : Process) → Long d p (retry_block s block o p).step.process
   long-retry block (Some o) p = long-refl d p
@@ -59,4 +60,5 @@ module _ (s : Dimensions) (d : ℕ) where
       (long-ticketed (nat_le u.number (replica_of t.process e).applied) e u t)
 
   pub long-collect : (caller call : ℕ) (p : Process) → Long d p (collect_from caller call p (range_with_len 0 s.k)).step.process
-  long-collect caller call p = long-same d p (collect_from caller call p (range_with_len 0 s.k)).step.process (still-collect s d caller call p (range_with_len 0 s.k)).same
+  long-collect caller call p = long-same d p (collect_from caller call p (range_with_len 0 s.k)).step.process
+      (still-collect s d caller call p (range_with_len 0 s.k)).same

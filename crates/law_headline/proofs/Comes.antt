@@ -31,10 +31,12 @@ module _ (s : Dimensions) (calls : List Call) (d : ℕ) (settled : List Update) 
   moved n low = fits-applied (Fine s calls) (fine-laws s calls) d settled r (head_at p d) n low fits
 
   moved-is : (n : ℕ) → n ≤ length settled → (applied_to n r).applied ≡ max r.applied n
-  moved-is n low = applied-is settled r fits.applied n (let long = length-history settled r fits.applied in let reach = fits.prolongs.reaches in omega (arith, long, reach, low))
+  moved-is n low = applied-is settled r fits.applied n (let long = length-history settled r fits.applied in
+      let reach = fits.prolongs.reaches in omega (arith, long, reach, low))
 
   -- an update
-  pub update-comes : (rank stable : ℕ) (u : Update) → UpdateGoes (Fine s calls) d settled (seen_at d settled p) rank u stable → CanCome (space_of s) (applied_to stable r) u
+  pub update-comes : (rank stable : ℕ) (u : Update) → UpdateGoes (Fine s calls) d settled (seen_at d settled p) rank u
+      stable → CanCome (space_of s) (applied_to stable r) u
   unfolding hist
   update-comes rank stable u goes = next-comes s calls d a hist u [] (applied_to stable r) fine replica where
     a : ℕ
@@ -44,7 +46,8 @@ module _ (s : Dimensions) (calls : List Call) (d : ℕ) (settled : List Update) 
     low = goes.stable_settled
 
     replica : IsReplicaOf a hist (applied_to stable r)
-    replica = subst (λ (h : List Update). IsReplicaOf (applied_to stable r).applied h (applied_to stable r)) (history-applied settled r fits.applied fits.prolongs stable low)
+    replica = subst (λ (h : List Update). IsReplicaOf (applied_to stable r).applied h (applied_to stable r))
+        (history-applied settled r fits.applied fits.prolongs stable low)
         (replica-of-history (Fine s calls) d settled (applied_to stable r) (head_at p d) (moved stable low))
 
     fine : Fine s calls d a (hist ++ u ∷ [])
@@ -58,7 +61,8 @@ module _ (s : Dimensions) (calls : List Call) (d : ℕ) (settled : List Update) 
   unfolding hist
   adopt-comes rank base list goes =
       subst (AllCanCome (space_of s) (with_log [] (applied_to base r))) (sym behind)
-      (all-come s calls d a (take a whole) (drop a whole) (with_log [] (applied_to base r)) (subst (Fine s calls d a) (sym (take-append-drop a whole)) fine) replica)
+      (all-come s calls d a (take a whole) (drop a whole) (with_log [] (applied_to base r))
+      (subst (Fine s calls d a) (sym (take-append-drop a whole)) fine) replica)
     where
       a : ℕ
       a = (applied_to base r).applied
@@ -85,10 +89,13 @@ module _ (s : Dimensions) (calls : List Call) (d : ℕ) (settled : List Update) 
       base_long = length-take-le base (history settled r) (let reach = fits.prolongs.reaches in omega (arith, low, reach))
 
       behind : drop ((applied_to base r).applied - base) list ≡ drop a whole
-      behind = sym (ap (λ (k : ℕ). drop k (take base (history settled r) ++ list)) (let high = moved-is base low in omega (arith, base_long, high)) ∙ drop-append-add (take base (history settled r)) list ((applied_to base r).applied - base))
+      behind = sym (ap (λ (k : ℕ). drop k (take base (history settled r) ++ list)) (let high = moved-is base low in
+          omega (arith, base_long, high)) ∙ drop-append-add (take base (history settled r)) list
+          ((applied_to base r).applied - base))
 
       fine : Fine s calls d a whole
-      fine = (histories_are_fine s d).rises calls base a (take base (history settled r) ++ list) goes.fine.1 (omega (arith, is)) (let reach = goes.prolongs.reaches in omega (arith, a_low, reach))
+      fine = (histories_are_fine s d).rises calls base a (take base (history settled r) ++ list) goes.fine.1
+          (omega (arith, is)) (let reach = goes.prolongs.reaches in omega (arith, a_low, reach))
 
       -- what is applied is the list's, as far as it reaches
       front : take a settled ≡ take a (take a whole)

@@ -19,8 +19,12 @@ use Rattle.law_headline.proofs.Always.{stands-always}
 use Rattle.law_headline.proofs.Planned.{planned_fit}
 
 module _ (s : Dimensions) (always : WholeAlways s) (plans : (es : List Event) → IsRun s es → SessionsStand s (state_of (book_of s es).history)) where
-  pub deliveries-fit-always : (es : List Event) → IsRun s es → (from to : ProcessId) (m : Message) (rest : List Message) → IsProcess s from → IsProcess s to → from ≢ to → Lives (after s es) to
+  pub deliveries-fit-always : (es : List Event) → IsRun s es → (from to : ProcessId) (m : Message) (rest : List Message)
+      → IsProcess s from → IsProcess s to → from ≢ to → Lives (after s es) to
       → link (after s es) from to ≡ m ∷ rest → Fits s from m (process_of (after s es) to)
   deliveries-fit-always es run =
-      subst (λ (w : World). (from to : ProcessId) (m : Message) (rest : List Message) → IsProcess s from → IsProcess s to → from ≢ to → Lives w to → link w from to ≡ m ∷ rest → Fits s from m (process_of w to)) (book-world s es)
-      (λ from to m rest fin tin apart lives first. planned_fit s (book_of s es).issued (state_of (book_of s es).history) (stands-always s always es run) (plans es run) from to m rest fin tin apart lives.1 first)
+      subst (λ (w : World). (from to : ProcessId) (m : Message) (rest : List Message) → IsProcess s from
+      → IsProcess s to → from ≢ to → Lives w to → link w from to ≡ m ∷ rest → Fits s from m (process_of w to))
+      (book-world s es)
+      (λ from to m rest fin tin apart lives first. planned_fit s (book_of s es).issued (state_of (book_of s es).history)
+      (stands-always s always es run) (plans es run) from to m rest fin tin apart lives.1 first)

@@ -36,13 +36,16 @@ use Rattle.law_headline.proofs.WholeSteps.{all-off, long-off, treats-built}
 
 module _ (s : Dimensions) (shaped : IsShape s) where
   -- a process treats something that puts nothing behind a log
-  module _ (calls : List Call) (v w : State) (p : ProcessId) (t : ProcessStep) (pin : IsProcess s p) (up : IsUp s v) (lives : v.dead p ≡ false) (treats : Treats s (v.process p) t) (whole : Whole s calls v)
-      (acts : Acted s v w p t) (both : LeavesEach s calls v w p) (next : SettlesNext s w.settled (v.process p) t) (long : (d : ℕ) → Long d (v.process p) t.process) where
+  module _ (calls : List Call) (v w : State) (p : ProcessId) (t : ProcessStep) (pin : IsProcess s p) (up : IsUp s v)
+      (lives : v.dead p ≡ false) (treats : Treats s (v.process p) t) (whole : Whole s calls v)
+      (acts : Acted s v w p t) (both : LeavesEach s calls v w p) (next : SettlesNext s w.settled (v.process p) t)
+      (long : (d : ℕ) → Long d (v.process p) t.process) where
     after : Members s w
     after = (members.keeps s shaped).treats v w p t pin up lives treats whole.carried.members acts
 
     begins : (d : ℕ) → d < s.k → Prolongs (v.settled d) (w.settled d)
-    begins d below = subst (Prolongs (v.settled d)) (sym (acts.settled d below)) (begins-append (v.settled d) (new_ones (length (v.settled d)) (settled_in d t.settled)))
+    begins d below = subst (Prolongs (v.settled d)) (sym (acts.settled d below))
+        (begins-append (v.settled d) (new_ones (length (v.settled d)) (settled_in d t.settled)))
 
     write : SettledWrite s w.settled
     write = write-after s shaped calls calls (λ d a h fine. fine) v w p t pin lives whole acts.process acts.others acts.dead after both
@@ -54,7 +57,8 @@ module _ (s : Dimensions) (shaped : IsShape s) where
     own i d is below off = long-off s calls calls v w p pin lives whole.reach acts.others acts.dead begins both i d is below
         (λ h heads. subst (Long d (v.process p)) (sym acts.process) (long d))
         (subst (StaysBuilt d (v.process p)) (sym acts.process)
-        (treats-built s shaped v w p t i is pin lives treats whole.carried.members whole.bytes ((marks-new s v whole.carried).next p pin lives) write applies next acts d below)) off
+        (treats-built s shaped v w p t i is pin lives treats whole.carried.members whole.bytes
+        ((marks-new s v whole.carried).next p pin lives) write applies next acts d below)) off
 
     treated-long : HeadsOff s v → HeadsOff s w
     treated-long off = all-off s calls calls v w p pin lives whole.reach acts.others acts.dead begins own off
@@ -64,7 +68,8 @@ module _ (s : Dimensions) (shaped : IsShape s) where
   collected calls v w p caller call pin up lives whole acts =
       treated-long calls v w p (collect_from caller call (v.process p) (range_with_len 0 s.k)).step pin up lives (Collects caller call) whole acts
       (reaching.collects-both (FineIn s calls) (fine-laws s calls) s shaped v w p caller call pin up lives whole.carried.members whole.reach acts)
-      (nothing-next s w.settled (v.process p) (collect_from caller call (v.process p) (range_with_len 0 s.k)).step (λ d. (still-collect s d caller call (v.process p) (range_with_len 0 s.k)).quiet))
+      (nothing-next s w.settled (v.process p) (collect_from caller call (v.process p) (range_with_len 0 s.k)).step
+      (λ d. (still-collect s d caller call (v.process p) (range_with_len 0 s.k)).quiet))
       (λ d. long-collect s d caller call (v.process p))
 
   pub flushed : (calls : List Call) (v w : State) (p : ProcessId) → IsProcess s p → IsUp s v → v.dead p ≡ false → Whole s calls v
@@ -86,14 +91,16 @@ died s v w p keep dies off i d iin living below =
 
 -- the start: no parity process heads a partition
 pub began : (s : Dimensions) (v : State) → Opens s v → HeadsOff s v
-began s v starts i d iin living below h b heads unbuilt = absurd (cc (ap (λ (p : Process). head_at p d) (sym (starts.process (ParityNode i) iin)) ∙ heads, none)) where
-  none : ◌≡◌ {A = Option Head} (head_at (opening_process s (ParityNode i)) d) None
-  none = at-replicate None s.k d
+began s v starts i d iin living below h b heads unbuilt =
+    absurd (cc (ap (λ (p : Process). head_at p d) (sym (starts.process (ParityNode i) iin)) ∙ heads, none)) where
+      none : ◌≡◌ {A = Option Head} (head_at (opening_process s (ParityNode i)) d) None
+      none = at-replicate None s.k d
 
 -- bytes of such a block at a number are those at the applied number
 pub block-stays : (s : Dimensions) (d : ℕ) (settled : List Update) (p : Process) → SameValues s d settled p → (h : Head) (b n : ℕ) (bytes : List ℕ)
     → head_at p d ≡ Some h → rebuilt_block p.as_leader d b ≡ None
-    → h.inherited ≤ n → n ≤ (replica_of p d).applied → IsBlock s b (value (take n settled)) bytes → IsBlock s b (value (take (replica_of p d).applied settled)) bytes
+    → h.inherited ≤ n → n ≤ (replica_of p d).applied → IsBlock s b (value (take n settled)) bytes
+    → IsBlock s b (value (take (replica_of p d).applied settled)) bytes
 block-stays s d settled p same h b n bytes heads unbuilt from to block = record {
   long = block.long;
   same = λ x low. block.same x low ∙ same h b n x heads unbuilt from to (omega (arith, low));

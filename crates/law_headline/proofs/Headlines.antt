@@ -19,11 +19,13 @@ headline_always s es run = headline s (whole-always s) es run
 
 pub rebuilt_always : RebuiltAlways
 rebuilt_always s es run = subst RebuiltIsSettled (book-world s es)
-    (rebuilt-is-settled (book_of s es).history (book_of s es).issued (shaped s (whole-always s) es run) (whole s (whole-always s) es run) (shown s (whole-always s) es run) (keeps s (whole-always s) es run))
+    (rebuilt-is-settled (book_of s es).history (book_of s es).issued (shaped s (whole-always s) es run)
+    (whole s (whole-always s) es run) (shown s (whole-always s) es run) (keeps s (whole-always s) es run))
 
 pub copies_always : CopiesAlways
 copies_always s es run = subst CopiesHoldCode (book-world s es)
-    (copies-hold-code (book_of s es).history (book_of s es).issued (shaped s (whole-always s) es run) (whole s (whole-always s) es run) (shown s (whole-always s) es run) (keeps s (whole-always s) es run))
+    (copies-hold-code (book_of s es).history (book_of s es).issued (shaped s (whole-always s) es run)
+    (whole s (whole-always s) es run) (shown s (whole-always s) es run) (keeps s (whole-always s) es run))
 
 pub plans_always : PlansAlways
 plans_always s es run = subst (λ (h : History). SessionsStand s (state_of h)) (book-history (no_book s) es) (all-always s es run).stamps

@@ -1,6 +1,7 @@
 -- The history of a head after a step: the same where nothing was put behind its log, and one update longer
 -- where it issued one.
-use Rattle.std.proofs.Common.{ℕ, zero, suc, ◌≡◌, ◌≤◌, ◌+◌, ◌-◌, true, List, [], ◌∷◌, ◌++◌, length, take, drop, Option, Some, None, is_some, inl, inr, refl, sym, ap, subst, ◌∙◌, append_assoc, arith}
+use Rattle.std.proofs.Common.{ℕ, zero, suc, ◌≡◌, ◌≤◌, ◌+◌, ◌-◌, true, List, [], ◌∷◌, ◌++◌, length, take, drop, Option}
+use Rattle.std.proofs.Common.{Some, None, is_some, inl, inr, refl, sym, ap, subst, ◌∙◌, append_assoc, arith}
 use Rattle.std.proofs.lemmas.List.{drop_all, take-append-drop, take_all}
 use Rattle.group_types.specs.Dimensions.{Dimensions}
 use Rattle.group_types.proofs.Lists.{at-put}
@@ -47,29 +48,37 @@ module _ (s : Dimensions) (d : ℕ) (old new : List Update) (p q : Process) (wit
   -- nothing was put behind the log
   pub off-long : ((h : Head) → head_at q d ≡ Some h → Long d p q)
       → ((h : Head) → head_at q d ≡ Some h → Prolongs (history old (replica_of p d)) (history new (replica_of q d))) → HeadOff s d old p → HeadOff s d new q
-  off-long long follows off h b heads none = subst (λ (us : List Update). Each (StaysOff s b) (drop h.inherited us)) (sym same) (by ((long h heads).heads h heads)) where
-    before : length (history old (replica_of p d)) ≡ last_of (replica_of p d)
-    before = length-history old (replica_of p d) within
+  off-long long follows off h b heads none = subst (λ (us : List Update). Each (StaysOff s b) (drop h.inherited us))
+      (sym same) (by ((long h heads).heads h heads)) where
+        before : length (history old (replica_of p d)) ≡ last_of (replica_of p d)
+        before = length-history old (replica_of p d) within
 
-    same : history new (replica_of q d) ≡ history old (replica_of p d)
-    same = begins-same (history old (replica_of p d)) (history new (replica_of q d)) (follows h heads) (length-history new (replica_of q d) within_now ∙ (long h heads).length ∙ sym before)
+        same : history new (replica_of q d) ≡ history old (replica_of p d)
+        same = begins-same (history old (replica_of p d)) (history new (replica_of q d)) (follows h heads)
+            (length-history new (replica_of q d) within_now ∙ (long h heads).length ∙ sym before)
 
-    by : Inherits d p h → Each (StaysOff s b) (drop h.inherited (history old (replica_of p d)))
-    by (inl kept) = subst (λ (n : ℕ). Each (StaysOff s b) (drop n (history old (replica_of p d)))) (sym kept.2) (off kept.0 b kept.1 (unbuilt-before d b p q stays none))
-    by (inr all) = subst (Each (StaysOff s b)) (sym (drop_all h.inherited (history old (replica_of p d)) (omega (arith, all, before)))) tt
+        by : Inherits d p h → Each (StaysOff s b) (drop h.inherited (history old (replica_of p d)))
+        by (inl kept) = subst (λ (n : ℕ). Each (StaysOff s b) (drop n (history old (replica_of p d)))) (sym kept.2)
+            (off kept.0 b kept.1 (unbuilt-before d b p q stays none))
+        by (inr all) = subst (Each (StaysOff s b)) (sym (drop_all h.inherited (history old (replica_of p d)) (omega (arith, all, before)))) tt
 
   -- an update was put behind it
-  pub off-issued : (h0 : Head) (u : Update) → head_at p d ≡ Some h0 → h0.inherited ≤ last_of (replica_of p d) → ((h : Head) → head_at q d ≡ Some h → h.inherited ≡ h0.inherited)
-      → history new (replica_of q d) ≡ history old (replica_of p d) ++ u ∷ [] → ((b : ℕ) → rebuilt_block p.as_leader d b ≡ None → StaysOff s b u) → HeadOff s d old p → HeadOff s d new q
+  pub off-issued : (h0 : Head) (u : Update) → head_at p d ≡ Some h0 → h0.inherited ≤ last_of (replica_of p d)
+      → ((h : Head) → head_at q d ≡ Some h → h.inherited ≡ h0.inherited)
+      → history new (replica_of q d) ≡ history old (replica_of p d) ++ u ∷ []
+      → ((b : ℕ) → rebuilt_block p.as_leader d b ≡ None → StaysOff s b u) → HeadOff s d old p → HeadOff s d new q
   off-issued h0 u had low same grown apart off h b heads none =
       let before : length (history old (replica_of p d)) ≡ last_of (replica_of p d) = length-history old (replica_of p d) within in
       let unbuilt : rebuilt_block p.as_leader d b ≡ None = unbuilt-before d b p q stays none in
       let here : drop h.inherited (history new (replica_of q d)) ≡ drop h0.inherited (history old (replica_of p d)) ++ u ∷ [] =
       (λ j. drop (same h heads j) (grown j)) ∙ drop-behind h0.inherited (history old (replica_of p d)) u (omega (arith, low, before)) in
-      subst (Each (StaysOff s b)) (sym here) (each-append (StaysOff s b) (drop h0.inherited (history old (replica_of p d))) (u ∷ []) (off h0 b had unbuilt) (apart b unbuilt, tt))
+      subst (Each (StaysOff s b)) (sym here)
+      (each-append (StaysOff s b) (drop h0.inherited (history old (replica_of p d))) (u ∷ []) (off h0 b had unbuilt)
+      (apart b unbuilt, tt))
 
 -- what is applied out of a log is next: the history is as before
-pub history-next : (more : List Update) (r : Replica) (n : ℕ) → take (r.applied + length (up_to n r)) more ≡ take r.applied more ++ up_to n r → history more (applied_to n r) ≡ history more r
+pub history-next : (more : List Update) (r : Replica) (n : ℕ) → take (r.applied + length (up_to n r)) more
+    ≡ take r.applied more ++ up_to n r → history more (applied_to n r) ≡ history more r
 history-next more r n next =
     ap (λ (us : List Update). us ++ drop (n - r.applied) r.log) next
     ∙ append_assoc (take r.applied more) (up_to n r) (drop (n - r.applied) r.log)
@@ -96,11 +105,13 @@ module _ (s : Dimensions) (d : ℕ) (h : Head) (u : Update) (p : Process) (heads
 
   issued-replica : replica_of (issued s d h u p).process d ≡ applied_to least (with_update u (replica_of p d))
   unfolding told least
-  issued-replica = ap (λ (o : Option Head). replica_of (judge_head s d told o).process d) heads ∙ replica-apply_to s d least told ∙ ap (applied_to least) replica_told
+  issued-replica = ap (λ (o : Option Head). replica_of (judge_head s d told o).process d) heads
+      ∙ replica-apply_to s d least told ∙ ap (applied_to least) replica_told
 
   -- what is issued stands behind the history
   pub history-issued : (settled more : List Update) → (replica_of p d).applied ≤ length settled → Prolongs settled more
-      → take ((replica_of p d).applied + length (settled_in d (issued s d h u p).settled)) more ≡ take (replica_of p d).applied more ++ settled_in d (issued s d h u p).settled
+      → take ((replica_of p d).applied + length (settled_in d (issued s d h u p).settled)) more
+      ≡ take (replica_of p d).applied more ++ settled_in d (issued s d h u p).settled
       → history more (replica_of (issued s d h u p).process d) ≡ history settled (replica_of p d) ++ u ∷ []
   history-issued settled more applied begins next =
       let r : Replica = replica_of p d in

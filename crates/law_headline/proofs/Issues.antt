@@ -1,5 +1,7 @@
 -- A head's history is fine and its bytes are right, so what it issues for a new call is the table's.
-use Rattle.std.proofs.Common.{ℕ, ◌≡◌, ◌≢◌, ◌<◌, ◌≤◌, ◌+◌, ◌==◌, Bool, false, List, [], ◌∷◌, ◌++◌, length, take, slice_get, Option, Some, None, ◌⊎◌, inl, inr, refl, sym, ap, subst, ◌∙◌, if◌then◌else◌, arith}
+use Rattle.std.proofs.Common.{ℕ, ◌≡◌, ◌≢◌, ◌<◌, ◌≤◌, ◌+◌, ◌==◌, Bool, false, List, [], ◌∷◌, ◌++◌, length, take}
+use Rattle.std.proofs.Common.{slice_get, Option, Some, None, ◌⊎◌, inl, inr, refl, sym, ap, subst, ◌∙◌, if◌then◌else◌}
+use Rattle.std.proofs.Common.{arith}
 use Rattle.std.proofs.lemmas.Bool.{cases_eq}
 use Rattle.std.proofs.lemmas.Grind.{common_steps}
 use Rattle.std.proofs.lemmas.List.{take-append-le, take_all}
@@ -110,7 +112,8 @@ column-at s us d space below is =
 
 module _ (s : Dimensions) (shaped : IsShape s) (calls : List Call) (v : State) (members : Members s v) (reach : Reach (FineIn s calls) s v)
     (write : SettledWrite s v.settled) (holds : HoldsBytes s v) where
-  module _ (p : ProcessId) (pin : IsProcess s p) (lives : v.dead p ≡ false) (d : ℕ) (below : d < s.k) (h : Head) (heads : head_at (v.process p) d ≡ Some h) where
+  module _ (p : ProcessId) (pin : IsProcess s p) (lives : v.dead p ≡ false) (d : ℕ) (below : d < s.k) (h : Head)
+      (heads : head_at (v.process p) d ≡ Some h) where
     pub keeps : IsKeeper d p
     keeps = head-keeps (v.process p) d h p (members.sits p d pin lives below) heads
 
@@ -119,27 +122,32 @@ module _ (s : Dimensions) (shaped : IsShape s) (calls : List Call) (v : State) (
 
     -- what the head finds in runs
     pub head-reads : ReadsFrom (store_after s d (stand v.settled (v.process p) d)).space (found_at s d (v.process p) (v.process p).name)
-    head-reads = reads s v.settled d (v.process p) (v.process p).name below (let least = shaped.block.0 in omega (arith, least)) own writes (holds p pin lives) where
-      writes : Each (WritesBytes s) (stand v.settled (v.process p) d)
-      writes = each-take (WritesBytes s) (replica_of (v.process p) d).applied (v.settled d) (write d below)
+    head-reads = reads s v.settled d (v.process p) (v.process p).name below (let least = shaped.block.0 in
+        omega (arith, least)) own writes (holds p pin lives) where
+          writes : Each (WritesBytes s) (stand v.settled (v.process p) d)
+          writes = each-take (WritesBytes s) (replica_of (v.process p) d).applied (v.settled d) (write d below)
 
-      own : (e : ℕ) → (v.process p).name ≡ DataNode e → (e ≡ d) × ((v.process p).space ≡ values s d (stand v.settled (v.process p) d))
-      own e is =
-          let named : p ≡ DataNode e = sym (members.named p pin) ∙ is in
-          let same : e ≡ d = subst (IsKeeper d) named keeps in
-          let there : e < s.k = subst (IsProcess s) named pin in
-          let space : (v.process p).space ≡ values s e (stand v.settled (v.process p) e) =
-          column-at s (stand v.settled (v.process p)) e (v.process p).space there (spaces_stand s v.settled (v.process p) (DataNode e) is there write (holds p pin lives)) in
-          (same, space ∙ ap (λ (j : ℕ). values s j (stand v.settled (v.process p) j)) same)
+          own : (e : ℕ) → (v.process p).name ≡ DataNode e → (e ≡ d) × ((v.process p).space ≡ values s d (stand v.settled (v.process p) d))
+          own e is =
+              let named : p ≡ DataNode e = sym (members.named p pin) ∙ is in
+              let same : e ≡ d = subst (IsKeeper d) named keeps in
+              let there : e < s.k = subst (IsProcess s) named pin in
+              let space : (v.process p).space ≡ values s e (stand v.settled (v.process p) e) =
+              column-at s (stand v.settled (v.process p)) e (v.process p).space there
+              (spaces_stand s v.settled (v.process p) (DataNode e) is there write (holds p pin lives)) in
+              (same, space ∙ ap (λ (j : ℕ). values s j (stand v.settled (v.process p) j)) same)
 
     -- the update that it issues for a new call
     pub issue : (c : Call) (body : Body) (outcome : Outcome) → home_of (key_of c.op.act) s.k ≡ d → IsNextCall calls c
         → decide (space_of s) h.inherited (replica_of (v.process p) d) c.op (found_at s d (v.process p) (v.process p).name) ≡ decides.Issue body outcome
-        → FineIn s (calls ++ c ∷ []) d (replica_of (v.process p) d).applied (history (v.settled d) (replica_of (v.process p) d) ++ update_of c.name c.op d body outcome (v.process p) ∷ [])
+        → FineIn s (calls ++ c ∷ []) d (replica_of (v.process p) d).applied
+        (history (v.settled d) (replica_of (v.process p) d) ++ update_of c.name c.op d body outcome (v.process p)
+        ∷ [])
     issue c body outcome home next decided =
         let r : Replica = replica_of (v.process p) d in
         issues_are_fine s calls d h.inherited (history (v.settled d) r) c (v.process p) body outcome fits.fine.1
         (replica-of-history (FineIn s calls) d (v.settled d) r (head_at (v.process p) d) fits)
         (record { caller = next.caller; home = home; bytes = next.bytes }) next.behind
-        (subst (λ (us : List Update). ReadsFrom (store_after s d us).space (found_at s d (v.process p) (v.process p).name)) (sym (front-is (v.settled d) r fits.applied)) head-reads)
+        (subst (λ (us : List Update). ReadsFrom (store_after s d us).space
+        (found_at s d (v.process p) (v.process p).name)) (sym (front-is (v.settled d) r fits.applied)) head-reads)
         decided

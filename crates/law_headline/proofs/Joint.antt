@@ -1,6 +1,7 @@
 -- What stands at every moment, of the group and of the calls whose updates were issued, all at once: histories
 -- are right only while heads read the bytes that are settled, and the bytes only while histories are right.
-use Rattle.std.proofs.Common.{ℕ, ◌≡◌, ◌≢◌, ◌<◌, ◌≤◌, ◌+◌, ◌%◌, Bool, true, false, nat_le, List, [], ◌∷◌, ◌++◌, length, take, Option, Some, None, ◌⊎◌, inl, inr, refl, sym, ap, subst, ◌∙◌, arith}
+use Rattle.std.proofs.Common.{ℕ, ◌≡◌, ◌≢◌, ◌<◌, ◌≤◌, ◌+◌, ◌%◌, Bool, true, false, nat_le, List, [], ◌∷◌, ◌++◌, length}
+use Rattle.std.proofs.Common.{take, Option, Some, None, ◌⊎◌, inl, inr, refl, sym, ap, subst, ◌∙◌, arith}
 use Rattle.std.specs.List.{range_with_len}
 use Rattle.group_types.specs.Dimensions.{Dimensions, space_of}
 use Rattle.group_types.specs.Hash.{fnv1a, home_of}
@@ -70,8 +71,10 @@ pub record Whole (s : Dimensions) (calls : List Call) (v : State) : Type 0 where
 
 -- what a step of a process leaves of each partition
 abbrev pub LeavesEach : Dimensions → List Call → State → State → ProcessId → Type 0
-LeavesEach s calls v w p = (d : ℕ) → d < s.k → PartitionReaches (FineIn s calls) s w d × Since d (v.process p) (w.process p) × GrewBy d (v.settled d) (w.settled d) (w.process p)
-    × FollowsBy d (v.settled d) (replica_of (v.process p) d) (w.settled d) (w.process p) × (¬ (IsKeeper d p) → replica_of (w.process p) d ≡ replica_of (v.process p) d)
+LeavesEach s calls v w p = (d : ℕ) → d < s.k → PartitionReaches (FineIn s calls) s w d
+    × Since d (v.process p) (w.process p) × GrewBy d (v.settled d) (w.settled d) (w.process p)
+    × FollowsBy d (v.settled d) (replica_of (v.process p) d) (w.settled d) (w.process p)
+    × (¬ (IsKeeper d p) → replica_of (w.process p) d ≡ replica_of (v.process p) d)
 
 inside : (a k : ℕ) → 0 < k → a % k < k
 inside a k some = omega (arith, some)
@@ -82,8 +85,10 @@ fine-more s calls later d a h fine = (histories_are_fine s d).more calls later a
 
 module _ (s : Dimensions) (shaped : IsShape s) where
   -- what a process that stepped leaves, with the calls that are issued then
-  module _ (calls more : List Call) (grown : (d a : ℕ) (h : List Update) → FineIn s calls d a h → FineIn s more d a h) (v w : State) (p : ProcessId) (t : ProcessStep) (pin : IsProcess s p) (lives : v.dead p ≡ false)
-      (whole : Whole s calls v) (is : w.process p ≡ t.process) (others : (q : ProcessId) → IsProcess s q → q ≢ p → w.process q ≡ v.process q) (dead : (q : ProcessId) → IsProcess s q → w.dead q ≡ v.dead q)
+  module _ (calls more : List Call) (grown : (d a : ℕ) (h : List Update) → FineIn s calls d a h → FineIn s more d a h)
+      (v w : State) (p : ProcessId) (t : ProcessStep) (pin : IsProcess s p) (lives : v.dead p ≡ false)
+      (whole : Whole s calls v) (is : w.process p ≡ t.process) (others : (q : ProcessId) → IsProcess s q → q ≢ p
+      → w.process q ≡ v.process q) (dead : (q : ProcessId) → IsProcess s q → w.dead q ≡ v.dead q)
       (after : Members s w) (both : LeavesEach s more v w p) where
     still : w.dead p ≡ false
     still = dead p pin ∙ lives
@@ -94,19 +99,22 @@ module _ (s : Dimensions) (shaped : IsShape s) where
     pub settled-after : (d : ℕ) → d < s.k → FineIn s more d (length (w.settled d)) (w.settled d)
     settled-after d below = by (both d below).2 where
       by : GrewBy d (v.settled d) (w.settled d) (w.process p) → FineIn s more d (length (w.settled d)) (w.settled d)
-      by (inl same) = subst (λ (us : List Update). FineIn s more d (length us) us) (sym same) (grown d (length (v.settled d)) (v.settled d) (whole.settled d below))
+      by (inl same) = subst (λ (us : List Update). FineIn s more d (length us) us) (sym same)
+          (grown d (length (v.settled d)) (v.settled d) (whole.settled d below))
       by (inr has) =
           let keeps : IsKeeper d p = head-keeps (w.process p) d has.head p (after.sits p d pin still below) has.heads in
           let fits : ReplicaReaches (FineIn s more) d (w.settled d) (w.process p) = (both d below).0.replicas p pin still keeps in
           let all = has.all in
           let front : FineIn s more d (replica_of (w.process p) d).applied (take (length (w.settled d)) (history (w.settled d) (replica_of (w.process p) d))) =
-          (histories_are_fine s d).front more (replica_of (w.process p) d).applied (length (w.settled d)) (history (w.settled d) (replica_of (w.process p) d)) fits.fine.1 (omega (arith, all)) in
+          (histories_are_fine s d).front more (replica_of (w.process p) d).applied (length (w.settled d))
+          (history (w.settled d) (replica_of (w.process p) d)) fits.fine.1 (omega (arith, all)) in
           subst (λ (n : ℕ). FineIn s more d n (w.settled d)) has.all (subst (FineIn s more d (replica_of (w.process p) d).applied) fits.prolongs.front front)
 
     pub unkept-after : Unkept s w
     unkept-after q d qin living below not = by (same-cases q p) where
       by : (q ≡ p) ⊎ (q ≢ p) → replica_of (w.process q) d ≡ empty_replica
-      by (inl same) = subst (λ (y : ProcessId). ¬ (IsKeeper d y) → replica_of (w.process y) d ≡ empty_replica) (sym same) (λ none. (both d below).4 none ∙ whole.unkept p d pin lives below none) not
+      by (inl same) = subst (λ (y : ProcessId). ¬ (IsKeeper d y) → replica_of (w.process y) d ≡ empty_replica)
+          (sym same) (λ none. (both d below).4 none ∙ whole.unkept p d pin lives below none) not
       by (inr other) = ap (λ (y : Process). replica_of y d) (others q qin other) ∙ whole.unkept q d qin (sym (dead q qin) ∙ living) below not
 
     pub write-after : SettledWrite s w.settled
@@ -120,8 +128,11 @@ module _ (s : Dimensions) (shaped : IsShape s) where
     right-after rebuilds = record { write = write-after; applies = applies-after; rebuilds = rebuilds }
 
   -- a process treats a call, a collect or a flush
-  module _ (calls more : List Call) (grown : (d a : ℕ) (h : List Update) → FineIn s calls d a h → FineIn s more d a h) (v w : State) (p : ProcessId) (t : ProcessStep) (pin : IsProcess s p) (up : IsUp s v) (lives : v.dead p ≡ false)
-      (treats : Treats s (v.process p) t) (whole : Whole s calls v) (acts : Acted s v w p t) (both : LeavesEach s more v w p) (next : SettlesNext s w.settled (v.process p) t) (rebuilds : RebuildsRight s w.settled (v.process p) t.process) where
+  module _ (calls more : List Call) (grown : (d a : ℕ) (h : List Update) → FineIn s calls d a h → FineIn s more d a h)
+      (v w : State) (p : ProcessId) (t : ProcessStep) (pin : IsProcess s p) (up : IsUp s v) (lives : v.dead p ≡ false)
+      (treats : Treats s (v.process p) t) (whole : Whole s calls v) (acts : Acted s v w p t)
+      (both : LeavesEach s more v w p) (next : SettlesNext s w.settled (v.process p) t)
+      (rebuilds : RebuildsRight s w.settled (v.process p) t.process) where
     members-after : Members s w
     members-after = (members.keeps s shaped).treats v w p t pin up lives treats whole.carried.members acts
 
@@ -134,7 +145,8 @@ module _ (s : Dimensions) (shaped : IsShape s) where
       reach = reach-after calls more grown v w p t pin lives whole acts.process acts.others acts.dead members-after both;
       settled = settled-after calls more grown v w p t pin lives whole acts.process acts.others acts.dead members-after both;
       unkept = unkept-after calls more grown v w p t pin lives whole acts.process acts.others acts.dead members-after both;
-      bytes = (bytes_kept s shaped).treats v w p t pin lives treats whole.carried.members whole.bytes ((marks-new s v whole.carried).next p pin lives) right next acts;
+      bytes = (bytes_kept s shaped).treats v w p t pin lives treats whole.carried.members whole.bytes
+          ((marks-new s v whole.carried).next p pin lives) right next acts;
       exact = (exact_kept s shaped).treats v w p t pin lives treats whole.carried.members members-after whole.bytes whole.exact right acts;
     }
 
@@ -150,7 +162,8 @@ module _ (s : Dimensions) (shaped : IsShape s) where
       ap (λ (x : Decision). is_issued (act_on s name op e h p x).answer) is
       ∙ ticketed-issued e (nat_le u.number (replica_of (issued s e h u p).process e).applied) u (issued s e h u p)
 
-  module _ (calls : List Call) (v w : State) (p : ProcessId) (c : Call) (pin : IsProcess s p) (up : IsUp s v) (lives : v.dead p ≡ false) (next : IsNextCall calls c) (whole : Whole s calls v)
+  module _ (calls : List Call) (v w : State) (p : ProcessId) (c : Call) (pin : IsProcess s p) (up : IsUp s v)
+      (lives : v.dead p ≡ false) (next : IsNextCall calls c) (whole : Whole s calls v)
       (acts : Acted s v w p (ask_process s c.name c.op (v.process p)).step) where
     -- the partition of its key, what is made of it, and the calls that are issued then
     abbrev pub home : ℕ
@@ -181,13 +194,17 @@ module _ (s : Dimensions) (shaped : IsShape s) where
     pub fine-issue : (h : Head) (body : Body) (outcome : Outcome) → head_at (v.process p) home ≡ Some h → decision-of h ≡ decides.Issue body outcome
         → FineIn s (calls ++ c ∷ []) home (replica_of (v.process p) home).applied
         (history (v.settled home) (replica_of (v.process p) home) ++ update_of c.name c.op home body outcome (v.process p) ∷ [])
-    fine-issue h body outcome heads decided = issue s shaped calls v whole.carried.members whole.reach write whole.bytes p pin lives home home-below h heads c body outcome refl next decided
+    fine-issue h body outcome heads decided = issue s shaped calls v whole.carried.members whole.reach write whole.bytes
+        p pin lives home home-below h heads c body outcome refl next decided
 
     issues : IssueKeeps (FineIn s more) s v p c.name c.op
     issues h body outcome heads decided =
         let is : is_issued (ask_process s c.name c.op (v.process p)).answer ≡ true =
-        ap (λ (o : Option Head). is_issued (ask_head s c.name c.op home (v.process p) o).answer) heads ∙ answer-issued c.name c.op home h (v.process p) body outcome (decision-of h) decided in
-        subst (λ (b : Bool). FineIn s (calls ++ call_if b c) home (replica_of (v.process p) home).applied (history (v.settled home) (replica_of (v.process p) home) ++ update_of c.name c.op home body outcome (v.process p) ∷ [])) (sym is)
+        ap (λ (o : Option Head). is_issued (ask_head s c.name c.op home (v.process p) o).answer) heads
+        ∙ answer-issued c.name c.op home h (v.process p) body outcome (decision-of h) decided in
+        subst (λ (b : Bool). FineIn s (calls ++ call_if b c) home (replica_of (v.process p) home).applied
+        (history (v.settled home) (replica_of (v.process p) home) ++ update_of c.name c.op home body outcome
+        (v.process p) ∷ [])) (sym is)
         (fine-issue h body outcome heads decided)
 
     pub asked-leaves : LeavesEach s more v w p
@@ -206,7 +223,9 @@ module _ (s : Dimensions) (shaped : IsShape s) where
     settles (Some h) heads is =
         let reached : ReplicaReaches (FineIn s calls) home (v.settled home) (v.process p) = asked-head h heads in
         act-next s (v.process p) v.settled w.settled c.name c.op home home-below reached.applied reached.prolongs h (decision-of h) heads
-        (λ body outcome decided. numbered-append 1 (history (v.settled home) (replica_of (v.process p) home)) (update_of c.name c.op home body outcome (v.process p) ∷ []) reached.fine.0 (after_last home body outcome reached.applied, tt)) is
+        (λ body outcome decided. numbered-append 1 (history (v.settled home) (replica_of (v.process p) home))
+        (update_of c.name c.op home body outcome (v.process p) ∷ []) reached.fine.0
+        (after_last home body outcome reached.applied, tt)) is
 
     pub asked-next : SettlesNext s w.settled (v.process p) step
     asked-next = settles (head_at (v.process p) home) refl acts.settled
@@ -215,10 +234,12 @@ module _ (s : Dimensions) (shaped : IsShape s) where
     asked = treated calls more more-fine v w p step pin up lives (Asks c.name c.op next.bytes) whole acts asked-leaves asked-next
 
   -- a message is received
-  module _ (calls : List Call) (v u w : State) (x p : ProcessId) (m : Message) (xin : IsProcess s x) (pin : IsProcess s p) (apart : x ≢ p) (up : IsUp s v) (lives : v.dead p ≡ false) (whole : Whole s calls v)
+  module _ (calls : List Call) (v u w : State) (x p : ProcessId) (m : Message) (xin : IsProcess s x)
+      (pin : IsProcess s p) (apart : x ≢ p) (up : IsUp s v) (lives : v.dead p ≡ false) (whole : Whole s calls v)
       (pops : Popped s v u x p m) (acts : Acted s u w p (receive s x m (v.process p))) where
     pub both_received : LeavesEach s calls v w p
-    both_received = reaching.receives-both (FineIn s calls) (fine-laws s calls) s shaped v u w x p m xin pin apart up lives whole.carried.members whole.reach pops acts
+    both_received = reaching.receives-both (FineIn s calls) (fine-laws s calls) s shaped v u w x p m xin pin apart up
+        lives whole.carried.members whole.reach pops acts
 
     pub members_received : Members s w
     members_received = (members.keeps s shaped).receives v u w x p m xin pin apart up lives whole.carried.members pops acts
@@ -231,7 +252,10 @@ module _ (s : Dimensions) (shaped : IsShape s) where
 
       by : (z : Message) → m ≡ z → MarksNew z (v.process p)
       by (tells.Mark session r block d n) is = λ accepts.
-          let numbers = (subst (λ (y : Message). FitsNumbers s x y (v.process p)) is (fits-numbers (FineIn s calls) s v whole.carried.members whole.reach x p xin pin apart lives m (u.link x p) pops.first)) accepts in
+          let numbers =
+          (subst (λ (y : Message). FitsNumbers s x y (v.process p)) is
+          (fits-numbers (FineIn s calls) s v whole.carried.members whole.reach x p xin pin apart lives m (u.link x p)
+          pops.first)) accepts in
           record { above = numbers.above; issued = numbers.issued; unmarked = subst (λ (y : Message). IsUnmarked y (v.process p)) is unmarked }
       by (tells.Update r e z stable) is = tt
       by (tells.Ack r e n) is = tt
@@ -249,17 +273,24 @@ module _ (s : Dimensions) (shaped : IsShape s) where
     pub dead_received : (q : ProcessId) → IsProcess s q → w.dead q ≡ v.dead q
     dead_received q qin = acts.dead q qin ∙ pops.dead q qin
 
-    right_received : RebuildsRight s w.settled (v.process p) (receive s x m (v.process p)).process → StepIsRight s w.settled (v.process p) (receive s x m (v.process p))
-    right_received = right-after calls calls (λ d a h fine. fine) v w p (receive s x m (v.process p)) pin lives whole acts.process same_received dead_received members_received both_received
+    right_received : RebuildsRight s w.settled (v.process p) (receive s x m (v.process p)).process
+        → StepIsRight s w.settled (v.process p) (receive s x m (v.process p))
+    right_received = right-after calls calls (λ d a h fine. fine) v w p (receive s x m (v.process p)) pin lives whole
+        acts.process same_received dead_received members_received both_received
 
     pub received : RebuildsRight s w.settled (v.process p) (receive s x m (v.process p)).process → Whole s calls w
     received rebuilds = record {
       carried = (sessions.keeps s shaped).receives v u w x p m xin pin apart up lives whole.carried pops acts;
-      reach = reach-after calls calls (λ d a h fine. fine) v w p (receive s x m (v.process p)) pin lives whole acts.process same_received dead_received members_received both_received;
-      settled = settled-after calls calls (λ d a h fine. fine) v w p (receive s x m (v.process p)) pin lives whole acts.process same_received dead_received members_received both_received;
-      unkept = unkept-after calls calls (λ d a h fine. fine) v w p (receive s x m (v.process p)) pin lives whole acts.process same_received dead_received members_received both_received;
-      bytes = (bytes_kept s shaped).receives v u w x p m xin pin apart lives whole.carried.members whole.bytes marks-received (right_received rebuilds) pops acts;
-      exact = (exact_kept s shaped).receives v u w x p m xin pin apart lives whole.carried.members members_received whole.bytes whole.exact marks-received (right_received rebuilds) pops acts;
+      reach = reach-after calls calls (λ d a h fine. fine) v w p (receive s x m (v.process p)) pin lives whole
+          acts.process same_received dead_received members_received both_received;
+      settled = settled-after calls calls (λ d a h fine. fine) v w p (receive s x m (v.process p)) pin lives whole
+          acts.process same_received dead_received members_received both_received;
+      unkept = unkept-after calls calls (λ d a h fine. fine) v w p (receive s x m (v.process p)) pin lives whole
+          acts.process same_received dead_received members_received both_received;
+      bytes = (bytes_kept s shaped).receives v u w x p m xin pin apart lives whole.carried.members whole.bytes
+          marks-received (right_received rebuilds) pops acts;
+      exact = (exact_kept s shaped).receives v u w x p m xin pin apart lives whole.carried.members members_received
+          whole.bytes whole.exact marks-received (right_received rebuilds) pops acts;
     }
 
   -- a process dies
@@ -290,11 +321,15 @@ module _ (s : Dimensions) (shaped : IsShape s) where
       → Acted s v w p (collect_from caller call (v.process p) (range_with_len 0 s.k)).step
       → RebuildsRight s w.settled (v.process p) (collect_from caller call (v.process p) (range_with_len 0 s.k)).step.process → Whole s calls w
   collected calls v w p caller call pin up lives whole acts rebuilds =
-      treated calls calls (λ d a h fine. fine) v w p (collect_from caller call (v.process p) (range_with_len 0 s.k)).step pin up lives (Collects caller call) whole acts
+      treated calls calls (λ d a h fine. fine) v w p
+      (collect_from caller call (v.process p) (range_with_len 0 s.k)).step pin up lives (Collects caller call) whole
+      acts
       (reaching.collects-both (FineIn s calls) (fine-laws s calls) s shaped v w p caller call pin up lives whole.carried.members whole.reach acts)
-      (nothing-next s w.settled (v.process p) (collect_from caller call (v.process p) (range_with_len 0 s.k)).step (λ d. (still-collect s d caller call (v.process p) (range_with_len 0 s.k)).quiet)) rebuilds
+      (nothing-next s w.settled (v.process p) (collect_from caller call (v.process p) (range_with_len 0 s.k)).step
+      (λ d. (still-collect s d caller call (v.process p) (range_with_len 0 s.k)).quiet)) rebuilds
 
-  pub flushed : (calls : List Call) (v w : State) (p : ProcessId) → IsProcess s p → IsUp s v → v.dead p ≡ false → Whole s calls v → Acted s v w p (flush_process s (v.process p)).step
+  pub flushed : (calls : List Call) (v w : State) (p : ProcessId) → IsProcess s p → IsUp s v → v.dead p ≡ false
+      → Whole s calls v → Acted s v w p (flush_process s (v.process p)).step
       → RebuildsRight s w.settled (v.process p) (flush_process s (v.process p)).step.process → Whole s calls w
   flushed calls v w p pin up lives whole acts rebuilds =
       treated calls calls (λ d a h fine. fine) v w p (flush_process s (v.process p)).step pin up lives Flushes whole acts

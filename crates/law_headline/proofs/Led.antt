@@ -1,5 +1,6 @@
 -- A leader heads every partition that an open session of it is for.
-use Rattle.std.proofs.Common.{ℕ, ◌≡◌, ◌≢◌, ◌<◌, ◌==◌, nat_le, Bool, true, false, List, [], ◌∷◌, find, Option, Some, None, ◌⊎◌, inl, inr, refl, sym, ap, subst, ◌∙◌}
+use Rattle.std.proofs.Common.{ℕ, ◌≡◌, ◌≢◌, ◌<◌, ◌==◌, nat_le, Bool, true, false, List, [], ◌∷◌, find, Option, Some}
+use Rattle.std.proofs.Common.{None, ◌⊎◌, inl, inr, refl, sym, ap, subst, ◌∙◌}
 use Rattle.std.specs.Prelude.{Contains}
 use Rattle.std.specs.List.{range_with_len}
 use Rattle.group_types.specs.Dimensions.{Dimensions, space_of}
@@ -61,13 +62,17 @@ module _ (s : Dimensions) where
       stays-led p q since e below (led n before.session before.opens e (subst (λ (ls : List ℕ). Contains ls e) before.lost lost) below)
 
   same-led : (p q : Process) → q.as_leader.sessions ≡ p.as_leader.sessions → ((d : ℕ) → d < s.k → Since d p q) → ProcessLed s p → ProcessLed s q
-  same-led p q same since led n g opens e lost below = stays-led p q since e below (led n g (sym (ap (λ (gs : List Gathering). find (λ x. x.number == n) gs) same) ∙ opens) e lost below)
+  same-led p q same since led n g opens e lost below =
+      stays-led p q since e below
+      (led n g (sym (ap (λ (gs : List Gathering). find (λ x. x.number == n) gs) same) ∙ opens) e lost below)
 
   -- whoever leads all lost partitions
-  leads-led : (p q : Process) → LeadsLost s p → q.known ≡ p.known → Each (IsFor s q.known) q.as_leader.sessions → ((d : ℕ) → d < s.k → Since d p q) → ProcessLed s q
+  leads-led : (p q : Process) → LeadsLost s p → q.known ≡ p.known → Each (IsFor s q.known) q.as_leader.sessions
+      → ((d : ℕ) → d < s.k → Since d p q) → ProcessLed s q
   leads-led p q leads known fits since n g opens e lost below =
       let is : IsFor s q.known g = (found-each (λ x. x.number == n) (IsFor s q.known) q.as_leader.sessions g opens fits).1 in
-      let among = among-filter (λ d. knows_dead q.known (DataNode d)) e (range_with_len 0 s.k) (contains-among (lost_by s q.known) e (subst (λ (ls : List ℕ). Contains ls e) is.lost lost)) in
+      let among = among-filter (λ d. knows_dead q.known (DataNode d)) e (range_with_len 0 s.k)
+      (contains-among (lost_by s q.known) e (subst (λ (ls : List ℕ). Contains ls e) is.lost lost)) in
       let head = leads e below (ap (λ (k : Membership). knows_dead k (DataNode e)) (sym known) ∙ among.1) in
       stays-led p q since e below (head.0, head.1)
 
@@ -80,7 +85,8 @@ module _ (s : Dimensions) where
   ticketed-sessions true d u t = refl
   ticketed-sessions false d u t = refl
 
-  pub collected-sessions : (caller call : ℕ) (p : Process) (ds : List ℕ) → (collect_from caller call p ds).step.process.as_leader.sessions ≡ p.as_leader.sessions
+  pub collected-sessions : (caller call : ℕ) (p : Process) (ds : List ℕ)
+      → (collect_from caller call p ds).step.process.as_leader.sessions ≡ p.as_leader.sessions
   collected-sessions caller call p [] = refl
   collected-sessions caller call p (d ∷ ds) = by (find (is_call caller call) (held_at p d)) (collected-sessions caller call p ds) where
     handed : (b : Bool) (h : Held) → (handed_out b d h p).step.process.as_leader.sessions ≡ p.as_leader.sessions
@@ -102,9 +108,11 @@ module _ (s : Dimensions) where
   act-sessions name op d h p (decides.Issue body outcome) well =
       let u : Update = update_of name op d body outcome p in
       let told : Process = with_replica d (with_update u (replica_of p d)) p in
-      inl (ticketed-sessions (nat_le u.number (replica_of (issued s d h u p).process d).applied) d u (issued s d h u p) ∙ judged-sessions d told (head_at told d))
+      inl (ticketed-sessions (nat_le u.number (replica_of (issued s d h u p).process d).applied) d u (issued s d h u p)
+      ∙ judged-sessions d told (head_at told d))
 
-  ask-sessions : (name : CallName) (op : Asked) (d : ℕ) (p : Process) (o : Option Head) → ((h : Head) → o ≡ Some h → (run : Run) (b : ℕ) → found_at s d p p.name run ≡ Missing b → LeadsLost s p)
+  ask-sessions : (name : CallName) (op : Asked) (d : ℕ) (p : Process) (o : Option Head)
+      → ((h : Head) → o ≡ Some h → (run : Run) (b : ℕ) → found_at s d p p.name run ≡ Missing b → LeadsLost s p)
       → ((ask_head s name op d p o).step.process.as_leader.sessions ≡ p.as_leader.sessions) ⊎ LeadsLost s p
   ask-sessions name op d p None leads = inl refl
   ask-sessions name op d p (Some h) leads =
@@ -148,8 +156,10 @@ module _ (s : Dimensions) where
     pub received-led : (u : State) (x : ProcessId) (m : Message) → Popped s v u x p m → Acted s u w p (receive s x m (v.process p))
         → ((d : ℕ) → d < s.k → Since d (v.process p) (w.process p)) → LostLed s w
     received-led u x m pops acts since =
-        acted-led v w p (receive s x m (v.process p)).process acts.process (λ q qin other. acts.others q qin other ∙ pops.processes q qin) (λ q qin. acts.dead q qin ∙ pops.dead q qin)
-        (borne-led (v.process p) (receive s x m (v.process p)).process (λ n. bears-receive s n x m (v.process p)) (λ d low. subst (Since d (v.process p)) acts.process (since d low)) (led p pin lives)) led
+        acted-led v w p (receive s x m (v.process p)).process acts.process (λ q qin other. acts.others q qin other
+        ∙ pops.processes q qin) (λ q qin. acts.dead q qin ∙ pops.dead q qin)
+        (borne-led (v.process p) (receive s x m (v.process p)).process (λ n. bears-receive s n x m (v.process p))
+        (λ d low. subst (Since d (v.process p)) acts.process (since d low)) (led p pin lives)) led
 
   pub died-led : (v w : State) (p : ProcessId) (keep : ℕ) → Died s v w p keep → LostLed s v → LostLed s w
   died-led v w p keep dies led x xin living = subst (ProcessLed s) (sym (dies.processes x xin)) (led x xin lived) where

@@ -40,5 +40,7 @@ module _ (s : Dimensions) where
     by true = sound
     by false = record { inside = sound.inside; long = after-long name d c.block us c.bytes ∙ sound.long }
 
-  pub copies-after : (name : ProcessId) (d : ℕ) (us : List Update) (cs : List Copy) → Each (CopySound s) cs → Each (CopySound s) (map (copy_after s name d us) cs)
-  copies-after name d us cs all = each-map (CopySound s) (copy_after s name d us) cs (each-weaker (CopySound s) (λ c. CopySound s (copy_after s name d us c)) (copy-after name d us) cs all)
+  pub copies-after : (name : ProcessId) (d : ℕ) (us : List Update) (cs : List Copy) → Each (CopySound s) cs
+      → Each (CopySound s) (map (copy_after s name d us) cs)
+  copies-after name d us cs all = each-map (CopySound s) (copy_after s name d us) cs
+      (each-weaker (CopySound s) (λ c. CopySound s (copy_after s name d us c)) (copy-after name d us) cs all)

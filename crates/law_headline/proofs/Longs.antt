@@ -1,6 +1,7 @@
 -- Steps of a process that put no update behind a partition's log: its history gets no longer, and where the
 -- process heads the partition afterwards it inherited what it had before, or all that there was.
-use Rattle.std.proofs.Common.{ℕ, suc, ◌≡◌, ◌≢◌, ◌+◌, ◌-◌, ◌==◌, nat_le, Bool, true, false, List, [], ◌∷◌, ◌++◌, length, take, drop, Option, Some, None, ◌⊎◌, inl, inr, refl, sym, ap, subst, ◌∙◌, arith}
+use Rattle.std.proofs.Common.{ℕ, suc, ◌≡◌, ◌≢◌, ◌+◌, ◌-◌, ◌==◌, nat_le, Bool, true, false, List, [], ◌∷◌, ◌++◌, length}
+use Rattle.std.proofs.Common.{take, drop, Option, Some, None, ◌⊎◌, inl, inr, refl, sym, ap, subst, ◌∙◌, arith}
 use Rattle.std.proofs.lemmas.Bool.{cases_eq}
 use Rattle.std.proofs.lemmas.List.{length-append, take-append-drop}
 use Rattle.std.specs.List.{range_with_len}
@@ -17,7 +18,9 @@ use Rattle.group_run.specs.Applying.{ProcessStep, apply_to, for_each, head_at, q
 use Rattle.group_run.specs.Heading.{acknowledge, acknowledged, judge, judge_head}
 use Rattle.group_run.specs.Leaders.{close_sessions, mark_comes, mark_taken}
 use Rattle.group_run.specs.Process.{Head, Process, new_head}
-use Rattle.group_run.specs.Receiving.{ack_to, adopt_comes, adopting, death_known, enthroned, log_adopted, notice_comes, read_comes, receive, take_over_if, taken_over, takes_over, unless_stale, update_comes, update_taken, with_rank}
+use Rattle.group_run.specs.Receiving.{ack_to, adopt_comes, adopting, death_known, enthroned, log_adopted, notice_comes}
+use Rattle.group_run.specs.Receiving.{read_comes, receive, take_over_if, taken_over, takes_over, unless_stale}
+use Rattle.group_run.specs.Receiving.{update_comes, update_taken, with_rank}
 use Rattle.group_run.specs.Replica.{Replica, applied_to, empty_replica, last_of, with_update}
 use Rattle.group_run.specs.Rows.{accepts_mark, begin_copy, copy_in, parity_number}
 use Rattle.law_histories.proofs.Heads.{replica-apply_to}
@@ -57,7 +60,8 @@ pub long-when : (d : ℕ) (b : Bool) (p : Process) (t : ProcessStep) → (b ≡ 
 long-when d true p t long = long refl
 long-when d false p t long = long-refl d p
 
-pub long-each : (d : ℕ) (f : ℕ → Process → ProcessStep) → ((x : ℕ) (q : Process) → Long d q (f x q).process) → (xs : List ℕ) (p : Process) → Long d p (for_each xs f p).process
+pub long-each : (d : ℕ) (f : ℕ → Process → ProcessStep) → ((x : ℕ) (q : Process) → Long d q (f x q).process)
+    → (xs : List ℕ) (p : Process) → Long d p (for_each xs f p).process
 long-each d f each [] p = long-refl d p
 long-each d f each (x ∷ xs) p = long-trans d p (f x p).process (for_each xs f (f x p).process).process (each x p) (long-each d f each xs (f x p).process)
 
@@ -73,7 +77,9 @@ module _ (s : Dimensions) (d : ℕ) where
   long-apply e n p = by (cases_eq e d) where
     by : (e ≡ d) ⊎ (e ≢ d) → Long d p (apply_to s e n p)
     by (inr other) = long-same d p (apply_to s e n p) (same-apply s d e n p other)
-    by (inl same) = subst (λ (k : ℕ). Long d p (apply_to s k n p)) (sym same) (long-as d p (apply_to s d n p) refl (ap last_of (replica-apply_to s d n p) ∙ last-applied_to n (replica_of p d)))
+    by (inl same) = subst (λ (k : ℕ). Long d p (apply_to s k n p)) (sym same)
+        (long-as d p (apply_to s d n p) refl (ap last_of (replica-apply_to s d n p)
+        ∙ last-applied_to n (replica_of p d)))
 
   pub long-judge : (e : ℕ) (p : Process) → Long d p (judge s e p).process
   long-judge e p = by (head_at p e) where
@@ -87,7 +93,8 @@ module _ (s : Dimensions) (d : ℕ) where
     by : (g : Head) → head_at (with_head e (Some (acknowledged i n h)) p) d ≡ Some g → (d ≡ e) ⊎ (d ≢ e) → Inherits d p g
     by g is (inr other) = inl (g, sym (at-put-other None p.heads e d (Some (acknowledged i n h)) other) ∙ is, refl)
     by g is (inl same) =
-        let put : Some (acknowledged i n h) ≡ Some g = sym (at-put None None p.heads e (Some (acknowledged i n h))) ∙ ap (head_at (with_head e (Some (acknowledged i n h)) p)) (sym same) ∙ is in
+        let put : Some (acknowledged i n h) ≡ Some g = sym (at-put None None p.heads e (Some (acknowledged i n h)))
+        ∙ ap (head_at (with_head e (Some (acknowledged i n h)) p)) (sym same) ∙ is in
         inl (h, ap (head_at p) same ∙ heads, inherits put)
       where
         in_some : Option Head → ℕ
@@ -110,17 +117,24 @@ module _ (s : Dimensions) (d : ℕ) where
       let q : Process = apply_to s e n begun in
       long-when d (accepts_mark p leader number r e) p (mark_taken s leader number block e n p)
       (λ takes. long-trans d p begun (mark_taken s leader number block e n p).process (long-same d p begun (same-begin s d leader number block p))
-      (long-trans d begun q (mark_taken s leader number block e n p).process (long-apply e n begun) (long-same d q (mark_taken s leader number block e n p).process (still-copy_marked s d e n (copy_in q.as_row.copies leader number) q).same)))
+      (long-trans d begun q (mark_taken s leader number block e n p).process (long-apply e n begun)
+      (long-same d q (mark_taken s leader number block e n p).process
+      (still-copy_marked s d e n (copy_in q.as_row.copies leader number) q).same)))
 
   -- a new head inherits all that there is
   long-enthroned : (r : ℕ) (p : Process) → Long d p (enthroned s r d p)
-  long-enthroned r p = record { length = refl; heads = λ h is. inr (inherits h (sym (at-put None None p.heads d (Some (new_head s r (last_of (replica_of p d))))) ∙ is)) } where
-    in_some : Option Head → ℕ
-    in_some None = 0
-    in_some (Some x) = x.inherited
+  long-enthroned r p =
+      record {
+        length = refl;
+        heads = λ h is. inr (inherits h (sym (at-put None None p.heads d (Some (new_head s r (last_of (replica_of p d)))))
+            ∙ is));
+      } where
+        in_some : Option Head → ℕ
+        in_some None = 0
+        in_some (Some x) = x.inherited
 
-    inherits : (h : Head) → Some (new_head s r (last_of (replica_of p d))) ≡ Some h → h.inherited ≡ last_of (replica_of p d)
-    inherits h put = ap in_some (sym put)
+        inherits : (h : Head) → Some (new_head s r (last_of (replica_of p d))) ≡ Some h → h.inherited ≡ last_of (replica_of p d)
+        inherits h put = ap in_some (sym put)
 
   long-take : (e : ℕ) (p : Process) → Long d p (take_over_if s e p).process
   long-take e p = by (cases_eq e d) where
@@ -128,7 +142,9 @@ module _ (s : Dimensions) (d : ℕ) where
     by (inr other) = long-same d p (take_over_if s e p).process (still-take s d e p other).same
     by (inl same) = subst (λ (k : ℕ). Long d p (take_over_if s k p).process) (sym same)
         (let r : ℕ = suc (parity_number p.name) in
-        long-when d (takes_over p d p.name) p (taken_over s d p) (λ takes. long-trans d p (enthroned s r d p) (taken_over s d p).process (long-enthroned r p) (long-judge d (enthroned s r d p))))
+        long-when d (takes_over p d p.name) p (taken_over s d p)
+        (λ takes. long-trans d p (enthroned s r d p) (taken_over s d p).process (long-enthroned r p)
+        (long-judge d (enthroned s r d p))))
 
   -- the notice of a death
   long-notice : (dead : ProcessId) (p : Process) → Long d p (notice_comes s dead p).process
@@ -139,7 +155,9 @@ module _ (s : Dimensions) (d : ℕ) where
       let judged : Process = (for_each (range_with_len 0 s.k) (judge s) closed).process in
       long-trans d p known (notice_comes s dead p).process (long-as d p known same.0 (ap last_of same.2))
       (long-trans d known closed (notice_comes s dead p).process (long-same d known closed (still-close s d known.as_leader.sessions known).same)
-      (long-trans d closed judged (notice_comes s dead p).process (long-each d (judge s) long-judge (range_with_len 0 s.k) closed) (long-each d (take_over_if s) long-take (range_with_len 0 s.k) judged)))
+      (long-trans d closed judged (notice_comes s dead p).process
+      (long-each d (judge s) long-judge (range_with_len 0 s.k) closed)
+      (long-each d (take_over_if s) long-take (range_with_len 0 s.k) judged)))
 
   -- an update or a new head's log of another partition
   long-update : (from : ProcessId) (r e : ℕ) (u : Update) (stable : ℕ) (p : Process) → e ≢ d → Long d p (update_comes s from r e u stable p).process
@@ -177,9 +195,12 @@ module _ (s : Dimensions) (d : ℕ) where
     by (inl same) = long-when d (nat_le (at 0 p.ranks e) r) p t (λ takes. absurd (never same takes))
 
   pub long-receive : (x : ProcessId) (m : Message) (p : Process) → Spares m p → Long d p (receive s x m p).process
-  long-receive x (tells.Update r e u stable) p spares = unless-taken e.0 r.0 p (ack_to x r.0 e.0 u.number (update_taken s e.0 u stable p)) spares (λ other. long-update x r.0 e.0 u stable p other)
+  long-receive x (tells.Update r e u stable) p spares =
+      unless-taken e.0 r.0 p (ack_to x r.0 e.0 u.number (update_taken s e.0 u stable p)) spares
+      (λ other. long-update x r.0 e.0 u stable p other)
   long-receive x (tells.Adopt r e base list) p spares =
-      unless-taken e.0 r.0 p (ack_to x r.0 e.0 (base + length list) (log_adopted s r.0 e.0 base list p)) spares (λ other. long-adopt x r.0 e.0 base list p other)
+      unless-taken e.0 r.0 p (ack_to x r.0 e.0 (base + length list) (log_adopted s r.0 e.0 base list p)) spares
+      (λ other. long-adopt x r.0 e.0 base list p other)
   long-receive x (tells.Stable r e n) p spares = long-when d (nat_le (at 0 p.ranks e.0) r.0) p (quiet (apply_to s e.0 n p)) (λ takes. long-apply e.0 n p)
   long-receive (DataNode z) (tells.Ack r e n) p spares = long-refl d p
   long-receive (ParityNode i) (tells.Ack r e n) p spares = long-acknowledge i r.0 e.0 n (head_at p e.0) p refl

@@ -66,7 +66,8 @@ module _ (s : Dimensions) (calls : List Call) (v : State) (stands : GroupStands 
   goes-by (DataNode e) is m rest first d below parity = absurd parity
   goes-by (ParityNode i) is m rest first d below parity = (
     (subst (Along (next d) (Goes (Fine s calls) d (v.settled d)) (seen_at d (v.settled d) (v.process p))) (ap (v.link x) (sym is) ∙ first)
-        (subst (λ (y : ProcessId). Along (next d) (Goes (Fine s calls) d (v.settled d)) (seen_at d (v.settled d) (v.process y)) (v.link x (ParityNode i))) (sym is)
+        (subst (λ (y : ProcessId). Along (next d) (Goes (Fine s calls) d (v.settled d))
+        (seen_at d (v.settled d) (v.process y)) (v.link x (ParityNode i))) (sym is)
         ((stands.reach d below).lanes x i xin (subst (IsProcess s) is pin) (λ same. apart (same ∙ sym is)) (ap v.dead (sym is) ∙ lives)).goes)).0,
     (stands.reach d below).replicas p pin lives (subst (IsKeeper d) (sym is) tt),
   )
@@ -78,10 +79,13 @@ module _ (s : Dimensions) (calls : List Call) (v : State) (stands : GroupStands 
   -- the sender isn't known to be dead
   unknown-first : (m : Message) (rest : List Message) → First m rest → knows_dead (v.process p).known x ≡ false
   unknown-first m rest first =
-      sender-lives x (v.dead x) (knows_dead (v.process p).known x) m rest (subst (Stands x (v.dead x) (knows_dead (v.process p).known x)) first (stands.members.stands x p xin pin apart lives))
+      sender-lives x (v.dead x) (knows_dead (v.process p).known x) m rest
+      (subst (Stands x (v.dead x) (knows_dead (v.process p).known x)) first
+      (stands.members.stands x p xin pin apart lives))
 
   -- a block comes of a partition that isn't lost
-  block-fits : (number : ℕ) (bytes : List ℕ) → IsData x → knows_dead (v.process p).known x ≡ false → length bytes ≡ s.block → BlockFits s x (v.process p) number bytes
+  block-fits : (number : ℕ) (bytes : List ℕ) → IsData x → knows_dead (v.process p).known x ≡ false
+      → length bytes ≡ s.block → BlockFits s x (v.process p) number bytes
   block-fits number bytes holder unknown long =
       let named = as-data s x xin holder in
       record { sender = (named.0, named.1, named.2, left named.0 named.1 (open_session (v.process p).as_leader number) refl); long = long }
@@ -89,8 +93,10 @@ module _ (s : Dimensions) (calls : List Call) (v : State) (stands : GroupStands 
       left : (d : ℕ) → x ≡ DataNode d → (o : Option Gathering) → open_session (v.process p).as_leader number ≡ o → IfSome o (λ g. ¬ (Contains g.lost d))
       left d is None found = tt
       left d is (Some g) found = λ lost.
-          let fits = (found-each (λ y. y.number == number) (IsFor s (v.process p).known) (v.process p).as_leader.sessions g found (stands.sessions p pin lives)).1 in
-          let known = (among-filter (λ e. knows_dead (v.process p).known (DataNode e)) d (range_with_len 0 s.k) (subst (Among d) fits.lost (contains-among g.lost d lost))).1 in
+          let fits = (found-each (λ y. y.number == number) (IsFor s (v.process p).known)
+          (v.process p).as_leader.sessions g found (stands.sessions p pin lives)).1 in
+          let known = (among-filter (λ e. knows_dead (v.process p).known (DataNode e)) d (range_with_len 0 s.k)
+          (subst (Among d) fits.lost (contains-among g.lost d lost))).1 in
           cc (known, ap (knows_dead (v.process p).known) (sym is) ∙ unknown)
 
   row-asked : (session : Session) (bytes stamp : List ℕ) (i : ℕ) → x ≡ ParityNode i → RowAsked x (tells.Row session bytes stamp) (v.process p)
@@ -108,7 +114,8 @@ module _ (s : Dimensions) (calls : List Call) (v : State) (stands : GroupStands 
             record {
               next = fit.next;
               reached = fit.reached;
-              comes = update-comes s calls e.0 (v.settled e.0) (v.process p) both.1 r.0 stable u (both.0 (live-is e.0 (seen_at e.0 (v.settled e.0) (v.process p)) e.0 r.0 refl low));
+              comes = update-comes s calls e.0 (v.settled e.0) (v.process p) both.1 r.0 stable u
+                  (both.0 (live-is e.0 (seen_at e.0 (v.settled e.0) (v.process p)) e.0 r.0 refl low));
               few = fit.few;
             },
       )
@@ -123,7 +130,8 @@ module _ (s : Dimensions) (calls : List Call) (v : State) (stands : GroupStands 
               reached = fit.reached;
               numbers = fit.numbers;
               reaches = fit.reaches;
-              come = adopt-comes s calls e.0 (v.settled e.0) (v.process p) both.1 r.0 base list (both.0 (live-is e.0 (seen_at e.0 (v.settled e.0) (v.process p)) e.0 r.0 refl low));
+              come = adopt-comes s calls e.0 (v.settled e.0) (v.process p) both.1 r.0 base list
+                  (both.0 (live-is e.0 (seen_at e.0 (v.settled e.0) (v.process p)) e.0 r.0 refl low));
               few = fit.few;
             },
       )
@@ -136,7 +144,13 @@ module _ (s : Dimensions) (calls : List Call) (v : State) (stands : GroupStands 
       let may = may-first (tells.ReadBlock session block rows) rest first in
       let asks = sound-first (tells.ReadBlock session block rows) rest first in
       let named = as-data s p pin may.2 in
-      record { holder = (named.0, stands.members.named p pin ∙ named.1, named.2); leader = asks.leader; inside = asks.inside; in_group = asks.in_group; differ = asks.differ }
+      record {
+        holder = (named.0, stands.members.named p pin ∙ named.1, named.2);
+        leader = asks.leader;
+        inside = asks.inside;
+        in_group = asks.in_group;
+        differ = asks.differ;
+      }
   first-fits (tells.Block session bytes n) rest first same asked =
       let may = may-first (tells.Block session bytes n) rest first in
       block-fits session.number bytes may.1 (unknown-first (tells.Block session bytes n) rest first) (sound-first (tells.Block session bytes n) rest first)
@@ -149,12 +163,16 @@ module _ (s : Dimensions) (calls : List Call) (v : State) (stands : GroupStands 
         inside = carries.1;
         above = told.above;
         issued = told.issued;
-        unmarked = if-both (λ c. at None c.marks e.0 ≡ None) (λ c. c.block ≡ block) _ (stands.marks.coming x p (tells.Mark session r block e n) rest xin pin apart lives first) same;
+        unmarked = if-both (λ c. at None c.marks e.0 ≡ None) (λ c. c.block ≡ block) _
+            (stands.marks.coming x p (tells.Mark session r block e n) rest xin pin apart lives first) same;
       }
   first-fits (tells.Row session bytes stamp) rest first same asked =
       let may = may-first (tells.Row session bytes stamp) rest first in
       let named = as-parity s x xin may.1 in
-      record { sender = (named.0, named.1, named.2, row-asked session bytes stamp named.0 named.1 asked); long = sound-first (tells.Row session bytes stamp) rest first }
+      record {
+        sender = (named.0, named.1, named.2, row-asked session bytes stamp named.0 named.1 asked);
+        long = sound-first (tells.Row session bytes stamp) rest first;
+      }
   first-fits (tells.Cease upto) rest first same asked = as-parity s x xin (sound-first (tells.Cease upto) rest first)
   first-fits (tells.Notice dead) rest first same asked = numbers (tells.Notice dead) rest first
 

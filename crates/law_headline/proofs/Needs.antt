@@ -1,5 +1,7 @@
 -- A block that a head needs rebuilt first is one of its space.
-use Rattle.std.proofs.Common.{ℕ, ◌≡◌, ◌<◌, ◌≤◌, ◌+◌, ◌-◌, ◌/◌, ◌==◌, ◌&&◌, nat_lt, not, is_some, Bool, true, false, List, [], ◌∷◌, find, cond, Option, Some, None, inl, inr, refl, sym, ap, subst, ◌∙◌, arith, if◌then◌else◌}
+use Rattle.std.proofs.Common.{ℕ, ◌≡◌, ◌<◌, ◌≤◌, ◌+◌, ◌-◌, ◌/◌, ◌==◌, ◌&&◌, nat_lt, not, is_some, Bool, true, false}
+use Rattle.std.proofs.Common.{List, [], ◌∷◌, find, cond, Option, Some, None, inl, inr, refl, sym, ap, subst, ◌∙◌, arith}
+use Rattle.std.proofs.Common.{if◌then◌else◌}
 use Rattle.std.proofs.lemmas.Grind.{common_steps}
 use Rattle.std.proofs.Math.Nat.{div-lt_iff_lt-mul}
 use Rattle.std.specs.List.{range_with_len}
@@ -40,7 +42,9 @@ met-inside s run b some inside among = by (run.len == 0) refl among where
   below : (a : ℕ) → a < space_of s → a / s.block < s.blocks
   below a low = (div-lt_iff_lt-mul {k = s.block} {x = a} {y = s.blocks} some).1 low
 
-  by : (c : Bool) → (run.len == 0) ≡ c → Among b (if c then [] else range_with_len (run.at / s.block) ((run.at + run.len - 1) / s.block - run.at / s.block + 1)) → b < s.blocks
+  by : (c : Bool) → (run.len == 0) ≡ c
+      → Among b (if c then [] else range_with_len (run.at / s.block)
+      ((run.at + run.len - 1) / s.block - run.at / s.block + 1)) → b < s.blocks
   by true none there = absurd there
   by false few there =
       let within = range-among b (run.at / s.block) ((run.at + run.len - 1) / s.block - run.at / s.block + 1) there in
@@ -62,7 +66,8 @@ WantsWhere Wanted decides.NoSpace = Unit {0}
 abbrev Inside : ℕ → Slot → Type 0
 Inside space slot = slot.at + slot.len ≤ space
 
-module _ (space : ℕ) (r : Replica) (op : Asked) (read : Run → Found) (Wanted : ℕ → Type 0) (wants : (run : Run) (b : ℕ) → run.at + run.len ≤ space → read run ≡ Missing b → Wanted b) where
+module _ (space : ℕ) (r : Replica) (op : Asked) (read : Run → Found) (Wanted : ℕ → Type 0)
+    (wants : (run : Run) (b : ℕ) → run.at + run.len ≤ space → read run ≡ Missing b → Wanted b) where
   needed-inside : (slot : Option Slot) → OfSlot (Inside space) slot → (x : Run) → run_needed op slot ≡ Some x → x.at + x.len ≤ space
   needed-inside None fits x is = absurd (cc is)
   needed-inside (Some slot) fits x is = by (reads_bytes op.act && is_live op.moment slot.until && nat_lt 0 slot.len) is where
@@ -76,7 +81,9 @@ module _ (space : ℕ) (r : Replica) (op : Asked) (read : Run → Found) (Wanted
     waits = λ n is. tt;
     full = λ long. tt;
     no_space = tt;
-    item = λ run b needed missing. wants run b (needed-inside (slot_in r.items (key_of op.act)) (each-slot (Inside space) (key_of op.act) r.items fits) run needed) missing;
+    item = λ run b needed missing.
+        wants run b (needed-inside (slot_in r.items (key_of op.act))
+        (each-slot (Inside space) (key_of op.act) r.items fits) run needed) missing;
     place = λ len run b is missing. wants run b (place-free space r len run is).fits.inside missing;
     removes = λ few outcome. tt;
     touches = λ few h outcome. tt;
@@ -84,18 +91,23 @@ module _ (space : ℕ) (r : Replica) (op : Asked) (read : Run → Found) (Wanted
   })
 
 -- a block that isn't rebuilt, of a run in the space
-missing-inside : (s : Dimensions) (d : ℕ) (p : Process) (name : ProcessId) (run : Run) (b : ℕ) → 0 < s.block → run.at + run.len ≤ space_of s → found_at s d p name run ≡ Missing b → b < s.blocks
+missing-inside : (s : Dimensions) (d : ℕ) (p : Process) (name : ProcessId) (run : Run) (b : ℕ) → 0 < s.block
+    → run.at + run.len ≤ space_of s → found_at s d p name run ≡ Missing b → b < s.blocks
 missing-inside s d p (DataNode e) run b some inside is = absurd (bytes_not is) where
   bytes_not : {bytes : List ℕ} → Bytes bytes ≡ Missing b → ⊥
   bytes_not m = cc m
 missing-inside s d p (ParityNode i) run b some inside is = by (missing_block s d run p.as_leader) refl is where
   by : (o : Option ℕ) → missing_block s d run p.as_leader ≡ o → found_unless o (rebuilt_bytes s d run p.as_leader) ≡ Missing b → b < s.blocks
   by None none found = absurd (cc found)
-  by (Some c) there found = let same : c ≡ b = cc found in met-inside s run b some inside (find-among (λ x. not (is_some (rebuilt_block p.as_leader d x))) (blocks_met s run) b (there ∙ ap Some same))
+  by (Some c) there found = let same : c ≡ b = cc found in
+      met-inside s run b some inside (find-among (λ x. not (is_some (rebuilt_block p.as_leader d x))) (blocks_met s run)
+      b (there ∙ ap Some same))
 
 -- where the items lie in the space
-pub needs-inside : (s : Dimensions) (d inherited : ℕ) (p : Process) (op : Asked) (b : ℕ) → 0 < s.block → Each (λ x. x.1.at + x.1.len ≤ space_of s) (replica_of p d).items
+pub needs-inside : (s : Dimensions) (d inherited : ℕ) (p : Process) (op : Asked) (b : ℕ) → 0 < s.block
+    → Each (λ x. x.1.at + x.1.len ≤ space_of s) (replica_of p d).items
     → decide (space_of s) inherited (replica_of p d) op (found_at s d p p.name) ≡ decides.NeedBlock b → b < s.blocks
 needs-inside s d inherited p op b some items decided =
     subst (WantsWhere (λ c. c < s.blocks)) decided
-    (wants-where (space_of s) (replica_of p d) op (found_at s d p p.name) (λ c. c < s.blocks) (λ run c inside is. missing-inside s d p p.name run c some inside is) inherited items)
+    (wants-where (space_of s) (replica_of p d) op (found_at s d p p.name) (λ c. c < s.blocks)
+    (λ run c inside is. missing-inside s d p p.name run c some inside is) inherited items)

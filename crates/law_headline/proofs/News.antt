@@ -1,5 +1,6 @@
 -- A step rebuilds blocks only where its process leads the lost partitions: it has a session open, or opens one.
-use Rattle.std.proofs.Common.{ℕ, ◌≡◌, ◌+◌, ◌==◌, nat_le, Bool, true, false, List, length, find, is_some, Option, Some, None, ◌⊎◌, inl, inr, refl, sym, ap, subst, ◌∙◌}
+use Rattle.std.proofs.Common.{ℕ, ◌≡◌, ◌+◌, ◌==◌, nat_le, Bool, true, false, List, length, find, is_some, Option, Some}
+use Rattle.std.proofs.Common.{None, ◌⊎◌, inl, inr, refl, sym, ap, subst, ◌∙◌}
 use Rattle.group_types.specs.Dimensions.{Dimensions, space_of}
 use Rattle.group_types.specs.Lists.{at}
 use Rattle.group_types.specs.Names.{same_process}
@@ -16,14 +17,16 @@ use Rattle.group_calls.specs.declared.decision.Decision.TheVariants as decides
 use Rattle.group_run.specs.Applying.{ProcessStep, apply_to, head_at, quiet, replica_of, when, with_replica}
 use Rattle.group_run.specs.Asking.{act_on, ask_head, found_at, issued, update_of}
 use Rattle.group_run.specs.Deciding.{Missing, decide}
-use Rattle.group_run.specs.Leaders.{block_comes, block_gathered, copy_kept, copy_marked, mark_comes, mark_taken, open_session, row_comes, row_finished, row_gathered}
+use Rattle.group_run.specs.Leaders.{block_comes, block_gathered, copy_kept, copy_marked, mark_comes, mark_taken}
+use Rattle.group_run.specs.Leaders.{open_session, row_comes, row_finished, row_gathered}
 use Rattle.group_run.specs.Process.{Copy, Gathering, Head, Process}
 use Rattle.group_run.specs.Receiving.{ack_to, log_adopted, receive, update_taken, with_rank}
 use Rattle.group_run.specs.Replica.{with_update}
 use Rattle.group_run.specs.Rows.{accepts_mark, begin_copy, copy_begun, copy_in, is_marked, marked, parity_number, with_copies, without_copy}
 use Rattle.law_histories.proofs.Deciding.{RestsWell, decides-well}
 use Rattle.law_histories.proofs.Rows.{LeadsLost}
-use Rattle.law_headline.proofs.Rebuilds.{NoneNew, none-acknowledge, none-apply, none-judge, none-notice, none-read, none-refl, none-ticketed, none-trans, none-when}
+use Rattle.law_headline.proofs.Rebuilds.{NoneNew, none-acknowledge, none-apply, none-judge, none-notice, none-read}
+use Rattle.law_headline.proofs.Rebuilds.{none-refl, none-ticketed, none-trans, none-when}
 
 -- some session is open
 abbrev pub HasOpen : Process → Type 0
@@ -59,7 +62,8 @@ module _ (s : Dimensions) where
 
   mark-news : (leader number r block e n : ℕ) (p : Process) → NewsOpen p (mark_comes s leader number r block e n p).process
   mark-news leader number r block e n p = by (accepts_mark p leader number r e) where
-    begun : (b : Bool) → ((copy_begun b s leader number block p).as_leader.sessions ≡ p.as_leader.sessions) × ((d : ℕ) → NoneNew d p (copy_begun b s leader number block p))
+    begun : (b : Bool) → ((copy_begun b s leader number block p).as_leader.sessions ≡ p.as_leader.sessions)
+        × ((d : ℕ) → NoneNew d p (copy_begun b s leader number block p))
     begun true = (refl, λ d. none-refl d p)
     begun false = (refl, λ d b none. none)
 
@@ -76,7 +80,8 @@ module _ (s : Dimensions) where
     kept : (b : Bool) (c : Copy) → NewsOpen applied (copy_kept b s c applied).process
     kept true c =
         let z : Process = with_copies (without_copy c.leader c.number applied.as_row.copies) applied in
-        news-behind applied z (row_finished (same_process z.name (ParityNode c.leader)) s c z).process (λ d b none. none) refl (finished (same_process z.name (ParityNode c.leader)) c z)
+        news-behind applied z (row_finished (same_process z.name (ParityNode c.leader)) s c z).process
+        (λ d b none. none) refl (finished (same_process z.name (ParityNode c.leader)) c z)
     kept false c = inl (λ d b none. none)
 
     found : (o : Option Copy) → NewsOpen applied (copy_marked s e n o applied).process
@@ -88,12 +93,17 @@ module _ (s : Dimensions) where
     by true =
         let first = begun (is_some (copy_in p.as_row.copies leader number)) in
         news-behind p start (mark_taken s leader number block e n p).process first.1 first.0
-        (news-behind start applied (mark_taken s leader number block e n p).process (λ d. none-apply s d e n start) refl (found (copy_in applied.as_row.copies leader number)))
+        (news-behind start applied (mark_taken s leader number block e n p).process (λ d. none-apply s d e n start) refl
+        (found (copy_in applied.as_row.copies leader number)))
 
   pub receive-news : (x : ProcessId) (m : Message) (p : Process) → NewsOpen p (receive s x m p).process
-  receive-news x (tells.Update r e u stable) p = inl (λ d. none-when d (nat_le (at 0 p.ranks e.0) r.0) p (ack_to x r.0 e.0 u.number (update_taken s e.0 u stable p)) (none-apply s d e.0 stable p))
+  receive-news x (tells.Update r e u stable) p =
+      inl (λ d. none-when d (nat_le (at 0 p.ranks e.0) r.0) p
+      (ack_to x r.0 e.0 u.number (update_taken s e.0 u stable p)) (none-apply s d e.0 stable p))
   receive-news x (tells.Adopt r e base list) p =
-      inl (λ d. none-when d (nat_le (at 0 p.ranks e.0) r.0) p (ack_to x r.0 e.0 (base + length list) (log_adopted s r.0 e.0 base list p)) (none-apply s d e.0 base (with_rank e.0 r.0 p)))
+      inl (λ d. none-when d (nat_le (at 0 p.ranks e.0) r.0) p
+      (ack_to x r.0 e.0 (base + length list) (log_adopted s r.0 e.0 base list p))
+      (none-apply s d e.0 base (with_rank e.0 r.0 p)))
   receive-news x (tells.Stable r e n) p = inl (λ d. none-when d (nat_le (at 0 p.ranks e.0) r.0) p (quiet (apply_to s e.0 n p)) (none-apply s d e.0 n p))
   receive-news (DataNode z) (tells.Ack r e n) p = inl (λ d. none-refl d p)
   receive-news (ParityNode i) (tells.Ack r e n) p = inl (λ d. none-acknowledge s d i r.0 e.0 n (head_at p e.0) p)
@@ -117,10 +127,12 @@ module _ (s : Dimensions) where
   act-news name op e h p (decides.Issue body outcome) well =
       let u : Update = update_of name op e body outcome p in
       let t : ProcessStep = issued s e h u p in
-      inl (λ d. none-trans d p t.process (act_on s name op e h p (decides.Issue body outcome)).step.process (none-judge s d e (with_replica e (with_update u (replica_of p e)) p))
+      inl (λ d. none-trans d p t.process (act_on s name op e h p (decides.Issue body outcome)).step.process
+      (none-judge s d e (with_replica e (with_update u (replica_of p e)) p))
       (none-ticketed s d (nat_le u.number (replica_of t.process e).applied) e u t))
 
-  pub ask-news : (name : CallName) (op : Asked) (e : ℕ) (p : Process) (o : Option Head) → ((h : Head) → o ≡ Some h → (run : Run) (b : ℕ) → found_at s e p p.name run ≡ Missing b → LeadsLost s p)
+  pub ask-news : (name : CallName) (op : Asked) (e : ℕ) (p : Process) (o : Option Head)
+      → ((h : Head) → o ≡ Some h → (run : Run) (b : ℕ) → found_at s e p p.name run ≡ Missing b → LeadsLost s p)
       → ((d : ℕ) → NoneNew d p (ask_head s name op e p o).step.process) ⊎ LeadsLost s p
   ask-news name op e p None leads = inl (λ d. none-refl d p)
   ask-news name op e p (Some h) leads =

@@ -1,5 +1,7 @@
 -- What a head settles as it issues an update are the next settled updates.
-use Rattle.std.proofs.Common.{ℕ, suc, ◌≡◌, ◌≢◌, ◌<◌, ◌≤◌, ◌+◌, ◌-◌, ◌==◌, max, Bool, true, false, not, nat_le, List, [], ◌∷◌, ◌++◌, length, take, Option, Some, None, ◌⊎◌, inl, inr, refl, sym, ap, subst, ◌∙◌, arith}
+use Rattle.std.proofs.Common.{ℕ, suc, ◌≡◌, ◌≢◌, ◌<◌, ◌≤◌, ◌+◌, ◌-◌, ◌==◌, max, Bool, true, false, not, nat_le, List, []}
+use Rattle.std.proofs.Common.{◌∷◌, ◌++◌, length, take, Option, Some, None, ◌⊎◌, inl, inr, refl, sym, ap, subst, ◌∙◌}
+use Rattle.std.proofs.Common.{arith}
 use Rattle.std.proofs.lemmas.Bool.{cases_eq, cases_lt}
 use Rattle.std.proofs.lemmas.List.{append-nil, length-append, length-take, length-take-le, take-append-le, take_all}
 use Rattle.std.specs.List.{list_any, range_with_len}
@@ -61,7 +63,8 @@ marks-none s leader number block (l ∷ ls) p =
     ∙ marks-none s leader number block ls (own_mark s leader number block l p).process
 
 pub start-none : (s : Dimensions) (block : ℕ) (p : Process) → (start_session s block p).settled ≡ []
-start-none s block p = marks-none s (parity_number p.name) (suc p.as_leader.last_session) block (lost_of s p) (session_opened s (suc p.as_leader.last_session) block p)
+start-none s block p = marks-none s (parity_number p.name) (suc p.as_leader.last_session) block (lost_of s p)
+    (session_opened s (suc p.as_leader.last_session) block p)
 
 pub retry-none : (s : Dimensions) (block : ℕ) (o : Option Oldest) (p : Process) → (retry_block s block o p).step.settled ≡ []
 retry-none s block (Some o) p = refl
@@ -77,10 +80,15 @@ front-prolongs more n whole is = by (cases_lt n (length whole)) where
   by (inl under) = let long : length more ≡ n = ap length is ∙ length-take-le n whole (omega (arith, under)) in
       record { reaches = omega (arith, long, under); front = ap (λ (k : ℕ). take k whole) long ∙ sym is }
   by (inr over) = let all : more ≡ whole = is ∙ take_all n whole over in
-      record { reaches = omega (arith, ap length all); front = ap (λ (us : List Update). take (length us) whole) all ∙ take_all (length whole) whole (omega arith) ∙ sym all }
+      record {
+        reaches = omega (arith, ap length all);
+        front = ap (λ (us : List Update). take (length us) whole) all
+            ∙ take_all (length whole) whole (omega arith) ∙ sym all;
+      }
 
 -- where nothing is settled
-pub nothing-next : (s : Dimensions) (settled : ℕ → List Update) (p : Process) (t : ProcessStep) → ((d : ℕ) → settled_in d t.settled ≡ []) → SettlesNext s settled p t
+pub nothing-next : (s : Dimensions) (settled : ℕ → List Update) (p : Process) (t : ProcessStep)
+    → ((d : ℕ) → settled_in d t.settled ≡ []) → SettlesNext s settled p t
 nothing-next s settled p t none d below =
     ap (λ (us : List Update). take ((replica_of p d).applied + length us) (settled d)) (none d)
     ∙ ap (λ (n : ℕ). take n (settled d)) (omega arith)
@@ -111,12 +119,15 @@ module _ (s : Dimensions) (d : ℕ) (h : Head) (u : Update) (p : Process) (heads
   pub issued-next : (settled more : List Update) → (replica_of p d).applied ≤ length settled → Prolongs settled (history settled (replica_of p d))
       → NumberedFrom 1 (history settled (replica_of p d) ++ u ∷ [])
       → more ≡ settled_with (issued s d h u p).settled d settled
-      → take ((replica_of p d).applied + length (settled_in d (issued s d h u p).settled)) more ≡ take (replica_of p d).applied more ++ settled_in d (issued s d h u p).settled
+      → take ((replica_of p d).applied + length (settled_in d (issued s d h u p).settled)) more
+      ≡ take (replica_of p d).applied more ++ settled_in d (issued s d h u p).settled
   issued-next settled more applied prolongs numbers is =
       let own : settled_in d (issued s d h u p).settled ≡ up_to least (with_update u (replica_of p d)) = ap (settled_in d) issued-settles
       ∙ settled-in-own d (up_to least (with_update u (replica_of p d))) in
-      let grown : history settled (with_update u (replica_of p d)) ≡ history settled (replica_of p d) ++ u ∷ [] = history-with_update settled (replica_of p d) applied u in
-      let long : length (history settled (replica_of p d) ++ u ∷ []) ≡ length (history settled (replica_of p d)) + 1 = length-append (history settled (replica_of p d)) (u ∷ []) in
+      let grown : history settled (with_update u (replica_of p d)) ≡ history settled (replica_of p d) ++ u ∷ [] =
+      history-with_update settled (replica_of p d) applied u in
+      let long : length (history settled (replica_of p d) ++ u ∷ []) ≡ length (history settled (replica_of p d)) + 1 =
+      length-append (history settled (replica_of p d)) (u ∷ []) in
       let longer : Prolongs settled (history settled (with_update u (replica_of p d))) = subst (Prolongs settled) (sym grown) (record {
         reaches = let reach = prolongs.reaches in omega (arith, long, reach);
         front = take-append-le (length settled) (history settled (replica_of p d)) (u ∷ []) prolongs.reaches ∙ prolongs.front;
@@ -148,13 +159,16 @@ ticketed-settled false d u t = refl
 module _ (s : Dimensions) (p : Process) (settled more : ℕ → List Update) (name : CallName) (op : Asked) (e : ℕ) (inside : e < s.k)
     (applied : (replica_of p e).applied ≤ length (settled e)) (prolongs : Prolongs (settled e) (history (settled e) (replica_of p e))) where
   pub act-next : (h : Head) (decision : Decision) → head_at p e ≡ Some h
-      → ((body : Body) (outcome : Outcome) → decision ≡ decides.Issue body outcome → NumberedFrom 1 (history (settled e) (replica_of p e) ++ update_of name op e body outcome p ∷ []))
-      → ((d : ℕ) → d < s.k → more d ≡ settled_with (act_on s name op e h p decision).step.settled d (settled d)) → SettlesNext s more p (act_on s name op e h p decision).step
+      → ((body : Body) (outcome : Outcome) → decision ≡ decides.Issue body outcome
+      → NumberedFrom 1 (history (settled e) (replica_of p e) ++ update_of name op e body outcome p ∷ []))
+      → ((d : ℕ) → d < s.k → more d ≡ settled_with (act_on s name op e h p decision).step.settled d (settled d))
+      → SettlesNext s more p (act_on s name op e h p decision).step
   act-next h (decides.Answer r) heads numbers is = nothing-next s more p (act_on s name op e h p (decides.Answer r)).step (λ d. refl)
   act-next h (decides.Retry n) heads numbers is = nothing-next s more p (act_on s name op e h p (decides.Retry n)).step (λ d. refl)
   act-next h decides.NoSpace heads numbers is = nothing-next s more p (act_on s name op e h p decides.NoSpace).step (λ d. refl)
   act-next h (decides.NeedBlock b) heads numbers is =
-      nothing-next s more p (act_on s name op e h p (decides.NeedBlock b)).step (λ d. ap (settled_in d) (retry-none s b (oldest_inherited p (range_with_len 0 s.k)) p))
+      nothing-next s more p (act_on s name op e h p (decides.NeedBlock b)).step
+      (λ d. ap (settled_in d) (retry-none s b (oldest_inherited p (range_with_len 0 s.k)) p))
   act-next h (decides.Issue body outcome) heads numbers is = λ d below. by d below (cases_eq e d) where
     same : (act_on s name op e h p (decides.Issue body outcome)).step.settled ≡ (issued s e h (update_of name op e body outcome p) p).settled
     same =
@@ -166,12 +180,21 @@ module _ (s : Dimensions) (p : Process) (settled more : ℕ → List Update) (na
         (replica_of p d).applied (more d) ++ settled_in d (act_on s name op e h p (decides.Issue body outcome)).step.settled
     by d below (inl here) =
         subst
-        (λ (j : ℕ). take ((replica_of p j).applied + length (settled_in j (act_on s name op e h p (decides.Issue body outcome)).step.settled)) (more j) ≡ take (replica_of p j).applied (more j) ++ settled_in j (act_on s name op e h p (decides.Issue body outcome)).step.settled) here
-        (subst (λ (ss : List Settlement). take ((replica_of p e).applied + length (settled_in e ss)) (more e) ≡ take (replica_of p e).applied (more e) ++ settled_in e ss) (sym same)
-        (issued-next s e h (update_of name op e body outcome p) p heads (settled e) (more e) applied prolongs (numbers body outcome refl) (is e inside ∙ ap (λ (ss : List Settlement). settled_with ss e (settled e)) same)))
+        (λ (j : ℕ). take
+        ((replica_of p j).applied + length
+        (settled_in j (act_on s name op e h p (decides.Issue body outcome)).step.settled)) (more j)
+        ≡ take (replica_of p j).applied (more j)
+        ++ settled_in j (act_on s name op e h p (decides.Issue body outcome)).step.settled) here
+        (subst (λ (ss : List Settlement). take ((replica_of p e).applied + length (settled_in e ss)) (more e)
+        ≡ take (replica_of p e).applied (more e) ++ settled_in e ss) (sym same)
+        (issued-next s e h (update_of name op e body outcome p) p heads (settled e) (more e) applied prolongs
+        (numbers body outcome refl) (is e inside ∙ ap (λ (ss : List Settlement). settled_with ss e (settled e))
+        same)))
     by d below (inr other) =
-        let none : settled_in d (act_on s name op e h p (decides.Issue body outcome)).step.settled ≡ [] = ap (settled_in d) (same ∙ issued-settles s e h (update_of name op e body outcome p) p heads)
-        ∙ settled-in-other d e (up_to (least s e h (update_of name op e body outcome p) p heads) (with_update (update_of name op e body outcome p) (replica_of p e))) other in
+        let none : settled_in d (act_on s name op e h p (decides.Issue body outcome)).step.settled ≡ [] =
+        ap (settled_in d) (same ∙ issued-settles s e h (update_of name op e body outcome p) p heads)
+        ∙ settled-in-other d e (up_to (least s e h (update_of name op e body outcome p) p heads)
+        (with_update (update_of name op e body outcome p) (replica_of p e))) other in
         ap (λ (us : List Update). take ((replica_of p d).applied + length us) (more d)) none
         ∙ ap (λ (n : ℕ). take n (more d)) (omega arith)
         ∙ sym (append-nil (take (replica_of p d).applied (more d)))

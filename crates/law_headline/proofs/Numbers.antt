@@ -1,5 +1,6 @@
 -- Lists of sessions whose numbers rise.
-use Rattle.std.proofs.Common.{ℕ, zero, suc, ◌≡◌, ◌<◌, ◌==◌, Bool, true, false, List, [], ◌∷◌, ◌++◌, length, slice_index_or, map, filter, find, Some, if◌then◌else◌, refl, ap, subst, ◌∙◌, arith}
+use Rattle.std.proofs.Common.{ℕ, zero, suc, ◌≡◌, ◌<◌, ◌==◌, Bool, true, false, List, [], ◌∷◌, ◌++◌, length}
+use Rattle.std.proofs.Common.{slice_index_or, map, filter, find, Some, if◌then◌else◌, refl, ap, subst, ◌∙◌, arith}
 use Rattle.std.proofs.lemmas.Grind.{common_steps}
 use Rattle.std.specs.Prelude.{Contains}
 use Rattle.group_types.specs.Each.{Each}
@@ -61,7 +62,9 @@ contained-above n (g ∷ gs) h all has = by has.0 has.1 has.2 (λ k low is. cont
 pub found-rising : (gs : List Gathering) (h : Gathering) → Rising (numbers_of gs) → Contains gs h → find (λ g. g.number == h.number) gs ≡ Some h
 found-rising [] h rises has = absurd (let low = has.1 in omega (arith, low))
 found-rising (g ∷ gs) h rises has = by has.0 has.1 has.2 (λ there. found-rising gs h rises.1 there) where
-  by : (k : ℕ) → k < length (g ∷ gs) → slice_index_or (g ∷ gs) k h ≡ h → (Contains gs h → find (λ x. x.number == h.number) gs ≡ Some h) → find (λ x. x.number == h.number) (g ∷ gs) ≡ Some h
+  by : (k : ℕ) → k < length (g ∷ gs) → slice_index_or (g ∷ gs) k h ≡ h
+      → (Contains gs h → find (λ x. x.number == h.number) gs ≡ Some h) → find (λ x. x.number == h.number) (g ∷ gs)
+      ≡ Some h
   by zero low is later =
       let same : g.number ≡ h.number = ap (λ (x : Gathering). x.number) is in
       let test : (g.number == h.number) ≡ true = grind (arith, common_steps) in

@@ -29,9 +29,11 @@ pub record WholeOff (s : Dimensions) (calls : List Call) (v : State) : Type 0 wh
 module _ (s : Dimensions) (shaped : IsShape s) where
   pub asked : (calls : List Call) (v w : State) (p : ProcessId) (c : Call) → IsProcess s p → IsUp s v → v.dead p ≡ false → IsNextCall calls c
       → WholeOff s calls v → Acted s v w p (ask_process s c.name c.op (v.process p)).step
-      → RebuildsAt s w.settled (v.process p) (ask_process s c.name c.op (v.process p)).step.process → WholeOff s (calls ++ call_if (is_issued (ask_process s c.name c.op (v.process p)).answer) c) w
+      → RebuildsAt s w.settled (v.process p) (ask_process s c.name c.op (v.process p)).step.process
+      → WholeOff s (calls ++ call_if (is_issued (ask_process s c.name c.op (v.process p)).answer) c) w
   asked calls v w p c pin up lives next all acts rebuilds = record {
-    stands = whole.asked s shaped calls v w p c pin up lives next all.stands acts (asked-right s shaped calls v w p pin lives all.stands all.off c.name c.op acts rebuilds);
+    stands = whole.asked s shaped calls v w p c pin up lives next all.stands acts
+        (asked-right s shaped calls v w p pin lives all.stands all.off c.name c.op acts rebuilds);
     off = asks.asked s shaped calls v w p c pin up lives next all.stands acts all.off;
   }
 

@@ -58,10 +58,12 @@ stands s calls v shaped whole held = record {
   write : SettledWrite s v.settled
   write d below = fine-writes s calls d (length (v.settled d)) (v.settled d) (whole.settled d below)
 
-  head : (p : ProcessId) (d : ℕ) (h : Head) → IsProcess s p → v.dead p ≡ false → d < s.k → head_at (v.process p) d ≡ Some h → HeadStands s calls (v.settled d) d (v.process p) h
+  head : (p : ProcessId) (d : ℕ) (h : Head) → IsProcess s p → v.dead p ≡ false → d < s.k → head_at (v.process p) d
+      ≡ Some h → HeadStands s calls (v.settled d) d (v.process p) h
   head p d h pin lives below heads = record {
     within = reached.applied;
-    reached = let long = length-history (v.settled d) (replica_of (v.process p) d) reached.applied in let reach = reached.prolongs.reaches in omega (arith, long, reach);
+    reached = let long = length-history (v.settled d) (replica_of (v.process p) d) reached.applied in let reach =
+        reached.prolongs.reaches in omega (arith, long, reach);
     prolongs = reached.prolongs.front;
     fine = reached.fine.1;
     items = reached.holds.items;
@@ -74,13 +76,15 @@ stands s calls v shaped whole held = record {
     reached = fits s shaped calls v whole.carried.members whole.reach write whole.bytes p pin lives d below h heads
 
     short : (replica_of (v.process p) d).applied < h.inherited
-        → ((replica_of (v.process p) d).applied ≡ length (v.settled d)) ⊎ (((replica_of (v.process p) d).applied < h.inherited) × (length (v.settled d) ≤ h.inherited))
+        → ((replica_of (v.process p) d).applied ≡ length (v.settled d))
+        ⊎ (((replica_of (v.process p) d).applied < h.inherited) × (length (v.settled d) ≤ h.inherited))
         → length (v.settled d) ≤ h.inherited
     short waits (inl same) = omega (arith, waits, same)
     short waits (inr both) = both.1
 
     full : h.inherited ≤ (replica_of (v.process p) d).applied
-        → ((replica_of (v.process p) d).applied ≡ length (v.settled d)) ⊎ (((replica_of (v.process p) d).applied < h.inherited) × (length (v.settled d) ≤ h.inherited))
+        → ((replica_of (v.process p) d).applied ≡ length (v.settled d))
+        ⊎ (((replica_of (v.process p) d).applied < h.inherited) × (length (v.settled d) ≤ h.inherited))
         → (replica_of (v.process p) d).applied ≡ length (v.settled d)
     full all (inl same) = same
     full all (inr both) = let less = both.0 in absurd (omega (arith, all, less))
@@ -100,7 +104,8 @@ spaces-are s w us (n ∷ ns) a each =
 
 space-at : (w : World) (stamp : List ℕ) (a d n : ℕ) → slice_get stamp d ≡ Some n → slice_get (spaces_at w a stamp) d ≡ Some (values_after w (a + d) n)
 space-at w [] a d n is = absurd (cc is)
-space-at w (x ∷ xs) a zero n is = let same : x ≡ n = cc is in ap (λ (y : ℕ). Some (values_after w a y)) same ∙ ap (λ (y : ℕ). Some (values_after w y n)) (omega arith)
+space-at w (x ∷ xs) a zero n is = let same : x ≡ n = cc is in ap (λ (y : ℕ). Some (values_after w a y)) same
+    ∙ ap (λ (y : ℕ). Some (values_after w y n)) (omega arith)
 space-at w (x ∷ xs) a (suc d) n is = space-at w xs (suc a) d n is ∙ ap (λ (y : ℕ). Some (values_after w y n)) (omega arith)
 
 pub number-of : (stamp : List ℕ) (d n : ℕ) → slice_get stamp d ≡ Some n → at 0 stamp d ≡ n
@@ -124,10 +129,12 @@ module _ (h : History) (calls : List Call) (shaped : IsShape h.world.shape) (who
 
   replica-keeps : (p : ProcessId) (d : ℕ) → d < h.world.shape.k → Lives h.world p → IsKeeper d p → KeepsAll h.world d (replica_of (process_of h.world p) d)
   replica-keeps p d below lives keeper =
-      let reached : ReplicaReaches (FineIn h.world.shape calls) d (at [] h.settled d) (process_of h.world p) = (whole.reach d below).replicas p lives.0 lives.1 keeper in
+      let reached : ReplicaReaches (FineIn h.world.shape calls) d (at [] h.settled d) (process_of h.world p) =
+      (whole.reach d below).replicas p lives.0 lives.1 keeper in
       keeps d below (replica_of (process_of h.world p) d) (record {
         within = reached.applied;
-        reached = let long = length-history (at [] h.settled d) (replica_of (process_of h.world p) d) reached.applied in let reach = reached.prolongs.reaches in omega (arith, long, reach);
+        reached = let long = length-history (at [] h.settled d) (replica_of (process_of h.world p) d) reached.applied in
+            let reach = reached.prolongs.reaches in omega (arith, long, reach);
         prolongs = reached.prolongs.front;
         fine = reached.fine.1;
         items = reached.holds.items;
@@ -146,12 +153,17 @@ module _ (h : History) (calls : List Call) (shaped : IsShape h.world.shape) (who
   values-are d n below = sym (store-values h.world.shape d (take n (at [] h.settled d))) ∙ sym ((shows d below).values n)
 
   -- what a living process holds
-  space-of : (p : ProcessId) → Lives h.world p → SpaceIs h.world.shape (columns h.world.shape (stand (λ d. at [] h.settled d) (process_of h.world p))) p (process_of h.world p).space
-  space-of p lives = spaces_stand h.world.shape (λ d. at [] h.settled d) (process_of h.world p) p (whole.carried.members.named p lives.0) lives.0 write (whole.bytes p lives.0 lives.1)
+  space-of : (p : ProcessId) → Lives h.world p
+      → SpaceIs h.world.shape (columns h.world.shape (stand (λ d. at [] h.settled d) (process_of h.world p))) p
+      (process_of h.world p).space
+  space-of p lives = spaces_stand h.world.shape (λ d. at [] h.settled d) (process_of h.world p) p
+      (whole.carried.members.named p lives.0) lives.0 write (whole.bytes p lives.0 lives.1)
 
-  data-holds : (d : ℕ) → Lives h.world (DataNode d) → (process_of h.world (DataNode d)).space ≡ values_after h.world d (replica_of (process_of h.world (DataNode d)) d).applied
+  data-holds : (d : ℕ) → Lives h.world (DataNode d) → (process_of h.world (DataNode d)).space ≡ values_after h.world d
+      (replica_of (process_of h.world (DataNode d)) d).applied
   data-holds d lives =
-      column-at h.world.shape (stand (λ e. at [] h.settled e) (process_of h.world (DataNode d))) d (process_of h.world (DataNode d)).space lives.0 (space-of (DataNode d) lives)
+      column-at h.world.shape (stand (λ e. at [] h.settled e) (process_of h.world (DataNode d))) d
+      (process_of h.world (DataNode d)).space lives.0 (space-of (DataNode d) lives)
       ∙ values-are d (replica_of (process_of h.world (DataNode d)) d).applied lives.0
 
   pub stamp-columns : (us : ℕ → List Update) (stamp : List ℕ) → length stamp ≡ h.world.shape.k
@@ -162,14 +174,16 @@ module _ (h : History) (calls : List Call) (shaped : IsShape h.world.shape) (who
       ∙ spaces-are h.world.shape h.world us stamp 0 (λ j n is.
       let same : 0 + j ≡ j = omega arith in
       let below : j < h.world.shape.k = subst (λ (x : ℕ). j < x) many (slice_get_within stamp j n is) in
-      subst (λ (x : ℕ). values h.world.shape x (us x) ≡ values_after h.world x n) (sym same) (ap (values h.world.shape j) (each j n below is) ∙ values-are j n below))
+      subst (λ (x : ℕ). values h.world.shape x (us x) ≡ values_after h.world x n) (sym same)
+      (ap (values h.world.shape j) (each j n below is) ∙ values-are j n below))
 
   parity-holds : (i : ℕ) (stamp : List ℕ) → Lives h.world (ParityNode i) → length stamp ≡ h.world.shape.k → AgreesOn h.world stamp (ParityNode i)
       → (process_of h.world (ParityNode i)).space ≡ coded h.world.shape.m i (space_of h.world.shape) (spaces_at h.world 0 stamp)
   parity-holds i stamp lives many agrees =
       space-of (ParityNode i) lives
       ∙ ap (coded h.world.shape.m i (space_of h.world.shape)) (stamp-columns (stand (λ d. at [] h.settled d) (process_of h.world (ParityNode i))) stamp many
-      (λ d n below is. let same : (replica_of (process_of h.world (ParityNode i)) d).applied ≡ n = cc (agrees d below, is) in ap (λ (x : ℕ). take x (at [] h.settled d)) same))
+      (λ d n below is. let same : (replica_of (process_of h.world (ParityNode i)) d).applied
+      ≡ n = cc (agrees d below, is) in ap (λ (x : ℕ). take x (at [] h.settled d)) same))
 
   pub agree-on-stamp : AgreeOnStamp h.world
   agree-on-stamp = record { data_holds = data-holds; parity_holds = parity-holds }
@@ -180,20 +194,24 @@ module _ (h : History) (calls : List Call) (shaped : IsShape h.world.shape) (who
 
   stamp-spaces : (stamp : List ℕ) → length stamp ≡ h.world.shape.k → AreSpaces h.world.shape (spaces_at h.world 0 stamp)
   unfolding upto
-  stamp-spaces stamp many = subst (AreSpaces h.world.shape) (stamp-columns (upto stamp) stamp many (λ d n below is. ap (λ (x : ℕ). take x (at [] h.settled d)) (number-of stamp d n is))) (record {
-    many = areas.many;
-    long = areas-long h.world.shape.k 0 (space_of h.world.shape) (λ d. value (upto stamp d)) (columns h.world.shape (upto stamp)) areas;
-    bytes =
-        areas-bytes h.world.shape.k 0 (space_of h.world.shape) (λ d. value (upto stamp d)) (columns h.world.shape (upto stamp)) areas
-        (λ d x below. value-byte h.world.shape (upto stamp d) x (writes d below));
-  }) where
-    writes : SettledWrite h.world.shape (upto stamp)
-    writes d below = each-take (WritesBytes h.world.shape) (at 0 stamp d) (at [] h.settled d) (write d below)
+  stamp-spaces stamp many =
+      subst (AreSpaces h.world.shape)
+      (stamp-columns (upto stamp) stamp many
+      (λ d n below is. ap (λ (x : ℕ). take x (at [] h.settled d)) (number-of stamp d n is))) (record {
+        many = areas.many;
+        long = areas-long h.world.shape.k 0 (space_of h.world.shape) (λ d. value (upto stamp d)) (columns h.world.shape (upto stamp)) areas;
+        bytes =
+            areas-bytes h.world.shape.k 0 (space_of h.world.shape) (λ d. value (upto stamp d)) (columns h.world.shape (upto stamp)) areas
+            (λ d x below. value-byte h.world.shape (upto stamp d) x (writes d below));
+      }) where
+        writes : SettledWrite h.world.shape (upto stamp)
+        writes d below = each-take (WritesBytes h.world.shape) (at 0 stamp d) (at [] h.settled d) (write d below)
 
-    areas : AreAreas h.world.shape.k 0 (space_of h.world.shape) (λ d. value (upto stamp d)) (columns h.world.shape (upto stamp))
-    areas = columns-areas h.world.shape (upto stamp) writes
+        areas : AreAreas h.world.shape.k 0 (space_of h.world.shape) (λ d. value (upto stamp d)) (columns h.world.shape (upto stamp))
+        areas = columns-areas h.world.shape (upto stamp) writes
 
-  survivor-fits : (p : ProcessId) (stamp : List ℕ) → Lives h.world p → length stamp ≡ h.world.shape.k → AgreesOn h.world stamp p → FitsHeld h.world (spaces_at h.world 0 stamp) p
+  survivor-fits : (p : ProcessId) (stamp : List ℕ) → Lives h.world p → length stamp ≡ h.world.shape.k
+      → AgreesOn h.world stamp p → FitsHeld h.world (spaces_at h.world 0 stamp) p
   survivor-fits (DataNode d) stamp lives many agrees =
       let n : ℕ = (replica_of (process_of h.world (DataNode d)) d).applied in
       space-at h.world stamp 0 d n agrees ∙ ap (λ (x : ℕ). Some (values_after h.world x n)) (omega arith) ∙ ap Some (sym (data-holds d lives))
@@ -241,11 +259,13 @@ module _ (s : Dimensions) (always : WholeAlways s) where
 
     pub shown : (d : ℕ) → d < h.world.shape.k → LogShows h.world.shape h.world d (at [] h.settled d)
     shown d below = subst (λ (w : World). LogShows h.world.shape w d (at [] h.settled d)) (sym (book-world s es))
-        (subst (λ (t : Dimensions). LogShows t (after s es) d (at [] h.settled d)) (sym shape-is) (log_shows_settled s stands-always es run d (subst (λ (t : Dimensions). d < t.k) shape-is below)))
+        (subst (λ (t : Dimensions). LogShows t (after s es) d (at [] h.settled d)) (sym shape-is)
+        (log_shows_settled s stands-always es run d (subst (λ (t : Dimensions). d < t.k) shape-is below)))
 
     pub keeps : (d : ℕ) → d < h.world.shape.k → (r : Replica) → ReplicaStands h.world.shape (book_of s es).issued (at [] h.settled d) d r → KeepsAll h.world d r
     keeps d below r replica = subst (λ (w : World). KeepsAll w d r) (sym (book-world s es))
-        (replicas_keep_all s stands-always es run d (subst (λ (t : Dimensions). d < t.k) shape-is below) r (subst (λ (t : Dimensions). ReplicaStands t (book_of s es).issued (at [] h.settled d) d r) shape-is replica))
+        (replicas_keep_all s stands-always es run d (subst (λ (t : Dimensions). d < t.k) shape-is below) r
+        (subst (λ (t : Dimensions). ReplicaStands t (book_of s es).issued (at [] h.settled d) d r) shape-is replica))
 
     pub headline : Headline s es
     headline = record {
@@ -253,6 +273,7 @@ module _ (s : Dimensions) (always : WholeAlways s) where
       not_undone = λ up. subst NotUndone (book-world s es) (not-undone h (book_of s es).issued shaped whole shown keeps);
       agree = λ up. subst AgreeOnStamp (book-world s es) (agree-on-stamp h (book_of s es).issued shaped whole shown keeps);
       decode = λ up ps stamp survive. subst (λ (w : World). DecodesExactly w ps stamp) (book-world s es)
-          (decodes h (book_of s es).issued shaped whole shown keeps ps stamp (subst (λ (w : World). AgreeingSurvivors w ps stamp) (sym (book-world s es)) survive));
+          (decodes h (book_of s es).issued shaped whole shown keeps ps stamp
+          (subst (λ (w : World). AgreeingSurvivors w ps stamp) (sym (book-world s es)) survive));
       values = values_are_written s stands-always es run;
     }

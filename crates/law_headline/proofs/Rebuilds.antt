@@ -1,5 +1,6 @@
 -- A step that rebuilds a block of a partition applies nothing of it, where the process heads the partition.
-use Rattle.std.proofs.Common.{ℕ, suc, ◌≡◌, ◌≢◌, ◌+◌, ◌-◌, ◌==◌, nat_le, Bool, true, false, not, List, [], ◌∷◌, length, Option, Some, None, ◌⊎◌, inl, inr, refl, sym, ap, subst, ◌∙◌, arith, option_map}
+use Rattle.std.proofs.Common.{ℕ, suc, ◌≡◌, ◌≢◌, ◌+◌, ◌-◌, ◌==◌, nat_le, Bool, true, false, not, List, [], ◌∷◌, length}
+use Rattle.std.proofs.Common.{Option, Some, None, ◌⊎◌, inl, inr, refl, sym, ap, subst, ◌∙◌, arith, option_map}
 use Rattle.std.proofs.lemmas.Bool.{cases_eq}
 use Rattle.std.proofs.lemmas.List.{length-take}
 use Rattle.std.specs.List.{list_any, range_with_len}
@@ -17,13 +18,16 @@ use Rattle.group_message.specs.declared.update.Update.{Update}
 use Rattle.group_calls.specs.Turns.{CallName}
 use Rattle.group_calls.specs.declared.decision.Decision.{Decision}
 use Rattle.group_calls.specs.declared.decision.Decision.TheVariants as decides
-use Rattle.group_run.specs.Applying.{ProcessStep, apply_to, block_after, for_each, head_at, held_at, quiet, rebuilt_after, replica_of, when, with_head, with_replica}
-use Rattle.group_run.specs.Asking.{Oldest, act_on, ask_head, collect_from, collect_held, found_at, handed_out, is_call, issued, oldest_inherited, retry_block, ticketed, update_of}
+use Rattle.group_run.specs.Applying.{ProcessStep, apply_to, block_after, for_each, head_at, held_at, quiet}
+use Rattle.group_run.specs.Applying.{rebuilt_after, replica_of, when, with_head, with_replica}
+use Rattle.group_run.specs.Asking.{Oldest, act_on, ask_head, collect_from, collect_held, found_at, handed_out, is_call}
+use Rattle.group_run.specs.Asking.{issued, oldest_inherited, retry_block, ticketed, update_of}
 use Rattle.group_run.specs.Deciding.{decide}
 use Rattle.group_run.specs.Heading.{acknowledge, acknowledged, judge, judge_head}
 use Rattle.group_run.specs.Leaders.{close_sessions, lost_of, mark_comes, mark_taken, own_mark, rebuilt_block, session_opened, start_session}
 use Rattle.group_run.specs.Process.{Gathering, Head, Held, Process}
-use Rattle.group_run.specs.Receiving.{ack_to, death_known, enthroned, log_adopted, notice_comes, read_comes, receive, take_over_if, taken_over, takes_over, update_taken, with_rank}
+use Rattle.group_run.specs.Receiving.{ack_to, death_known, enthroned, log_adopted, notice_comes, read_comes, receive}
+use Rattle.group_run.specs.Receiving.{take_over_if, taken_over, takes_over, update_taken, with_rank}
 use Rattle.group_run.specs.Replica.{Replica, applied_to, up_to, with_update}
 use Rattle.group_run.specs.Rows.{accepts_mark, begin_copy, copy_in, parity_number}
 use Rattle.law_histories.proofs.Heads.{replica-apply_to}
@@ -48,7 +52,8 @@ pub none-when : (d : ℕ) (c : Bool) (p : Process) (t : ProcessStep) → NoneNew
 none-when d true p t new = new
 none-when d false p t new = none-refl d p
 
-pub none-each : (d : ℕ) (f : ℕ → Process → ProcessStep) → ((x : ℕ) (q : Process) → NoneNew d q (f x q).process) → (xs : List ℕ) (p : Process) → NoneNew d p (for_each xs f p).process
+pub none-each : (d : ℕ) (f : ℕ → Process → ProcessStep) → ((x : ℕ) (q : Process) → NoneNew d q (f x q).process)
+    → (xs : List ℕ) (p : Process) → NoneNew d p (for_each xs f p).process
 none-each d f each [] p = none-refl d p
 none-each d f each (x ∷ xs) p = none-trans d p (f x p).process (for_each xs f (f x p).process).process (each x p) (none-each d f each xs (f x p).process)
 
@@ -64,13 +69,16 @@ module _ (s : Dimensions) (d : ℕ) where
 
     here : rebuilt_block (apply_to s d n p).as_leader d b ≡ None
     here =
-        ap (λ (blocks : List (Option (List ℕ))). at None blocks b) (at-put [] [] p.as_leader.rebuilt d (rebuilt_after s d (news d) 0 (at [] p.as_leader.rebuilt d)))
+        ap (λ (blocks : List (Option (List ℕ))). at None blocks b)
+        (at-put [] [] p.as_leader.rebuilt d (rebuilt_after s d (news d) 0 (at [] p.as_leader.rebuilt d)))
         ∙ at-rebuilt s d (news d) 0 (at [] p.as_leader.rebuilt d) b
         ∙ ap (option_map (block_after s (DataNode d) d (0 + b) (news d))) none
 
     by : (d ≡ e) ⊎ (d ≢ e) → rebuilt_block (apply_to s e n p).as_leader d b ≡ None
     by (inl same) = subst (λ (k : ℕ). rebuilt_block (apply_to s k n p).as_leader d b ≡ None) same here
-    by (inr other) = ap (λ (blocks : List (Option (List ℕ))). at None blocks b) (at-put-other [] p.as_leader.rebuilt e d (rebuilt_after s e (news e) 0 (at [] p.as_leader.rebuilt e)) other) ∙ none
+    by (inr other) = ap (λ (blocks : List (Option (List ℕ))). at None blocks b)
+        (at-put-other [] p.as_leader.rebuilt e d (rebuilt_after s e (news e) 0 (at [] p.as_leader.rebuilt e)) other)
+        ∙ none
 
   pub none-judge : (e : ℕ) (p : Process) → NoneNew d p (judge s e p).process
   none-judge e p = by (head_at p e) where
@@ -80,7 +88,8 @@ module _ (s : Dimensions) (d : ℕ) where
 
   pub none-acknowledge : (i r e n : ℕ) (h : Option Head) (p : Process) → NoneNew d p (acknowledge s i r e n h p).process
   none-acknowledge i r e n None p = none-refl d p
-  none-acknowledge i r e n (Some h) p = let q : Process = with_head e (Some (acknowledged i n h)) p in none-when d (r == h.rank) p (judge s e q) (none-judge e q)
+  none-acknowledge i r e n (Some h) p = let q : Process = with_head e (Some (acknowledged i n h)) p in
+      none-when d (r == h.rank) p (judge s e q) (none-judge e q)
 
   pub none-take : (e : ℕ) (p : Process) → NoneNew d p (take_over_if s e p).process
   none-take e p = none-when d (takes_over p e p.name) p (taken_over s e p) (none-judge e (enthroned s (suc (parity_number p.name)) e p))
@@ -100,14 +109,18 @@ module _ (s : Dimensions) (d : ℕ) where
       let judged : Process = (for_each (range_with_len 0 s.k) (judge s) closed).process in
       none-trans d p known (notice_comes s dead p).process (none-known dead p)
       (none-trans d known closed (notice_comes s dead p).process (none-close known.as_leader.sessions known)
-      (none-trans d closed judged (notice_comes s dead p).process (none-each d (judge s) none-judge (range_with_len 0 s.k) closed) (none-each d (take_over_if s) none-take (range_with_len 0 s.k) judged)))
+      (none-trans d closed judged (notice_comes s dead p).process
+      (none-each d (judge s) none-judge (range_with_len 0 s.k) closed)
+      (none-each d (take_over_if s) none-take (range_with_len 0 s.k) judged)))
 
-  pub none-read : (session : Session) (block : ℕ) (rows : List ℕ) (p : Process) (name : ProcessId) → NoneNew d p (read_comes s session block rows p name).process
+  pub none-read : (session : Session) (block : ℕ) (rows : List ℕ) (p : Process) (name : ProcessId)
+      → NoneNew d p (read_comes s session block rows p name).process
   none-read session block rows p (DataNode e) = none-refl d p
   none-read session block rows p (ParityNode i) = none-refl d p
 
   -- a mark of another partition, or one that isn't taken
-  mark-rebuilds : (leader number r block e n : ℕ) (p : Process) → (e ≡ d → accepts_mark p leader number r e ≡ true → ⊥) → RebuildsStill d p (mark_comes s leader number r block e n p).process
+  mark-rebuilds : (leader number r block e n : ℕ) (p : Process) → (e ≡ d → accepts_mark p leader number r e ≡ true → ⊥)
+      → RebuildsStill d p (mark_comes s leader number r block e n p).process
   mark-rebuilds leader number r block e n p never = by (cases_eq e d) where
     untaken : (c : Bool) → accepts_mark p leader number r e ≡ c → e ≡ d → NoneNew d p (when c p (mark_taken s leader number block e n p)).process
     untaken true takes here = absurd (never here takes)
@@ -123,9 +136,13 @@ module _ (s : Dimensions) (d : ℕ) where
   Unmarks _ p = Unit {0}
 
   pub receive-rebuilds : (x : ProcessId) (m : Message) (p : Process) → Unmarks m p → RebuildsStill d p (receive s x m p).process
-  receive-rebuilds x (tells.Update r e u stable) p unmarks = inl (none-when d (nat_le (at 0 p.ranks e.0) r.0) p (ack_to x r.0 e.0 u.number (update_taken s e.0 u stable p)) (none-apply e.0 stable p))
+  receive-rebuilds x (tells.Update r e u stable) p unmarks =
+      inl (none-when d (nat_le (at 0 p.ranks e.0) r.0) p (ack_to x r.0 e.0 u.number (update_taken s e.0 u stable p))
+      (none-apply e.0 stable p))
   receive-rebuilds x (tells.Adopt r e base list) p unmarks =
-      inl (none-when d (nat_le (at 0 p.ranks e.0) r.0) p (ack_to x r.0 e.0 (base + length list) (log_adopted s r.0 e.0 base list p)) (none-apply e.0 base (with_rank e.0 r.0 p)))
+      inl (none-when d (nat_le (at 0 p.ranks e.0) r.0) p
+      (ack_to x r.0 e.0 (base + length list) (log_adopted s r.0 e.0 base list p))
+      (none-apply e.0 base (with_rank e.0 r.0 p)))
   receive-rebuilds x (tells.Stable r e n) p unmarks = inl (none-when d (nat_le (at 0 p.ranks e.0) r.0) p (quiet (apply_to s e.0 n p)) (none-apply e.0 n p))
   receive-rebuilds (DataNode z) (tells.Ack r e n) p unmarks = inl (none-refl d p)
   receive-rebuilds (ParityNode i) (tells.Ack r e n) p unmarks = inl (none-acknowledge i r.0 e.0 n (head_at p e.0) p)
@@ -166,9 +183,12 @@ module _ (s : Dimensions) (d : ℕ) where
         subst (λ (k : ℕ). (replica_of (own_mark s leader number block k p).process d).applied ≡ (replica_of p d).applied) (sym same)
         (marks (accepts_mark p leader number (at 0 p.ranks d) d))
 
-  owns-apply : (leader number block : ℕ) (ls : List ℕ) (p : Process) → (replica_of (for_each ls (own_mark s leader number block) p).process d).applied ≡ (replica_of p d).applied
+  owns-apply : (leader number block : ℕ) (ls : List ℕ) (p : Process)
+      → (replica_of (for_each ls (own_mark s leader number block) p).process d).applied ≡ (replica_of p d).applied
   owns-apply leader number block [] p = refl
-  owns-apply leader number block (l ∷ ls) p = owns-apply leader number block ls (own_mark s leader number block l p).process ∙ own-applies leader number block l p
+  owns-apply leader number block (l ∷ ls) p =
+      owns-apply leader number block ls (own_mark s leader number block l p).process
+      ∙ own-applies leader number block l p
 
   retry-applies : (block : ℕ) (o : Option Oldest) (p : Process) → (replica_of (retry_block s block o p).step.process d).applied ≡ (replica_of p d).applied
   retry-applies block (Some o) p = refl
@@ -181,7 +201,8 @@ module _ (s : Dimensions) (d : ℕ) where
   none-ticketed true e u t = λ b none. none
   none-ticketed false e u t = λ b none. none
 
-  act-rebuilds : (name : CallName) (op : Asked) (e : ℕ) (h : Head) (p : Process) (decision : Decision) → RebuildsStill d p (act_on s name op e h p decision).step.process
+  act-rebuilds : (name : CallName) (op : Asked) (e : ℕ) (h : Head) (p : Process) (decision : Decision)
+      → RebuildsStill d p (act_on s name op e h p decision).step.process
   act-rebuilds name op e h p (decides.Answer r) = inr refl
   act-rebuilds name op e h p (decides.Retry n) = inr refl
   act-rebuilds name op e h p decides.NoSpace = inr refl
@@ -189,7 +210,8 @@ module _ (s : Dimensions) (d : ℕ) where
   act-rebuilds name op e h p (decides.Issue body outcome) =
       let u : Update = update_of name op e body outcome p in
       let t : ProcessStep = issued s e h u p in
-      inl (none-trans d p t.process (act_on s name op e h p (decides.Issue body outcome)).step.process (none-judge e (with_replica e (with_update u (replica_of p e)) p))
+      inl (none-trans d p t.process (act_on s name op e h p (decides.Issue body outcome)).step.process
+      (none-judge e (with_replica e (with_update u (replica_of p e)) p))
       (none-ticketed (nat_le u.number (replica_of t.process e).applied) e u t))
 
   pub ask-rebuilds : (name : CallName) (op : Asked) (e : ℕ) (p : Process) (o : Option Head) → RebuildsStill d p (ask_head s name op e p o).step.process
@@ -204,6 +226,7 @@ module _ (s : Dimensions) (d : ℕ) where
   pub none-collect : (caller call : ℕ) (p : Process) (es : List ℕ) → NoneNew d p (collect_from caller call p es).step.process
   none-collect caller call p [] = none-refl d p
   none-collect caller call p (e ∷ es) = by (find (is_call caller call) (held_at p e)) (none-collect caller call p es) where
-    by : (o : Option Held) → NoneNew d p (collect_from caller call p es).step.process → NoneNew d p (collect_held e o p (collect_from caller call p es)).step.process
+    by : (o : Option Held) → NoneNew d p (collect_from caller call p es).step.process
+        → NoneNew d p (collect_held e o p (collect_from caller call p es)).step.process
     by None rest = rest
     by (Some h) rest = none-handed (nat_le h.number (replica_of p e).applied) e h p

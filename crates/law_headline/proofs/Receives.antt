@@ -25,13 +25,16 @@ use Rattle.law_histories.proofs.LaneWords.{Prolongs}
 use Rattle.law_bytes.proofs.Premises.{AppliesSettled}
 use Rattle.law_bytes.specs.Areas.{SettledWrite}
 use Rattle.law_headline.proofs.Issues.{FineIn}
-use Rattle.law_headline.proofs.Joint.{LeavesEach, Whole, applies-after, both_received, dead_received, marks-received, members_received, same_received, write-after}
+use Rattle.law_headline.proofs.Joint.{LeavesEach, Whole, applies-after, both_received, dead_received, marks-received}
+use Rattle.law_headline.proofs.Joint.{members_received, same_received, write-after}
 use Rattle.law_headline.proofs.Apart.{HeadOff, HeadsOff}
 use Rattle.law_headline.proofs.Histories.{StaysBuilt}
 use Rattle.law_headline.proofs.Longs.{Long, Spares, long-receive}
 use Rattle.law_headline.proofs.WholeSteps.{all-off, long-off, received-built}
 
-module _ (s : Dimensions) (shaped : IsShape s) (calls : List Call) (v u w : State) (x p : ProcessId) (m : Message) (xin : IsProcess s x) (pin : IsProcess s p) (apart : x ≢ p) (up : IsUp s v) (lives : v.dead p ≡ false) (whole : Whole s calls v)
+module _ (s : Dimensions) (shaped : IsShape s) (calls : List Call) (v u w : State) (x p : ProcessId) (m : Message)
+    (xin : IsProcess s x) (pin : IsProcess s p) (apart : x ≢ p) (up : IsUp s v) (lives : v.dead p ≡ false)
+    (whole : Whole s calls v)
     (pops : Popped s v u x p m) (acts : Acted s u w p (receive s x m (v.process p))) where
   -- the head hears no rank of another that it would take
   pub never : (d : ℕ) → d < s.k → (h : Head) → head_at (v.process p) d ≡ Some h → (r : ℕ) → Used s v d x r → at 0 (v.process p).ranks d ≤ r → ⊥
@@ -42,21 +45,27 @@ module _ (s : Dimensions) (shaped : IsShape s) (calls : List Call) (v u w : Stat
       let now = sits.rank in
       absurd (omega (arith, less, low, now))
 
-  untaken : (d e r : ℕ) → d < s.k → (h : Head) → head_at (v.process p) d ≡ Some h → (e ≡ d → Used s v d x r) → e ≡ d → nat_le (at 0 (v.process p).ranks e) r ≡ true → ⊥
+  untaken : (d e r : ℕ) → d < s.k → (h : Head) → head_at (v.process p) d ≡ Some h → (e ≡ d → Used s v d x r) → e ≡ d
+      → nat_le (at 0 (v.process p).ranks e) r ≡ true → ⊥
   untaken d e r below h heads from here takes =
       let low : at 0 (v.process p).ranks e ≤ r = grind (arith, common_steps) in
       never d below h heads r (from here) (subst (λ (k : ℕ). at 0 (v.process p).ranks k ≤ r) here low)
 
-  same-head : (b : Bool) (d : ℕ) (t : ProcessStep) → head_at t.process d ≡ head_at (v.process p) d → head_at (when b (v.process p) t).process d ≡ head_at (v.process p) d
+  same-head : (b : Bool) (d : ℕ) (t : ProcessStep) → head_at t.process d ≡ head_at (v.process p) d
+      → head_at (when b (v.process p) t).process d ≡ head_at (v.process p) d
   same-head true d t same = same
   same-head false d t same = refl
 
   -- where it heads a partition afterwards, the message left that partition's log
-  head-spared : (z : Message) → MayStand s v x p z → (d : ℕ) → d < s.k → (h : Head) → head_at (receive s x z (v.process p)).process d ≡ Some h → Spares s d z (v.process p)
+  head-spared : (z : Message) → MayStand s v x p z → (d : ℕ) → d < s.k → (h : Head)
+      → head_at (receive s x z (v.process p)).process d ≡ Some h → Spares s d z (v.process p)
   head-spared (tells.Update r e y stable) may d below h heads = untaken d e.0 r.0 below h
-      (sym (same-head (nat_le (at 0 (v.process p).ranks e.0) r.0) d (ack_to x r.0 e.0 y.number (update_taken s e.0 y stable (v.process p))) refl) ∙ heads) (λ here. used s v d x e.0 r.0 here may.0)
+      (sym (same-head (nat_le (at 0 (v.process p).ranks e.0) r.0) d
+      (ack_to x r.0 e.0 y.number (update_taken s e.0 y stable (v.process p))) refl) ∙ heads)
+      (λ here. used s v d x e.0 r.0 here may.0)
   head-spared (tells.Adopt r e base list) may d below h heads = untaken d e.0 r.0 below h
-      (sym (same-head (nat_le (at 0 (v.process p).ranks e.0) r.0) d (ack_to x r.0 e.0 (base + length list) (log_adopted s r.0 e.0 base list (v.process p))) refl) ∙ heads)
+      (sym (same-head (nat_le (at 0 (v.process p).ranks e.0) r.0) d
+      (ack_to x r.0 e.0 (base + length list) (log_adopted s r.0 e.0 base list (v.process p))) refl) ∙ heads)
       (λ here. used s v d x e.0 r.0 here may.0)
   head-spared (tells.Ack r e n) may d below h heads = tt
   head-spared (tells.Stable r e n) may d below h heads = tt
@@ -81,7 +90,9 @@ module _ (s : Dimensions) (shaped : IsShape s) (calls : List Call) (v u w : Stat
 
   pub begins : (d : ℕ) → d < s.k → Prolongs (v.settled d) (w.settled d)
   begins d below = subst (λ (us : List Update). Prolongs us (w.settled d)) (pops.settled d)
-      (subst (Prolongs (u.settled d)) (sym (acts.settled d below)) (begins-append (u.settled d) (new_ones (length (u.settled d)) (settled_in d (receive s x m (v.process p)).settled))))
+      (subst (Prolongs (u.settled d)) (sym (acts.settled d below))
+      (begins-append (u.settled d)
+      (new_ones (length (u.settled d)) (settled_in d (receive s x m (v.process p)).settled))))
 
   write : SettledWrite s w.settled
   write =
@@ -95,8 +106,13 @@ module _ (s : Dimensions) (shaped : IsShape s) (calls : List Call) (v u w : Stat
 
   own : (i d : ℕ) → p ≡ ParityNode i → d < s.k → HeadOff s d (v.settled d) (v.process p) → HeadOff s d (w.settled d) (w.process p)
   own i d is below off = long-off s calls calls v w p pin lives whole.reach same dead begins both i d is below
-      (λ h heads. subst (Long d (v.process p)) (sym acts.process) (long-receive s d x m (v.process p) (head-spared m may d below h (ap (λ (y : Process). head_at y d) (sym acts.process) ∙ heads))))
-      (subst (StaysBuilt d (v.process p)) (sym acts.process) (received-built s v u w x p m i is pin lives whole.carried.members whole.bytes may (marks-received s shaped calls v u w x p m xin pin apart up lives whole pops acts) write applies pops acts d below)) off
+      (λ h heads. subst (Long d (v.process p)) (sym acts.process)
+      (long-receive s d x m (v.process p)
+      (head-spared m may d below h (ap (λ (y : Process). head_at y d) (sym acts.process) ∙ heads))))
+      (subst (StaysBuilt d (v.process p)) (sym acts.process)
+      (received-built s v u w x p m i is pin lives whole.carried.members whole.bytes may
+      (marks-received s shaped calls v u w x p m xin pin apart up lives whole pops acts) write applies pops acts d
+      below)) off
 
   pub received : HeadsOff s v → HeadsOff s w
   received off = all-off s calls calls v w p pin lives whole.reach same dead begins own off

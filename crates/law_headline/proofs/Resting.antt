@@ -8,4 +8,5 @@ use Rattle.law_headline.proofs.Apart.{HeadOff, SameValues}
 
 -- so it is of every process and partition
 abbrev pub BlocksRest : Type 0
-BlocksRest = (s : Dimensions) (d : ℕ) (settled : List Update) (p : Process) → (replica_of p d).applied ≤ length settled → HeadOff s d settled p → SameValues s d settled p
+BlocksRest = (s : Dimensions) (d : ℕ) (settled : List Update) (p : Process) → (replica_of p d).applied ≤ length settled
+    → HeadOff s d settled p → SameValues s d settled p

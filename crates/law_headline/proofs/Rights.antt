@@ -57,8 +57,11 @@ rebuilds-right s settled p q same still gives d b bytes below none some = by (st
 pub none-right : (s : Dimensions) (settled : ℕ → List Update) (p q : Process) → ((d : ℕ) → NoneNew d p q) → RebuildsRight s settled p q
 none-right s settled p q new d b bytes below none some = absurd (cc (some, new d b none))
 
-pub collected-right : (s : Dimensions) (settled : ℕ → List Update) (p : Process) (caller call : ℕ) → RebuildsRight s settled p (collect_from caller call p (range_with_len 0 s.k)).step.process
-collected-right s settled p caller call = none-right s settled p (collect_from caller call p (range_with_len 0 s.k)).step.process (λ d. none-collect s d caller call p (range_with_len 0 s.k))
+pub collected-right : (s : Dimensions) (settled : ℕ → List Update) (p : Process) (caller call : ℕ)
+    → RebuildsRight s settled p (collect_from caller call p (range_with_len 0 s.k)).step.process
+collected-right s settled p caller call =
+    none-right s settled p (collect_from caller call p (range_with_len 0 s.k)).step.process
+    (λ d. none-collect s d caller call p (range_with_len 0 s.k))
 
 pub flushed-right : (s : Dimensions) (settled : ℕ → List Update) (p : Process) → RebuildsRight s settled p (flush_process s p).step.process
 flushed-right s settled p = none-right s settled p p (λ d b none. none)
@@ -75,12 +78,15 @@ module _ (s : Dimensions) (calls : List Call) (v w : State) (p : ProcessId) (pin
   same-values : HeadsOff s v → IsParity (v.process p).name → (d : ℕ) → d < s.k → SameValues s d (w.settled d) (v.process p)
   same-values off parity d below =
       off-value s d (w.settled d) (v.process p) (let long = (grows d below).reaches in let low = applied-before parity d below in omega (arith, long, low))
-      (λ h b heads unbuilt. subst (λ (us : List Update). Each (StaysOff s b) (drop h.inherited us)) (sym (history-grown (v.settled d) (replica_of (v.process p) d) (applied-before parity d below) (w.settled d) (grows d below)))
+      (λ h b heads unbuilt. subst (λ (us : List Update). Each (StaysOff s b) (drop h.inherited us))
+      (sym (history-grown (v.settled d) (replica_of (v.process p) d) (applied-before parity d below) (w.settled d)
+      (grows d below)))
       (own h b heads unbuilt))
     where
       own : HeadOff s d (v.settled d) (v.process p)
       own = let at_i = parity-is p (subst IsParity (whole.carried.members.named p pin) parity) in
-          subst (λ (y : ProcessId). HeadOff s d (v.settled d) (v.process y)) (sym at_i.1) (off at_i.0 d (subst (IsProcess s) at_i.1 pin) (ap v.dead (sym at_i.1) ∙ lives) below)
+          subst (λ (y : ProcessId). HeadOff s d (v.settled d) (v.process y)) (sym at_i.1)
+          (off at_i.0 d (subst (IsProcess s) at_i.1 pin) (ap v.dead (sym at_i.1) ∙ lives) below)
 
   -- what was settled before the step is so after it
   pub rebuilds-grown : (q : Process) → RebuildsAt s v.settled (v.process p) q → RebuildsAt s w.settled (v.process p) q
@@ -100,24 +106,30 @@ module _ (s : Dimensions) (calls : List Call) (v w : State) (p : ProcessId) (pin
         values = subst (λ (us : List Update). IsBlock s b (value us) bytes) same gave.values;
       }
 
-module _ (s : Dimensions) (shaped : IsShape s) (calls : List Call) (v w : State) (p : ProcessId) (pin : IsProcess s p) (lives : v.dead p ≡ false) (whole : Whole s calls v) (off : HeadsOff s v) where
+module _ (s : Dimensions) (shaped : IsShape s) (calls : List Call) (v w : State) (p : ProcessId) (pin : IsProcess s p)
+    (lives : v.dead p ≡ false) (whole : Whole s calls v) (off : HeadsOff s v) where
   grown-by : (t : ProcessStep) → Acted s v w p t → (d : ℕ) → d < s.k → Prolongs (v.settled d) (w.settled d)
-  grown-by t acts d below = subst (Prolongs (v.settled d)) (sym (acts.settled d below)) (begins-append (v.settled d) (new_ones (length (v.settled d)) (settled_in d t.settled)))
+  grown-by t acts d below = subst (Prolongs (v.settled d)) (sym (acts.settled d below))
+      (begins-append (v.settled d) (new_ones (length (v.settled d)) (settled_in d t.settled)))
 
   -- what a process rebuilds as it is asked
   pub asked-right : (name : CallName) (op : Asked) → Acted s v w p (ask_process s name op (v.process p)).step
-      → RebuildsAt s w.settled (v.process p) (ask_process s name op (v.process p)).step.process → RebuildsRight s w.settled (v.process p) (ask_process s name op (v.process p)).step.process
+      → RebuildsAt s w.settled (v.process p) (ask_process s name op (v.process p)).step.process
+      → RebuildsRight s w.settled (v.process p) (ask_process s name op (v.process p)).step.process
   asked-right name op acts = rebuilds-right s w.settled (v.process p) (ask_process s name op (v.process p)).step.process
       (same-values s calls v w p pin lives whole (grown-by (ask_process s name op (v.process p)).step acts) off)
       (λ d below h heads. ask-rebuilds s d name op (home_of (key_of op.act) s.k) (v.process p) (head_at (v.process p) (home_of (key_of op.act) s.k)))
 
 -- what it rebuilds as it receives a message
-module _ (s : Dimensions) (shaped : IsShape s) (calls : List Call) (v u w : State) (x p : ProcessId) (m : Message) (xin : IsProcess s x) (pin : IsProcess s p) (apart : x ≢ p) (up : IsUp s v) (lives : v.dead p ≡ false) (whole : Whole s calls v)
+module _ (s : Dimensions) (shaped : IsShape s) (calls : List Call) (v u w : State) (x p : ProcessId) (m : Message)
+    (xin : IsProcess s x) (pin : IsProcess s p) (apart : x ≢ p) (up : IsUp s v) (lives : v.dead p ≡ false)
+    (whole : Whole s calls v)
     (pops : Popped s v u x p m) (acts : Acted s u w p (receive s x m (v.process p))) (off : HeadsOff s v) where
   pub unmarked : (z : Message) → MayStand s v x p z → (d : ℕ) → d < s.k → (h : Head) → head_at (v.process p) d ≡ Some h → Unmarks s d z (v.process p)
   unmarked (tells.Mark session r block e n) stands d below h heads = λ here takes.
       let low : at 0 (v.process p).ranks e.0 ≤ r.0 = lowest (parity_number session.leader) session.number r.0 e.0 takes in
-      never s shaped calls v u w x p m xin pin apart up lives whole pops acts d below h heads r.0 (used s v d x e.0 r.0 here stands.0) (subst (λ (k : ℕ). at 0 (v.process p).ranks k ≤ r.0) here low)
+      never s shaped calls v u w x p m xin pin apart up lives whole pops acts d below h heads r.0
+      (used s v d x e.0 r.0 here stands.0) (subst (λ (k : ℕ). at 0 (v.process p).ranks k ≤ r.0) here low)
     where
       lowest : (leader number rank k : ℕ) → accepts_mark (v.process p) leader number rank k ≡ true → at 0 (v.process p).ranks k ≤ rank
       lowest leader number rank k accepts = grind (arith, common_steps)
@@ -131,7 +143,9 @@ module _ (s : Dimensions) (shaped : IsShape s) (calls : List Call) (v u w : Stat
   unmarked (tells.Cease upto) stands d below h heads = tt
   unmarked (tells.Notice dead) stands d below h heads = tt
 
-  pub received-right : RebuildsAt s w.settled (v.process p) (receive s x m (v.process p)).process → RebuildsRight s w.settled (v.process p) (receive s x m (v.process p)).process
+  pub received-right : RebuildsAt s w.settled (v.process p) (receive s x m (v.process p)).process
+      → RebuildsRight s w.settled (v.process p) (receive s x m (v.process p)).process
   received-right = rebuilds-right s w.settled (v.process p) (receive s x m (v.process p)).process
       (same-values s calls v w p pin lives whole (begins s shaped calls v u w x p m xin pin apart up lives whole pops acts) off)
-      (λ d below h heads. receive-rebuilds s d x m (v.process p) (unmarked m (may s shaped calls v u w x p m xin pin apart up lives whole pops acts) d below h heads))
+      (λ d below h heads. receive-rebuilds s d x m (v.process p)
+      (unmarked m (may s shaped calls v u w x p m xin pin apart up lives whole pops acts) d below h heads))

@@ -1,5 +1,7 @@
 -- Every step of a process keeps its sessions numbered, and sends only sound rows.
-use Rattle.std.proofs.Common.{◌≡◌, ℕ, suc, ◌+◌, ◌<◌, ◌≤◌, ◌==◌, nat_le, Bool, true, false, not, List, [], ◌∷◌, length, map, filter, find, flat_map, is_some, Option, Some, None, sym, ap, subst, ◌∙◌, refl, unwrap_or, arith}
+use Rattle.std.proofs.Common.{◌≡◌, ℕ, suc, ◌+◌, ◌<◌, ◌≤◌, ◌==◌, nat_le, Bool, true, false, not, List, [], ◌∷◌, length}
+use Rattle.std.proofs.Common.{map, filter, find, flat_map, is_some, Option, Some, None, sym, ap, subst, ◌∙◌, refl}
+use Rattle.std.proofs.Common.{unwrap_or, arith}
 use Rattle.std.proofs.lemmas.List.FromFn.{length-map-range_with_len}
 use Rattle.std.specs.List.{list_any, range_with_len}
 use Rattle.group_types.specs.Dimensions.{Dimensions, space_of}
@@ -21,13 +23,19 @@ use Rattle.group_message.specs.declared.update.Update.{Update}
 use Rattle.group_calls.specs.Turns.{CallName}
 use Rattle.group_calls.specs.declared.decision.Decision.{Decision}
 use Rattle.group_calls.specs.declared.decision.Decision.TheVariants as decides
-use Rattle.group_run.specs.Applying.{ProcessStep, Sent, and_then, apply_to, for_each, head_at, held_at, quiet, replica_of, sending, when, with_head, with_replica}
-use Rattle.group_run.specs.Asking.{Oldest, act_on, ask_head, collect_from, collect_held, found_at, handed_out, is_call, issued, oldest_inherited, retry_block, ticketed, update_of}
+use Rattle.group_run.specs.Applying.{ProcessStep, Sent, and_then, apply_to, for_each, head_at, held_at, quiet}
+use Rattle.group_run.specs.Applying.{replica_of, sending, when, with_head, with_replica}
+use Rattle.group_run.specs.Asking.{Oldest, act_on, ask_head, collect_from, collect_held, found_at, handed_out, is_call}
+use Rattle.group_run.specs.Asking.{issued, oldest_inherited, retry_block, ticketed, update_of}
 use Rattle.group_run.specs.Deciding.{decide}
 use Rattle.group_run.specs.Heading.{acknowledge, acknowledged, judge, judge_head, other_parities, partition, rank, tell_stable, tell_stables, to_others}
-use Rattle.group_run.specs.Leaders.{block_comes, block_gathered, close_sessions, copy_kept, copy_marked, gathered_when, is_complete, leader_marks, left_of, lost_of, mark_comes, mark_taken, new_session, open_session, own_mark, row_comes, row_finished, row_gathered, rows_of, session_of, session_opened, session_starts, start_session, without_session}
+use Rattle.group_run.specs.Leaders.{block_comes, block_gathered, close_sessions, copy_kept, copy_marked, gathered_when}
+use Rattle.group_run.specs.Leaders.{is_complete, leader_marks, left_of, lost_of, mark_comes, mark_taken, new_session}
+use Rattle.group_run.specs.Leaders.{open_session, own_mark, row_comes, row_finished, row_gathered, rows_of, session_of}
+use Rattle.group_run.specs.Leaders.{session_opened, session_starts, start_session, without_session}
 use Rattle.group_run.specs.Process.{Copy, Gathering, Head, Held, LeaderState, Process}
-use Rattle.group_run.specs.Receiving.{ack_to, death_known, enthroned, log_adopted, notice_comes, read_comes, receive, take_over_if, taken_over, takes_over, update_taken}
+use Rattle.group_run.specs.Receiving.{ack_to, death_known, enthroned, log_adopted, notice_comes, read_comes, receive}
+use Rattle.group_run.specs.Receiving.{take_over_if, taken_over, takes_over, update_taken}
 use Rattle.group_run.specs.Replica.{with_update}
 use Rattle.group_run.specs.Rows.{accepts_mark, begin_copy, copy_begun, copy_in, is_marked, leader_forgotten, marked, parity_number, with_copies, without_copy}
 use Rattle.law_moves.proofs.Moves.{Asks, Collects, Flushes, Treats}
@@ -69,10 +77,13 @@ module _ (s : Dimensions) where
   then-does p a f first next = record {
     name = next.name ∙ first.name;
     sessions = next.sessions;
-    sent = each-append (λ z. RowSound s p.name z.to z.message) a.sent (f a.process).sent first.sent (named-sound a.process.name p.name (f a.process).sent first.name next.sent);
+    sent = each-append (λ z. RowSound s p.name z.to z.message) a.sent (f a.process).sent first.sent
+        (named-sound a.process.name p.name (f a.process).sent first.name next.sent);
   }
 
-  each-does : (xs : List ℕ) (f : ℕ → Process → ProcessStep) (p : Process) → ((x : ℕ) (q : Process) → Numbered q.as_leader → Does q (f x q)) → Numbered p.as_leader → Does p (for_each xs f p)
+  each-does : (xs : List ℕ) (f : ℕ → Process → ProcessStep) (p : Process)
+      → ((x : ℕ) (q : Process) → Numbered q.as_leader → Does q (f x q)) → Numbered p.as_leader
+      → Does p (for_each xs f p)
   each-does [] f p all fine = self-does p fine
   each-does (x ∷ xs) f p all fine = let first = all x p fine in then-does p (f x p) (for_each xs f) first (each-does xs f (f x p).process all first.sessions)
 
@@ -106,33 +117,47 @@ module _ (s : Dimensions) where
       same-numbered (record state { sessions = without_session g.number state.sessions }) _
       (decoded-same s g g.lost (record state { sessions = without_session g.number state.sessions })).0
       (decoded-same s g g.lost (record state { sessions = without_session g.number state.sessions })).1
-      (record { rises = fewer-rise (λ x. not (x.number == g.number)) state.sessions fine.rises; below = each-filter (λ x. x.number ≤ state.last_session) (λ x. not (x.number == g.number)) state.sessions fine.below })
+      (record {
+        rises = fewer-rise (λ x. not (x.number == g.number)) state.sessions fine.rises;
+        below = each-filter (λ x. x.number ≤ state.last_session) (λ x. not (x.number == g.number)) state.sessions
+            fine.below;
+      })
   gathered-fine false g state fine = record {
     rises = subst Rising (sym (same-numbers g state.sessions)) fine.rises;
     below =
         numbers-each (λ n. n ≤ state.last_session) _
-        (subst (Each (λ n. n ≤ state.last_session)) (sym (same-numbers g state.sessions)) (each-numbers (λ n. n ≤ state.last_session) state.sessions fine.below));
+        (subst (Each (λ n. n ≤ state.last_session)) (sym (same-numbers g state.sessions))
+        (each-numbers (λ n. n ≤ state.last_session) state.sessions fine.below));
   }
 
   row-fine : (i number : ℕ) (bytes : List ℕ) (p : Process) → Numbered p.as_leader → Numbered (row_comes s number i bytes p).as_leader
   row-fine i number bytes p fine = by (open_session p.as_leader number) where
     by : (o : Option Gathering) → Numbered (row_gathered s i bytes o p.as_leader)
     by None = fine
-    by (Some g) = gathered-fine (is_complete s (record g { rows_in = put None g.rows_in i (Some bytes) })) (record g { rows_in = put None g.rows_in i (Some bytes) }) p.as_leader fine
+    by (Some g) = gathered-fine (is_complete s (record g { rows_in = put None g.rows_in i (Some bytes) }))
+        (record g { rows_in = put None g.rows_in i (Some bytes) }) p.as_leader fine
 
   block-fine : (e number : ℕ) (bytes : List ℕ) (p : Process) → Numbered p.as_leader → Numbered (block_comes s number e bytes p).as_leader
   block-fine e number bytes p fine = by (open_session p.as_leader number) where
     by : (o : Option Gathering) → Numbered (block_gathered s e bytes o p.as_leader)
     by None = fine
-    by (Some g) = gathered-fine (is_complete s (record g { blocks_in = put None g.blocks_in e (Some bytes) })) (record g { blocks_in = put None g.blocks_in e (Some bytes) }) p.as_leader fine
+    by (Some g) = gathered-fine (is_complete s (record g { blocks_in = put None g.blocks_in e (Some bytes) }))
+        (record g { blocks_in = put None g.blocks_in e (Some bytes) }) p.as_leader fine
 
   -- a finished copy: another process's goes out as a row
-  finished-does : (own : Bool) (c : Copy) (p : Process) → same_process p.name (ParityNode c.leader) ≡ own → Numbered p.as_leader → Does p (row_finished own s c p)
+  finished-does : (own : Bool) (c : Copy) (p : Process) → same_process p.name (ParityNode c.leader) ≡ own
+      → Numbered p.as_leader → Does p (row_finished own s c p)
   finished-does true c p is fine = record { name = refl; sessions = row-fine c.leader c.number c.bytes p fine; sent = tt }
   finished-does false c p is fine = record {
     name = refl;
     sessions = fine;
-    sent = ((length-map-range_with_len (λ d. unwrap_or (at None c.marks d) 0) 0 s.k, λ (same : p.name ≡ ParityNode c.leader). cc (is, same-refl p.name, ap (same_process p.name) same)), tt);
+    sent = (
+      (
+        length-map-range_with_len (λ d. unwrap_or (at None c.marks d) 0) 0 s.k,
+        λ (same : p.name ≡ ParityNode c.leader). cc (is, same-refl p.name, ap (same_process p.name) same),
+      ),
+      tt,
+    );
   }
 
   kept-does : (whole : Bool) (c : Copy) (p : Process) → Numbered p.as_leader → Does p (copy_kept whole s c p)
@@ -154,7 +179,9 @@ module _ (s : Dimensions) where
       let q : Process = apply_to s d n (begin_copy s l number block p) in
       when-does (accepts_mark p l number r d) p (mark_taken s l number block d n p) fine
       (named p q (copy_marked s d n (copy_in q.as_row.copies l number) q) (begun-same s (is_some (copy_in p.as_row.copies l number)) l number block p).1
-      (marked-does d n (copy_in q.as_row.copies l number) q (apply-fine d n (begin_copy s l number block p) (begun-fine (is_some (copy_in p.as_row.copies l number)) l number block p fine))))
+      (marked-does d n (copy_in q.as_row.copies l number) q
+      (apply-fine d n (begin_copy s l number block p)
+      (begun-fine (is_some (copy_in p.as_row.copies l number)) l number block p fine))))
 
   -- a leader opens a session
   start-does : (block : ℕ) (p : Process) → Numbered p.as_leader → Does p (start_session s block p)
@@ -184,7 +211,8 @@ module _ (s : Dimensions) where
             rise-behind p.as_leader.sessions (new_session s number block p) fine.rises
             (each-weaker (λ g. g.number ≤ p.as_leader.last_session) (λ g. g.number < number) (λ g low. omega (arith, low)) p.as_leader.sessions fine.below);
         below = each-append (λ g. g.number ≤ number) p.as_leader.sessions (new_session s number block p ∷ [])
-            (each-weaker (λ g. g.number ≤ p.as_leader.last_session) (λ g. g.number ≤ number) (λ g low. omega (arith, low)) p.as_leader.sessions fine.below) (omega arith, tt);
+            (each-weaker (λ g. g.number ≤ p.as_leader.last_session) (λ g. g.number ≤ number)
+            (λ g low. omega (arith, low)) p.as_leader.sessions fine.below) (omega arith, tt);
       }
 
       question : ℕ → Sent
@@ -192,8 +220,14 @@ module _ (s : Dimensions) where
 
       all_marks : (ls : List ℕ) → AllSound p.name (flat_map (leader_marks s l number block p) ls)
       all_marks [] = tt
-      all_marks (e ∷ ls) = each-append (λ z. RowSound s p.name z.to z.message) (leader_marks s l number block p e) (flat_map (leader_marks s l number block p) ls)
-          (each-map (λ z. RowSound s p.name z.to z.message) (λ i. record { to = ParityNode i; message = tells.Mark (session_of l number) (rank (at 0 p.ranks e)) block (partition e) (replica_of p e).applied }) (filter (λ i. not (i == l)) (rows_of s p))
+      all_marks (e ∷ ls) = each-append (λ z. RowSound s p.name z.to z.message) (leader_marks s l number block p e)
+          (flat_map (leader_marks s l number block p) ls)
+          (each-map (λ z. RowSound s p.name z.to z.message)
+          (λ i. record {
+            to = ParityNode i;
+            message = tells.Mark (session_of l number) (rank (at 0 p.ranks e)) block
+                (partition e) (replica_of p e).applied;
+          }) (filter (λ i. not (i == l)) (rows_of s p))
           (each-all (λ i. Unit {0}) (λ i. tt) (filter (λ i. not (i == l)) (rows_of s p)))) (all_marks ls)
 
   -- calls
@@ -223,7 +257,9 @@ module _ (s : Dimensions) where
     ask-does : (call : CallName) (op : Asked) (o : Option Head) → Does p (ask_head s call op (home_of (key_of op.act) s.k) p o).step
     ask-does call op None = self-does p fine
     ask-does call op (Some h) =
-        act-does call op (home_of (key_of op.act) s.k) h (decide (space_of s) h.inherited (replica_of p (home_of (key_of op.act) s.k)) op (found_at s (home_of (key_of op.act) s.k) p p.name))
+        act-does call op (home_of (key_of op.act) s.k) h
+        (decide (space_of s) h.inherited (replica_of p (home_of (key_of op.act) s.k)) op
+        (found_at s (home_of (key_of op.act) s.k) p p.name))
 
     collect-does : (caller call : ℕ) (ds : List ℕ) → Does p (collect_from caller call p ds).step
     collect-does caller call [] = self-does p fine
@@ -238,10 +274,11 @@ module _ (s : Dimensions) where
 
     stables-sound : (ds : List ℕ) → AllSound p.name (tell_stables s p ds)
     stables-sound [] = tt
-    stables-sound (d ∷ ds) = each-append (λ z. RowSound s p.name z.to z.message) (tell_stable s p d (head_at p d)) (tell_stables s p ds) (by (head_at p d)) (stables-sound ds) where
-      by : (o : Option Head) → AllSound p.name (tell_stable s p d o)
-      by None = tt
-      by (Some h) = others-sound p p.name _ (λ to. tt)
+    stables-sound (d ∷ ds) = each-append (λ z. RowSound s p.name z.to z.message) (tell_stable s p d (head_at p d))
+        (tell_stables s p ds) (by (head_at p d)) (stables-sound ds) where
+          by : (o : Option Head) → AllSound p.name (tell_stable s p d o)
+          by None = tt
+          by (Some h) = others-sound p p.name _ (λ to. tt)
 
     pub treats-does : (t : ProcessStep) → Treats s p t → Does p t
     treats-does _ (Asks call op bytes) = ask-does call op (head_at p (home_of (key_of op.act) s.k))
@@ -267,7 +304,8 @@ module _ (s : Dimensions) where
       let closed : ProcessStep = close_sessions s q.as_leader.sessions q in
       let judged : ProcessStep = and_then closed (for_each (range_with_len 0 s.k) (judge s)) in
       let closes : Does q closed = close-does q.as_leader.sessions q (forgotten-fine dead (record p { known = with_dead p.known dead }) fine) in
-      let judges : Does q judged = then-does q closed (for_each (range_with_len 0 s.k) (judge s)) closes (each-does (range_with_len 0 s.k) (judge s) closed.process judge-does closes.sessions) in
+      let judges : Does q judged = then-does q closed (for_each (range_with_len 0 s.k) (judge s)) closes
+      (each-does (range_with_len 0 s.k) (judge s) closed.process judge-does closes.sessions) in
       let all : Does q (notice_comes s dead p) = then-does q judged (for_each (range_with_len 0 s.k) (take_over_if s)) judges
       (each-does (range_with_len 0 s.k) (take_over_if s) judged.process takes-does judges.sessions) in
       named p q (notice_comes s dead p) (forgotten-name dead (record p { known = with_dead p.known dead })) all
@@ -280,25 +318,34 @@ module _ (s : Dimensions) where
       when-does (r == h.rank) p (judge s d q) fine (named p q (judge s d q) refl (judge-does d q fine))
 
   -- a question
-  read-does : (session : Session) (block : ℕ) (rows : List ℕ) (p : Process) (name : ProcessId) → Numbered p.as_leader → Does p (read_comes s session block rows p name)
+  read-does : (session : Session) (block : ℕ) (rows : List ℕ) (p : Process) (name : ProcessId) → Numbered p.as_leader
+      → Does p (read_comes s session block rows p name)
   read-does session block rows p (ParityNode i) fine = self-does p fine
   read-does session block rows p (DataNode e) fine = record {
     name = refl;
     sessions = fine;
     sent = (
       tt,
-      each-map (λ z. RowSound s p.name z.to z.message) (λ i. record { to = ParityNode i; message = tells.Mark session (rank 0) block (partition e) (replica_of p e).applied }) rows
+      each-map (λ z. RowSound s p.name z.to z.message)
+          (λ i. record {
+            to = ParityNode i;
+            message = tells.Mark session (rank 0) block (partition e)
+                (replica_of p e).applied;
+          }) rows
           (each-all (λ i. Unit {0}) (λ i. tt) rows),
     );
   }
 
   pub receive-does : (x : ProcessId) (m : Message) (p : Process) → Numbered p.as_leader → Does p (receive s x m p)
-  receive-does x (tells.Update r d u stable) p fine = when-does (nat_le (at 0 p.ranks d.0) r.0) p (ack_to x r.0 d.0 u.number (update_taken s d.0 u stable p)) fine
+  receive-does x (tells.Update r d u stable) p fine = when-does (nat_le (at 0 p.ranks d.0) r.0) p
+      (ack_to x r.0 d.0 u.number (update_taken s d.0 u stable p)) fine
       (record { name = refl; sessions = record { rises = fine.rises; below = fine.below }; sent = (tt, tt) })
   receive-does (DataNode e) (tells.Ack r d n) p fine = self-does p fine
   receive-does (ParityNode i) (tells.Ack r d n) p fine = ack-does i r.0 d.0 n (head_at p d.0) p fine
-  receive-does x (tells.Stable r d n) p fine = when-does (nat_le (at 0 p.ranks d.0) r.0) p (quiet (apply_to s d.0 n p)) fine (record { name = refl; sessions = apply-fine d.0 n p fine; sent = tt })
-  receive-does x (tells.Adopt r d base list) p fine = when-does (nat_le (at 0 p.ranks d.0) r.0) p (ack_to x r.0 d.0 (base + length list) (log_adopted s r.0 d.0 base list p)) fine
+  receive-does x (tells.Stable r d n) p fine = when-does (nat_le (at 0 p.ranks d.0) r.0) p (quiet (apply_to s d.0 n p))
+      fine (record { name = refl; sessions = apply-fine d.0 n p fine; sent = tt })
+  receive-does x (tells.Adopt r d base list) p fine = when-does (nat_le (at 0 p.ranks d.0) r.0) p
+      (ack_to x r.0 d.0 (base + length list) (log_adopted s r.0 d.0 base list p)) fine
       (record { name = refl; sessions = record { rises = fine.rises; below = fine.below }; sent = (tt, tt) })
   receive-does x (tells.ReadBlock session block rows) p fine = read-does session block rows p p.name fine
   receive-does (DataNode e) (tells.Block session bytes n) p fine = record { name = refl; sessions = block-fine e session.number bytes p fine; sent = tt }

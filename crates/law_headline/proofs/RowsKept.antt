@@ -50,7 +50,8 @@ module _ (s : Dimensions) where
       by (inl is) =
           subst (λ (y : ProcessId). Each (RowSound s y q) (w.link y q)) (sym is)
           (subst (Each (RowSound s p q)) (sym (acts.sends q qin (open_to q qin living)))
-          (each-append (RowSound s p q) (u.link p q) (sent_to q step.sent) (old.links p q pin qin (lived q qin living)) (each-sent_to (λ to m. RowSound s p to m) q step.sent sends)))
+          (each-append (RowSound s p q) (u.link p q) (sent_to q step.sent) (old.links p q pin qin (lived q qin living))
+          (each-sent_to (λ to m. RowSound s p to m) q step.sent sends)))
 
     sessions : (q : ProcessId) → IsProcess s q → w.dead q ≡ false → Numbered (w.process q).as_leader
     sessions q qin living = by (same-cases q p) where
@@ -58,7 +59,8 @@ module _ (s : Dimensions) where
       by (inl is) = subst (λ (y : Process). Numbered y.as_leader) (sym (ap w.process is ∙ acts.process)) does.sessions
       by (inr other) = subst (λ (y : Process). Numbered y.as_leader) (sym (acts.others q qin other)) (old.sessions q qin (lived q qin living))
 
-  treated : (v w : State) (p : ProcessId) (t : ProcessStep) → IsProcess s p → v.dead p ≡ false → Treats s (v.process p) t → Members s v → Members s w → RowsSound s v → Acted s v w p t → RowsSound s w
+  treated : (v w : State) (p : ProcessId) (t : ProcessStep) → IsProcess s p → v.dead p ≡ false
+      → Treats s (v.process p) t → Members s v → Members s w → RowsSound s v → Acted s v w p t → RowsSound s w
   treated v w p t pin lives treats before after old acts =
       acted-sound v w p t pin lives after acts old (before.named p pin) (treats-does s (v.process p) (old.sessions p pin lives) t treats)
 
@@ -67,12 +69,14 @@ module _ (s : Dimensions) where
   received v u w x p m xin pin lives members after old pops acts =
       acted-sound u w p (receive s x m (v.process p)) pin (pops.dead p pin ∙ lives) after acts before
       (subst (λ (y : Process). y.name ≡ p) (sym (pops.processes p pin)) (members.named p pin))
-      (subst (λ (y : Process). Does s y (receive s x m (v.process p))) (sym (pops.processes p pin)) (receive-does s x m (v.process p) (old.sessions p pin lives)))
+      (subst (λ (y : Process). Does s y (receive s x m (v.process p))) (sym (pops.processes p pin))
+      (receive-does s x m (v.process p) (old.sessions p pin lives)))
     where
       before : RowsSound s u
       before = record {
         links = links;
-        sessions = λ q qin living. subst (λ (y : Process). Numbered y.as_leader) (sym (pops.processes q qin)) (old.sessions q qin (sym (pops.dead q qin) ∙ living));
+        sessions = λ q qin living. subst (λ (y : Process). Numbered y.as_leader) (sym (pops.processes q qin))
+            (old.sessions q qin (sym (pops.dead q qin) ∙ living));
       } where
         links : (y q : ProcessId) → IsProcess s y → IsProcess s q → u.dead q ≡ false → Each (RowSound s y q) (u.link y q)
         links y q yin qin living = cases (same-cases y x) (same-cases q p) where
@@ -85,7 +89,8 @@ module _ (s : Dimensions) where
           cases : (y ≡ x) ⊎ (y ≢ x) → (q ≡ p) ⊎ (q ≢ p) → Each (RowSound s y q) (u.link y q)
           cases (inr other) _ = subst (Each (RowSound s y q)) (sym (pops.links y q yin qin (inl other))) was
           cases (inl is) (inr other) = subst (Each (RowSound s y q)) (sym (pops.links y q yin qin (inr other))) was
-          cases (inl is) (inl same) = subst (λ (z : ProcessId). Each (RowSound s z q) (u.link z q)) (sym is) (subst (λ (z : ProcessId). Each (RowSound s x z) (u.link x z)) (sym same) popped)
+          cases (inl is) (inl same) = subst (λ (z : ProcessId). Each (RowSound s z q) (u.link z q)) (sym is)
+              (subst (λ (z : ProcessId). Each (RowSound s x z) (u.link x z)) (sym same) popped)
 
   died : (v w : State) (p : ProcessId) (keep : ℕ) → IsProcess s p → RowsSound s v → Died s v w p keep → RowsSound s w
   died v w p keep pin old dies = record {
@@ -103,7 +108,8 @@ module _ (s : Dimensions) where
       by : (x ≡ p) ⊎ (x ≢ p) → Each (RowSound s x q) (w.link x q)
       by (inr from) = subst (Each (RowSound s x q)) (sym (dies.links x q xin qin from)) (old.links x q xin qin (lived q qin living))
       by (inl is) = subst (λ (y : ProcessId). Each (RowSound s y q) (w.link y q)) (sym is) (subst (Each (RowSound s p q)) (sym (dies.cut q qin))
-          (each-append (RowSound s p q) (take keep (v.link p q)) (tells.Notice p ∷ []) (each-take (RowSound s p q) keep (v.link p q) (old.links p q pin qin (lived q qin living))) (tt, tt)))
+          (each-append (RowSound s p q) (take keep (v.link p q)) (tells.Notice p ∷ [])
+          (each-take (RowSound s p q) keep (v.link p q) (old.links p q pin qin (lived q qin living))) (tt, tt)))
 
   began : (v : State) → Opens s v → RowsSound s v
   began v starts = record {
@@ -115,9 +121,11 @@ module _ (s : Dimensions) where
   keeps shaped = record {
     opens = λ v starts. ((members.keeps s shaped).opens v starts, began v starts);
     treats = λ v w p t pin up lives treats both acts.
-        let after = (members.keeps s shaped).treats v w p t pin up lives treats both.0 acts in (after, treated v w p t pin lives treats both.0 after both.1 acts);
+        let after = (members.keeps s shaped).treats v w p t pin up lives treats both.0 acts in
+        (after, treated v w p t pin lives treats both.0 after both.1 acts);
     receives = λ v u w x p m xin pin apart up lives both pops acts.
-        let after = (members.keeps s shaped).receives v u w x p m xin pin apart up lives both.0 pops acts in (after, received v u w x p m xin pin lives both.0 after both.1 pops acts);
+        let after = (members.keeps s shaped).receives v u w x p m xin pin apart up lives both.0 pops acts in
+        (after, received v u w x p m xin pin lives both.0 after both.1 pops acts);
     dies = λ v w p keep pin both dies. ((members.keeps s shaped).dies v w p keep pin both.0 dies, died v w p keep pin both.1 dies);
   }
 

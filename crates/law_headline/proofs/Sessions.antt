@@ -66,7 +66,8 @@ module _ (h : History) (calls : List Call) (shaped : IsShape h.world.shape) (who
     opens = found-rising (process_of h.world (ParityNode l)).as_leader.sessions g (rows.sessions (ParityNode l) lives.0 lives.1).rises there
 
     gathers : GatheringFollows h.world.shape (λ d. at [] h.settled d) plan g
-    gathers = (if-some (λ (x : Gathering). (g.number ≤ (process_of h.world (ParityNode l)).as_leader.last_session) × GatheringFollows h.world.shape (λ d. at [] h.settled d) plan x)
+    gathers = (if-some (λ (x : Gathering). (g.number ≤ (process_of h.world (ParityNode l)).as_leader.last_session)
+        × GatheringFollows h.world.shape (λ d. at [] h.settled d) plan x)
         (open_session (process_of h.world (ParityNode l)).as_leader g.number) g opens
         ((follows.processes (ParityNode l) lives.0 lives.1).session (whole.carried.members.named (ParityNode l) lives.0))).1
 
@@ -81,7 +82,9 @@ module _ (h : History) (calls : List Call) (shaped : IsShape h.world.shape) (who
         ∙ ap (λ (n : ℕ). value_block h.world g.block d n) (sym (number-at d both.0))
 
     -- a row of the plan's block is the code at the stamp
-    row-at : (i : ℕ) (bytes : List ℕ) → IsBlock h.world.shape plan.block (code h.world.shape i (planned (λ d. at [] h.settled d) plan)) bytes → bytes ≡ code_block h.world g.block i stamp_at
+    row-at : (i : ℕ) (bytes : List ℕ)
+        → IsBlock h.world.shape plan.block (code h.world.shape i (planned (λ d. at [] h.settled d) plan)) bytes
+        → bytes ≡ code_block h.world g.block i stamp_at
     row-at i bytes block =
         code-block h calls shaped whole shows keeps plan.block i (planned (λ d. at [] h.settled d) plan) stamp_at bytes
         (length-map-range_with_len plan.numbers 0 h.world.shape.k)
@@ -91,11 +94,13 @@ module _ (h : History) (calls : List Call) (shaped : IsShape h.world.shape) (who
         block
         ∙ ap (λ (b : ℕ). code_block h.world b i stamp_at) (sym gathers.block)
 
-    coming : (i : ℕ) (bytes stamp : List ℕ) → i < h.world.shape.m → Contains (link h.world (ParityNode i) (ParityNode l)) (tells.Row (session_of l g.number) bytes stamp)
+    coming : (i : ℕ) (bytes stamp : List ℕ) → i < h.world.shape.m
+        → Contains (link h.world (ParityNode i) (ParityNode l)) (tells.Row (session_of l g.number) bytes stamp)
         → (stamp ≡ stamp_at) × (bytes ≡ code_block h.world g.block i stamp_at)
     coming i bytes stamp below comes = (same, row-at i bytes row.1) where
       sound : RowSound h.world.shape (ParityNode i) (ParityNode l) (tells.Row (session_of l g.number) bytes stamp)
-      sound = each-contained (RowSound h.world.shape (ParityNode i) (ParityNode l)) (link h.world (ParityNode i) (ParityNode l)) (tells.Row (session_of l g.number) bytes stamp)
+      sound = each-contained (RowSound h.world.shape (ParityNode i) (ParityNode l))
+          (link h.world (ParityNode i) (ParityNode l)) (tells.Row (session_of l g.number) bytes stamp)
           (rows.links (ParityNode i) (ParityNode l) below lives.0 lives.1) comes
 
       row : RowFollows h.world.shape (λ d. at [] h.settled d) plan (ParityNode i) bytes stamp
@@ -121,7 +126,8 @@ module _ (h : History) (calls : List Call) (shaped : IsShape h.world.shape) (who
 
 pub sessions_stand_always : SessionsStandAlways
 sessions_stand_always s es run = subst SessionsHaveStamps (book-world s es)
-    (stands-at h (book_of s es).issued (shaped s (whole-always s) es run) (whole s (whole-always s) es run) (shown s (whole-always s) es run) (keeps s (whole-always s) es run) plans rows)
+    (stands-at h (book_of s es).issued (shaped s (whole-always s) es run) (whole s (whole-always s) es run)
+    (shown s (whole-always s) es run) (keeps s (whole-always s) es run) plans rows)
   where
     h : History
     h = (book_of s es).history

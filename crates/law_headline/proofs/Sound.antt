@@ -75,9 +75,11 @@ NeedsSound s p op = (h : Head) (b : ℕ) → head_at p (home_of (key_of op.act) 
 -- every move keeps it, where what calls need is so
 pub record SoundKept (s : Dimensions) : Type 0 where
   pub opens : (v : State) → Opens s v → LinksSound s v
-  pub treats : (v w : State) (p : ProcessId) (t : ProcessStep) → IsProcess s p → v.dead p ≡ false → Treats s (v.process p) t → Members s v → Members s w → HoldsBytes s v
+  pub treats : (v w : State) (p : ProcessId) (t : ProcessStep) → IsProcess s p → v.dead p ≡ false
+      → Treats s (v.process p) t → Members s v → Members s w → HoldsBytes s v
       → ((op : Asked) → NeedsSound s (v.process p) op) → LinksSound s v → Acted s v w p t → LinksSound s w
-  pub receives : (v u w : State) (x p : ProcessId) (m : Message) → IsProcess s x → IsProcess s p → x ≢ p → v.dead p ≡ false → Members s v → Members s w → HoldsBytes s v
+  pub receives : (v u w : State) (x p : ProcessId) (m : Message) → IsProcess s x → IsProcess s p → x ≢ p
+      → v.dead p ≡ false → Members s v → Members s w → HoldsBytes s v
       → LinksSound s v → Popped s v u x p m → Acted s u w p (receive s x m (v.process p)) → LinksSound s w
   pub dies : (v w : State) (p : ProcessId) (keep : ℕ) → IsProcess s p → LinksSound s v → Died s v w p keep → LinksSound s w
 

@@ -55,7 +55,9 @@ module _ (s : Dimensions) where
           let other : q ≢ p = λ (same : q ≡ p). apart (is ∙ sym same) in
           subst (λ (y : ProcessId). Each (Sound s y) (w.link y q)) (sym is)
           (subst (Each (Sound s p)) (sym (acts.sends q qin (unknown s u w p step pin lives after acts q qin other (lived q qin living))))
-          (each-append (Sound s p) (u.link p q) (sent_to q step.sent) (old.links p q pin qin (λ same. other (sym same)) (lived q qin living)) (each-sent_to (λ to m. Sound s p m) q step.sent sends)))
+          (each-append (Sound s p) (u.link p q) (sent_to q step.sent)
+          (old.links p q pin qin (λ same. other (sym same)) (lived q qin living))
+          (each-sent_to (λ to m. Sound s p m) q step.sent sends)))
 
     processes : (q : ProcessId) → IsProcess s q → w.dead q ≡ false → ProcessSound s (w.process q)
     processes q qin living = by (same-cases q p) where
@@ -63,19 +65,23 @@ module _ (s : Dimensions) where
       by (inl is) = subst (ProcessSound s) (sym (ap w.process is ∙ acts.process)) does.process
       by (inr other) = subst (ProcessSound s) (sym (acts.others q qin other)) (old.processes q qin (lived q qin living))
 
-  treated : (v w : State) (p : ProcessId) (t : ProcessStep) → IsProcess s p → v.dead p ≡ false → Treats s (v.process p) t → Members s v → Members s w → HoldsBytes s v
+  treated : (v w : State) (p : ProcessId) (t : ProcessStep) → IsProcess s p → v.dead p ≡ false
+      → Treats s (v.process p) t → Members s v → Members s w → HoldsBytes s v
       → ((op : Asked) → NeedsSound s (v.process p) op) → LinksSound s v → Acted s v w p t → LinksSound s w
   treated v w p t pin lives treats members after holds needs old acts =
       acted-sound v w p t pin lives after acts old (members.named p pin)
-      (treats-does s (v.process p) (subst (IsProcess s) (sym (members.named p pin)) pin) (holds p pin lives).space.long (old.processes p pin lives) needs t treats)
+      (treats-does s (v.process p) (subst (IsProcess s) (sym (members.named p pin)) pin) (holds p pin lives).space.long
+      (old.processes p pin lives) needs t treats)
 
-  received : (v u w : State) (x p : ProcessId) (m : Message) → IsProcess s x → IsProcess s p → x ≢ p → v.dead p ≡ false → Members s v → Members s w → HoldsBytes s v
+  received : (v u w : State) (x p : ProcessId) (m : Message) → IsProcess s x → IsProcess s p → x ≢ p → v.dead p ≡ false
+      → Members s v → Members s w → HoldsBytes s v
       → LinksSound s v → Popped s v u x p m → Acted s u w p (receive s x m (v.process p)) → LinksSound s w
   received v u w x p m xin pin apart lives members after holds old pops acts =
       acted-sound u w p (receive s x m (v.process p)) pin (pops.dead p pin ∙ lives) after acts before
       (subst (λ (y : Process). y.name ≡ p) (sym (pops.processes p pin)) (members.named p pin))
       (subst (λ (y : Process). Does s y (receive s x m (v.process p))) (sym (pops.processes p pin))
-      (receive-does s x m (v.process p) first (subst (IsTaker m) (sym (members.named p pin)) (taker v x p m may)) (holds p pin lives).space.long (old.processes p pin lives)))
+      (receive-does s x m (v.process p) first (subst (IsTaker m) (sym (members.named p pin)) (taker v x p m may))
+      (holds p pin lives).space.long (old.processes p pin lives)))
     where
       may : MayStand s v x p m
       may = (subst (Each (MayStand s v x p)) pops.first (members.may x p xin pin apart lives)).0
@@ -99,7 +105,8 @@ module _ (s : Dimensions) where
           cases : (y ≡ x) ⊎ (y ≢ x) → (q ≡ p) ⊎ (q ≢ p) → Each (Sound s y) (u.link y q)
           cases (inr other) _ = subst (Each (Sound s y)) (sym (pops.links y q yin qin (inl other))) was
           cases (inl is) (inr other) = subst (Each (Sound s y)) (sym (pops.links y q yin qin (inr other))) was
-          cases (inl is) (inl same) = subst (λ (z : ProcessId). Each (Sound s z) (u.link z q)) (sym is) (subst (λ (z : ProcessId). Each (Sound s x) (u.link x z)) (sym same) popped)
+          cases (inl is) (inl same) = subst (λ (z : ProcessId). Each (Sound s z) (u.link z q)) (sym is)
+              (subst (λ (z : ProcessId). Each (Sound s x) (u.link x z)) (sym same) popped)
 
   died : (v w : State) (p : ProcessId) (keep : ℕ) → IsProcess s p → LinksSound s v → Died s v w p keep → LinksSound s w
   died v w p keep pin old dies = record {
@@ -117,7 +124,9 @@ module _ (s : Dimensions) where
       by : (x ≡ p) ⊎ (x ≢ p) → Each (Sound s x) (w.link x q)
       by (inr from) = subst (Each (Sound s x)) (sym (dies.links x q xin qin from)) (old.links x q xin qin apart (lived q qin living))
       by (inl is) = subst (λ (y : ProcessId). Each (Sound s y) (w.link y q)) (sym is) (subst (Each (Sound s p)) (sym (dies.cut q qin))
-          (each-append (Sound s p) (take keep (v.link p q)) (tells.Notice p ∷ []) (each-take (Sound s p) keep (v.link p q) (old.links p q pin qin (λ same. others q living (sym same)) (lived q qin living))) (tt, tt)))
+          (each-append (Sound s p) (take keep (v.link p q)) (tells.Notice p ∷ [])
+          (each-take (Sound s p) keep (v.link p q)
+          (old.links p q pin qin (λ same. others q living (sym same)) (lived q qin living))) (tt, tt)))
 
   began : (v : State) → Opens s v → LinksSound s v
   began v starts = record {

@@ -1,5 +1,7 @@
 -- Every step of a process keeps its copies and sessions sound, and sends sound messages.
-use Rattle.std.proofs.Common.{◌≡◌, ℕ, suc, ◌+◌, ◌<◌, ◌==◌, ◌&&◌, nat_le, Bool, true, false, not, List, [], ◌∷◌, length, map, filter, find, flat_map, is_some, Option, Some, None, sym, ap, subst, ◌∙◌, refl, if◌then◌else◌}
+use Rattle.std.proofs.Common.{◌≡◌, ℕ, suc, ◌+◌, ◌<◌, ◌==◌, ◌&&◌, nat_le, Bool, true, false, not, List, [], ◌∷◌, length}
+use Rattle.std.proofs.Common.{map, filter, find, flat_map, is_some, Option, Some, None, sym, ap, subst, ◌∙◌, refl}
+use Rattle.std.proofs.Common.{if◌then◌else◌}
 use Rattle.std.specs.List.{list_any, range_with_len}
 use Rattle.group_types.specs.Dimensions.{Dimensions, space_of}
 use Rattle.group_types.specs.Hash.{home_of}
@@ -19,15 +21,23 @@ use Rattle.group_message.specs.declared.update.Update.{Update}
 use Rattle.group_calls.specs.Turns.{CallName}
 use Rattle.group_calls.specs.declared.decision.Decision.{Decision}
 use Rattle.group_calls.specs.declared.decision.Decision.TheVariants as decides
-use Rattle.group_run.specs.Applying.{ProcessStep, Sent, and_then, apply_to, for_each, head_at, held_at, quiet, replica_of, sending, space_after, when, with_head, with_replica}
-use Rattle.group_run.specs.Asking.{Oldest, act_on, ask_head, collect_from, collect_held, found_at, handed_out, is_call, issued, oldest_inherited, retry_block, ticketed, update_of}
+use Rattle.group_run.specs.Applying.{ProcessStep, Sent, and_then, apply_to, for_each, head_at, held_at, quiet}
+use Rattle.group_run.specs.Applying.{replica_of, sending, space_after, when, with_head, with_replica}
+use Rattle.group_run.specs.Asking.{Oldest, act_on, ask_head, collect_from, collect_held, found_at, handed_out, is_call}
+use Rattle.group_run.specs.Asking.{issued, oldest_inherited, retry_block, ticketed, update_of}
 use Rattle.group_run.specs.Deciding.{decide}
 use Rattle.group_run.specs.Heading.{acknowledge, acknowledged, judge, judge_head, other_parities, partition, rank, tell_stable, tell_stables, to_others}
-use Rattle.group_run.specs.Leaders.{block_comes, block_gathered, close_sessions, copy_kept, copy_marked, gathered_when, is_complete, leader_marks, left_of, lost_of, mark_comes, mark_taken, new_session, open_session, own_mark, row_comes, row_finished, row_gathered, rows_of, session_of, session_opened, session_starts, start_session, with_leader, without_session}
+use Rattle.group_run.specs.Leaders.{block_comes, block_gathered, close_sessions, copy_kept, copy_marked, gathered_when}
+use Rattle.group_run.specs.Leaders.{is_complete, leader_marks, left_of, lost_of, mark_comes, mark_taken, new_session}
+use Rattle.group_run.specs.Leaders.{open_session, own_mark, row_comes, row_finished, row_gathered, rows_of, session_of}
+use Rattle.group_run.specs.Leaders.{session_opened, session_starts, start_session, with_leader, without_session}
 use Rattle.group_run.specs.Process.{Copy, Gathering, Head, Held, LeaderState, Process}
-use Rattle.group_run.specs.Receiving.{ack_to, death_known, enthroned, log_adopted, notice_comes, read_comes, receive, take_over_if, taken_over, takes_over, update_taken, with_rank}
+use Rattle.group_run.specs.Receiving.{ack_to, death_known, enthroned, log_adopted, notice_comes, read_comes, receive}
+use Rattle.group_run.specs.Receiving.{take_over_if, taken_over, takes_over, update_taken, with_rank}
 use Rattle.group_run.specs.Replica.{Replica, empty_replica, up_to, with_update}
-use Rattle.group_run.specs.Rows.{accepts_mark, begin_copy, copies_ceased, copy_begun, copy_in, is_copy, is_marked, leader_forgotten, marked, new_copy, parity_number, with_copies, with_copy, without_copy}
+use Rattle.group_run.specs.Rows.{accepts_mark, begin_copy, copies_ceased, copy_begun, copy_in, is_copy, is_marked}
+use Rattle.group_run.specs.Rows.{leader_forgotten, marked, new_copy, parity_number, with_copies, with_copy}
+use Rattle.group_run.specs.Rows.{without_copy}
 use Rattle.law_moves.proofs.Moves.{Asks, Collects, Flushes, Treats}
 use Rattle.law_moves.proofs.Members.{IsParity}
 use Rattle.law_moves.proofs.Calls.{each-below}
@@ -52,10 +62,12 @@ module _ (s : Dimensions) where
     pub sent : Each (λ z. Sound s p.name z.message) t.sent
 
   -- a process with the same copies and sessions
-  same-sound : (p q : Process) → q.name ≡ p.name → q.as_row.copies ≡ p.as_row.copies → q.as_leader.sessions ≡ p.as_leader.sessions → ProcessSound s p → ProcessSound s q
+  same-sound : (p q : Process) → q.name ≡ p.name → q.as_row.copies ≡ p.as_row.copies
+      → q.as_leader.sessions ≡ p.as_leader.sessions → ProcessSound s p → ProcessSound s q
   same-sound p q name copies sessions sound = record {
     copies = subst (Each (CopySound s)) (sym copies) sound.copies;
-    sessions = subst (λ (x : ProcessId). Each (SessionSound s x) q.as_leader.sessions) (sym name) (subst (Each (SessionSound s p.name)) (sym sessions) sound.sessions);
+    sessions = subst (λ (x : ProcessId). Each (SessionSound s x) q.as_leader.sessions) (sym name)
+        (subst (Each (SessionSound s p.name)) (sym sessions) sound.sessions);
   }
 
   self-does : (p : Process) → ProcessSound s p → Does p (quiet p)
@@ -65,10 +77,12 @@ module _ (s : Dimensions) where
   then-does p a f first next = record {
     name = next.name ∙ first.name;
     process = next.process;
-    sent = each-append (λ z. Sound s p.name z.message) a.sent (f a.process).sent first.sent (subst (λ (x : ProcessId). Each (λ z. Sound s x z.message) (f a.process).sent) first.name next.sent);
+    sent = each-append (λ z. Sound s p.name z.message) a.sent (f a.process).sent first.sent
+        (subst (λ (x : ProcessId). Each (λ z. Sound s x z.message) (f a.process).sent) first.name next.sent);
   }
 
-  each-does : (xs : List ℕ) (f : ℕ → Process → ProcessStep) (p : Process) → ((x : ℕ) (q : Process) → ProcessSound s q → Does q (f x q)) → ProcessSound s p → Does p (for_each xs f p)
+  each-does : (xs : List ℕ) (f : ℕ → Process → ProcessStep) (p : Process)
+      → ((x : ℕ) (q : Process) → ProcessSound s q → Does q (f x q)) → ProcessSound s p → Does p (for_each xs f p)
   each-does [] f p all sound = self-does p sound
   each-does (x ∷ xs) f p all sound = let first = all x p sound in then-does p (f x p) (for_each xs f) first (each-does xs f (f x p).process all first.process)
 
@@ -106,7 +120,8 @@ module _ (s : Dimensions) where
       (each-filter (SessionSound s name) (λ x. not (x.number == g.number)) state.sessions all)
   gathered-sound false name g state mine all =
       each-map (SessionSound s name) (λ x. if x.number == g.number then g else x) state.sessions
-      (each-weaker (SessionSound s name) (λ x. SessionSound s name (if x.number == g.number then g else x)) (λ x sound. by (x.number == g.number) x sound) state.sessions all)
+      (each-weaker (SessionSound s name) (λ x. SessionSound s name (if x.number == g.number then g else x))
+      (λ x sound. by (x.number == g.number) x sound) state.sessions all)
     where
       by : (b : Bool) (x : Gathering) → SessionSound s name x → SessionSound s name (if b then g else x)
       by true x sound = mine
@@ -134,10 +149,12 @@ module _ (s : Dimensions) where
   with-copies : (p : Process) (cs : List Copy) → Each (CopySound s) cs → ProcessSound s p → ProcessSound s (with_copies cs p)
   with-copies p cs copies sound = record { copies = copies; sessions = sound.sessions }
 
-  begun-sound : (b : Bool) (l number block : ℕ) (p : Process) → block < s.blocks → length p.space ≡ space_of s → ProcessSound s p → ProcessSound s (copy_begun b s l number block p)
+  begun-sound : (b : Bool) (l number block : ℕ) (p : Process) → block < s.blocks → length p.space ≡ space_of s
+      → ProcessSound s p → ProcessSound s (copy_begun b s l number block p)
   begun-sound true l number block p inside long sound = sound
   begun-sound false l number block p inside long sound =
-      with-copies p _ (each-append (CopySound s) p.as_row.copies (new_copy s l number block p.space ∷ []) sound.copies (record { inside = inside; long = block-long s block p.space inside long }, tt)) sound
+      with-copies p _ (each-append (CopySound s) p.as_row.copies (new_copy s l number block p.space ∷ []) sound.copies
+      (record { inside = inside; long = block-long s block p.space inside long }, tt)) sound
 
   finished-does : (own : Bool) (c : Copy) (p : Process) → CopySound s c → ProcessSound s p → Does p (row_finished own s c p)
   finished-does true c p copy sound = record { name = refl; process = row-sound c.leader c.number c.bytes p sound; sent = tt }
@@ -156,7 +173,8 @@ module _ (s : Dimensions) where
 
     swapped : Each (CopySound s) (with_copy c p.as_row.copies)
     swapped = each-map (CopySound s) (λ x. if is_copy c.leader c.number x then c else x) p.as_row.copies
-        (each-weaker (CopySound s) (λ x. CopySound s (if is_copy c.leader c.number x then c else x)) (λ x is. by (is_copy c.leader c.number x) x is) p.as_row.copies sound.copies)
+        (each-weaker (CopySound s) (λ x. CopySound s (if is_copy c.leader c.number x then c else x))
+        (λ x is. by (is_copy c.leader c.number x) x is) p.as_row.copies sound.copies)
 
   marked-does : (l number d n : ℕ) (p : Process) → ProcessSound s p → Does p (copy_marked s d n (copy_in p.as_row.copies l number) p)
   marked-does l number d n p sound = by (copy_in p.as_row.copies l number) refl where
@@ -166,9 +184,15 @@ module _ (s : Dimensions) where
         let copy = (found-each (is_copy l number) (CopySound s) p.as_row.copies c is sound.copies).1 in
         kept-does (is_marked s (marked d n c)) (marked d n c) p (record { inside = copy.inside; long = copy.long }) sound
 
-  pub mark-does : (l number r block d n : ℕ) (p : Process) → block < s.blocks → length p.space ≡ space_of s → ProcessSound s p → Does p (mark_comes s l number r block d n p)
+  pub mark-does : (l number r block d n : ℕ) (p : Process) → block < s.blocks → length p.space ≡ space_of s
+      → ProcessSound s p → Does p (mark_comes s l number r block d n p)
   mark-does l number r block d n p inside long sound = when-does (accepts_mark p l number r d) p (mark_taken s l number block d n p) sound
-      (record { name = does.name ∙ named; process = does.process; sent = subst (λ (x : ProcessId). Each (λ z. Sound s x z.message) (copy_marked s d n (copy_in q.as_row.copies l number) q).sent) named does.sent })
+      (record {
+        name = does.name ∙ named;
+        process = does.process;
+        sent = subst (λ (x : ProcessId). Each (λ z. Sound s x z.message)
+            (copy_marked s d n (copy_in q.as_row.copies l number) q).sent) named does.sent;
+      })
     where
       q : Process
       q = apply_to s d n (begin_copy s l number block p)
@@ -177,7 +201,9 @@ module _ (s : Dimensions) where
       named = (begun-same s (is_some (copy_in p.as_row.copies l number)) l number block p).1
 
       does : Does q (copy_marked s d n (copy_in q.as_row.copies l number) q)
-      does = marked-does l number d n q (apply-sound d n (begin_copy s l number block p) (begun-sound (is_some (copy_in p.as_row.copies l number)) l number block p inside long sound))
+      does = marked-does l number d n q
+          (apply-sound d n (begin_copy s l number block p)
+          (begun-sound (is_some (copy_in p.as_row.copies l number)) l number block p inside long sound))
 
   -- a mark leaves the space as it was, but for what it applies
   finished-space : (own : Bool) (c : Copy) (p : Process) → (row_finished own s c p).process.space ≡ p.space
@@ -210,7 +236,8 @@ module _ (s : Dimensions) where
 
     none : up_to (replica_of p d).applied (replica_of b d) ≡ []
     none =
-        ap (λ (rs : List Replica). up_to (replica_of p d).applied (at empty_replica rs d)) (begun-replicas (is_some (copy_in p.as_row.copies l number)) l number block p)
+        ap (λ (rs : List Replica). up_to (replica_of p d).applied (at empty_replica rs d))
+        (begun-replicas (is_some (copy_in p.as_row.copies l number)) l number block p)
         ∙ up_to-applied (replica_of p d)
 
     same : q.space ≡ p.space
@@ -220,7 +247,8 @@ module _ (s : Dimensions) where
     by true = marked-space d (replica_of p d).applied (copy_in q.as_row.copies l number) q ∙ same
     by false = refl
 
-  owns-do : (l number block : ℕ) (ls : List ℕ) (p : Process) → block < s.blocks → length p.space ≡ space_of s → ProcessSound s p → Does p (for_each ls (own_mark s l number block) p)
+  owns-do : (l number block : ℕ) (ls : List ℕ) (p : Process) → block < s.blocks → length p.space ≡ space_of s
+      → ProcessSound s p → Does p (for_each ls (own_mark s l number block) p)
   owns-do l number block [] p inside long sound = self-does p sound
   owns-do l number block (e ∷ ls) p inside long sound =
       let first : Does p (own_mark s l number block e p) = mark-does l number (at 0 p.ranks e) block e (replica_of p e).applied p inside long sound in
@@ -233,14 +261,16 @@ module _ (s : Dimensions) where
   leads (DataNode e) there parity = absurd parity
 
   -- a leader opens a session
-  start-does : (block : ℕ) (p : Process) → IsProcess s p.name → IsParity p.name → block < s.blocks → length p.space ≡ space_of s → ProcessSound s p → Does p (start_session s block p)
+  start-does : (block : ℕ) (p : Process) → IsProcess s p.name → IsParity p.name → block < s.blocks
+      → length p.space ≡ space_of s → ProcessSound s p → Does p (start_session s block p)
   start-does block p there parity inside long sound =
       then-does p (sending (session_starts s l number block p) opened) (for_each (lost_of s p) (own_mark s l number block))
       (record {
         name = refl;
         process = open_sound;
         sent = each-append (λ z. Sound s p.name z.message) (map question (left_of s p)) (flat_map (leader_marks s l number block p) (lost_of s p))
-            (each-map (λ z. Sound s p.name z.message) question (left_of s p) (each-all (λ d. AsksSound s (session_of l number) block (rows_of s p)) (λ d. asks) (left_of s p)))
+            (each-map (λ z. Sound s p.name z.message) question (left_of s p)
+            (each-all (λ d. AsksSound s (session_of l number) block (rows_of s p)) (λ d. asks) (left_of s p)))
             (all_marks (lost_of s p));
       })
       (owns-do l number block (lost_of s p) opened inside long open_sound)
@@ -255,7 +285,11 @@ module _ (s : Dimensions) where
       opened = session_opened s number block p
 
       open_sound : ProcessSound s opened
-      open_sound = record { copies = sound.copies; sessions = each-append (SessionSound s p.name) p.as_leader.sessions (new_session s number block p ∷ []) sound.sessions (record { leader = parity; inside = inside }, tt) }
+      open_sound = record {
+        copies = sound.copies;
+        sessions = each-append (SessionSound s p.name) p.as_leader.sessions
+            (new_session s number block p ∷ []) sound.sessions (record { leader = parity; inside = inside }, tt);
+      }
 
       led : IsLed s (session_of l number)
       led = (l, refl, leads p.name there parity)
@@ -265,8 +299,13 @@ module _ (s : Dimensions) where
         leader = led;
         inside = inside;
         in_group = all-each (λ i. i < s.m) (rows_of s p)
-            (each-take (λ i. i < s.m) (length (lost_of s p)) _ (each-filter (λ i. i < s.m) (λ i. not (knows_dead p.known (ParityNode i))) (range_with_len 0 s.m) (each-below s.m)));
-        differ = differ-pairs (rows_of s p) (differ-rising (rows_of s p) (rising-take (length (lost_of s p)) _ (rising-filtered (λ i. not (knows_dead p.known (ParityNode i))) s.m)));
+            (each-take (λ i. i < s.m) (length (lost_of s p)) _
+            (each-filter (λ i. i < s.m) (λ i. not (knows_dead p.known (ParityNode i))) (range_with_len 0 s.m)
+            (each-below s.m)));
+        differ = differ-pairs (rows_of s p)
+            (differ-rising (rows_of s p)
+            (rising-take (length (lost_of s p)) _ (rising-filtered (λ i. not (knows_dead p.known (ParityNode i)))
+            s.m)));
       }
 
       question : ℕ → Sent
@@ -275,14 +314,20 @@ module _ (s : Dimensions) where
       all_marks : (ls : List ℕ) → Each (λ z. Sound s p.name z.message) (flat_map (leader_marks s l number block p) ls)
       all_marks [] = tt
       all_marks (e ∷ ls) = each-append (λ z. Sound s p.name z.message) (leader_marks s l number block p e) (flat_map (leader_marks s l number block p) ls)
-          (each-map (λ z. Sound s p.name z.message) (λ i. record { to = ParityNode i; message = tells.Mark (session_of l number) (rank (at 0 p.ranks e)) block (partition e) (replica_of p e).applied }) (filter (λ i. not (i == l)) (rows_of s p))
+          (each-map (λ z. Sound s p.name z.message)
+          (λ i. record {
+            to = ParityNode i;
+            message = tells.Mark (session_of l number) (rank (at 0 p.ranks e)) block
+                (partition e) (replica_of p e).applied;
+          }) (filter (λ i. not (i == l)) (rows_of s p))
           (each-all (λ i. IsLed s (session_of l number) × (block < s.blocks)) (λ i. (led, inside)) (filter (λ i. not (i == l)) (rows_of s p)))) (all_marks ls)
 
   -- calls
   module _ (p : Process) (there : IsProcess s p.name) (long : length p.space ≡ space_of s) (sound : ProcessSound s p) where
     retry-does : (block : ℕ) (o : Option Oldest) → IsParity p.name → block < s.blocks → Does p (retry_block s block o p).step
     retry-does block (Some o) parity inside = self-does p sound
-    retry-does block None parity inside = when-does (not (list_any (λ g. g.block == block) p.as_leader.sessions)) p (start_session s block p) sound (start-does block p there parity inside long sound)
+    retry-does block None parity inside = when-does (not (list_any (λ g. g.block == block) p.as_leader.sessions)) p
+        (start_session s block p) sound (start-does block p there parity inside long sound)
 
     ticketed-does : (b : Bool) (d : ℕ) (u : Update) (step : ProcessStep) → Does p step → Does p (ticketed b d u step).step
     ticketed-does true d u step does = does
@@ -304,7 +349,9 @@ module _ (s : Dimensions) where
         let u : Update = update_of call op d body outcome p in
         ticketed-does (nat_le u.number (replica_of (issued s d h u p).process d).applied) d u (issued s d h u p) (issued-does d h u)
 
-    ask-does : (call : CallName) (op : Asked) → NeedsSound s p op → (o : Option Head) → head_at p (home_of (key_of op.act) s.k) ≡ o → Does p (ask_head s call op (home_of (key_of op.act) s.k) p o).step
+    ask-does : (call : CallName) (op : Asked) → NeedsSound s p op → (o : Option Head)
+        → head_at p (home_of (key_of op.act) s.k) ≡ o
+        → Does p (ask_head s call op (home_of (key_of op.act) s.k) p o).step
     ask-does call op needs None is = self-does p sound
     ask-does call op needs (Some h) is =
         act-does call op (home_of (key_of op.act) s.k) h
@@ -324,10 +371,11 @@ module _ (s : Dimensions) where
 
     stables-sound : (ds : List ℕ) → Each (λ z. Sound s p.name z.message) (tell_stables s p ds)
     stables-sound [] = tt
-    stables-sound (d ∷ ds) = each-append (λ z. Sound s p.name z.message) (tell_stable s p d (head_at p d)) (tell_stables s p ds) (by (head_at p d)) (stables-sound ds) where
-      by : (o : Option Head) → Each (λ z. Sound s p.name z.message) (tell_stable s p d o)
-      by None = tt
-      by (Some h) = others-sound p _ tt
+    stables-sound (d ∷ ds) = each-append (λ z. Sound s p.name z.message) (tell_stable s p d (head_at p d))
+        (tell_stables s p ds) (by (head_at p d)) (stables-sound ds) where
+          by : (o : Option Head) → Each (λ z. Sound s p.name z.message) (tell_stable s p d o)
+          by None = tt
+          by (Some h) = others-sound p _ tt
 
     pub treats-does : ((op : Asked) → NeedsSound s p op) → (t : ProcessStep) → Treats s p t → Does p t
     treats-does needs _ (Asks call op bytes) = ask-does call op (needs op) (head_at p (home_of (key_of op.act) s.k)) refl
@@ -344,13 +392,19 @@ module _ (s : Dimensions) where
   forgotten-name (ParityNode l) p = refl
 
   ceased-sound : (l upto : ℕ) (p : Process) → ProcessSound s p → ProcessSound s (copies_ceased l upto p)
-  ceased-sound l upto p sound = record { copies = each-filter (CopySound s) (λ c. not (c.leader == l && nat_le c.number upto)) p.as_row.copies sound.copies; sessions = sound.sessions }
+  ceased-sound l upto p sound =
+      record {
+        copies = each-filter (CopySound s) (λ c. not (c.leader == l && nat_le c.number upto)) p.as_row.copies
+            sound.copies;
+        sessions = sound.sessions;
+      }
 
   close-does : (gs : List Gathering) (p : Process) → Each (SessionSound s p.name) gs → ProcessSound s p → Does p (close_sessions s gs p)
   close-does [] p all sound = self-does p sound
   close-does (g ∷ gs) p all sound = record {
     name = refl;
-    process = ceased-sound (parity_number p.name) p.as_leader.last_session (with_leader (record p.as_leader { sessions = [] }) p) (record { copies = sound.copies; sessions = tt });
+    process = ceased-sound (parity_number p.name) p.as_leader.last_session
+        (with_leader (record p.as_leader { sessions = [] }) p) (record { copies = sound.copies; sessions = tt });
     sent = others-sound p _ all.0.leader;
   }
 
@@ -362,10 +416,16 @@ module _ (s : Dimensions) where
       let named : q.name ≡ p.name = forgotten-name dead (record p { known = with_dead p.known dead }) in
       let fine : ProcessSound s q = forgotten-sound dead (record p { known = with_dead p.known dead }) (same-sound p _ refl refl refl sound) in
       let closes : Does q closed = close-does q.as_leader.sessions q fine.sessions fine in
-      let judges : Does q judged = then-does q closed (for_each (range_with_len 0 s.k) (judge s)) closes (each-does (range_with_len 0 s.k) (judge s) closed.process judge-does closes.process) in
+      let judges : Does q judged = then-does q closed (for_each (range_with_len 0 s.k) (judge s)) closes
+      (each-does (range_with_len 0 s.k) (judge s) closed.process judge-does closes.process) in
       let all : Does q (notice_comes s dead p) = then-does q judged (for_each (range_with_len 0 s.k) (take_over_if s)) judges
       (each-does (range_with_len 0 s.k) (take_over_if s) judged.process takes-does judges.process) in
-      record { name = all.name ∙ named; process = all.process; sent = subst (λ (x : ProcessId). Each (λ z. Sound s x z.message) (notice_comes s dead p).sent) named all.sent }
+      record {
+        name = all.name ∙ named;
+        process = all.process;
+        sent = subst (λ (x : ProcessId). Each (λ z. Sound s x z.message) (notice_comes s dead p).sent) named
+            all.sent;
+      }
 
   -- an acknowledgement
   ack-does : (i r d n : ℕ) (o : Option Head) (p : Process) → ProcessSound s p → Does p (acknowledge s i r d n o p)
@@ -384,26 +444,42 @@ module _ (s : Dimensions) where
     process = sound;
     sent = (
       block-long s block p.space asks.inside long,
-      each-map (λ z. Sound s p.name z.message) (λ i. record { to = ParityNode i; message = tells.Mark session (rank 0) block (partition e) (replica_of p e).applied }) rows
+      each-map (λ z. Sound s p.name z.message)
+          (λ i. record {
+            to = ParityNode i;
+            message = tells.Mark session (rank 0) block (partition e)
+                (replica_of p e).applied;
+          }) rows
           (each-all (λ i. IsLed s session × (block < s.blocks)) (λ i. (asks.leader, asks.inside)) rows),
     );
   }
 
-  pub receive-does : (x : ProcessId) (m : Message) (p : Process) → Sound s x m → IsTaker m p.name → length p.space ≡ space_of s → ProcessSound s p → Does p (receive s x m p)
-  receive-does x (tells.Update r d u stable) p carries taker long sound = when-does (nat_le (at 0 p.ranks d.0) r.0) p (ack_to x r.0 d.0 u.number (update_taken s d.0 u stable p)) sound
+  pub receive-does : (x : ProcessId) (m : Message) (p : Process) → Sound s x m → IsTaker m p.name
+      → length p.space ≡ space_of s → ProcessSound s p → Does p (receive s x m p)
+  receive-does x (tells.Update r d u stable) p carries taker long sound = when-does (nat_le (at 0 p.ranks d.0) r.0) p
+      (ack_to x r.0 d.0 u.number (update_taken s d.0 u stable p)) sound
       (record { name = refl; process = same-sound (apply_to s d.0 stable p) _ refl refl refl (apply-sound d.0 stable p sound); sent = (taker, tt) })
   receive-does (DataNode e) (tells.Ack r d n) p carries taker long sound = self-does p sound
   receive-does (ParityNode i) (tells.Ack r d n) p carries taker long sound = ack-does i r.0 d.0 n (head_at p d.0) p sound
   receive-does x (tells.Stable r d n) p carries taker long sound =
       when-does (nat_le (at 0 p.ranks d.0) r.0) p (quiet (apply_to s d.0 n p)) sound (record { name = refl; process = apply-sound d.0 n p sound; sent = tt })
-  receive-does x (tells.Adopt r d base list) p carries taker long sound = when-does (nat_le (at 0 p.ranks d.0) r.0) p (ack_to x r.0 d.0 (base + length list) (log_adopted s r.0 d.0 base list p)) sound
-      (record { name = refl; process = same-sound (apply_to s d.0 base (with_rank d.0 r.0 p)) _ refl refl refl (apply-sound d.0 base (with_rank d.0 r.0 p) (same-sound p _ refl refl refl sound)); sent = (taker, tt) })
+  receive-does x (tells.Adopt r d base list) p carries taker long sound = when-does (nat_le (at 0 p.ranks d.0) r.0) p
+      (ack_to x r.0 d.0 (base + length list) (log_adopted s r.0 d.0 base list p)) sound
+      (record {
+        name = refl;
+        process = same-sound (apply_to s d.0 base (with_rank d.0 r.0 p)) _ refl refl refl
+            (apply-sound d.0 base (with_rank d.0 r.0 p) (same-sound p _ refl refl refl sound));
+        sent = (taker, tt);
+      })
   receive-does x (tells.ReadBlock session block rows) p carries taker long sound = read-does session block rows p p.name carries long sound
-  receive-does (DataNode e) (tells.Block session bytes n) p carries taker long sound = record { name = refl; process = block-sound e session.number bytes p sound; sent = tt }
+  receive-does (DataNode e) (tells.Block session bytes n) p carries taker long sound =
+      record { name = refl; process = block-sound e session.number bytes p sound; sent = tt }
   receive-does (ParityNode i) (tells.Block session bytes n) p carries taker long sound = self-does p sound
-  receive-does x (tells.Mark session r block d n) p carries taker long sound = mark-does (parity_number session.leader) session.number r.0 block d.0 n p carries.1 long sound
+  receive-does x (tells.Mark session r block d n) p carries taker long sound = mark-does (parity_number session.leader)
+      session.number r.0 block d.0 n p carries.1 long sound
   receive-does (DataNode e) (tells.Row session bytes stamp) p carries taker long sound = self-does p sound
-  receive-does (ParityNode i) (tells.Row session bytes stamp) p carries taker long sound = record { name = refl; process = row-sound i session.number bytes p sound; sent = tt }
+  receive-does (ParityNode i) (tells.Row session bytes stamp) p carries taker long sound =
+      record { name = refl; process = row-sound i session.number bytes p sound; sent = tt }
   receive-does (DataNode e) (tells.Cease upto) p carries taker long sound = self-does p sound
   receive-does (ParityNode i) (tells.Cease upto) p carries taker long sound = record { name = refl; process = ceased-sound i upto p sound; sent = tt }
   receive-does x (tells.Notice dead) p carries taker long sound = notice-does dead p sound

@@ -54,4 +54,5 @@ found-none (Some b) bytes under is = absurd (not_bytes is) where
 pub none-missing : (s : Dimensions) (d : ℕ) (p : Process) (x : ProcessId) (i : ℕ) (run : Run) (under : List ℕ) → x ≡ ParityNode i
     → found_at s d p x run ≡ Bytes under → missing_block s d run p.as_leader ≡ None
 none-missing s d p x i run under is found =
-    found-none (missing_block s d run p.as_leader) (rebuilt_bytes s d run p.as_leader) under (subst (λ (y : ProcessId). found_at s d p y run ≡ Bytes under) is found)
+    found-none (missing_block s d run p.as_leader) (rebuilt_bytes s d run p.as_leader) under
+    (subst (λ (y : ProcessId). found_at s d p y run ≡ Bytes under) is found)

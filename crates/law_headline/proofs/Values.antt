@@ -1,5 +1,6 @@
 -- What a head issued, seen byte by byte: it changes no byte of a block that isn't rebuilt.
-use Rattle.std.proofs.Common.{ℕ, ◌≡◌, ◌<◌, ◌≤◌, ◌+◌, ◌-◌, ◌*◌, List, [], ◌∷◌, ◌++◌, length, take, drop, bit_xor, None, refl, sym, ap, subst, ◌∙◌, append_assoc, arith}
+use Rattle.std.proofs.Common.{ℕ, ◌≡◌, ◌<◌, ◌≤◌, ◌+◌, ◌-◌, ◌*◌, List, [], ◌∷◌, ◌++◌, length, take, drop, bit_xor, None}
+use Rattle.std.proofs.Common.{refl, sym, ap, subst, ◌∙◌, append_assoc, arith}
 use Rattle.std.specs.Int.Bits.{xor_zero_r}
 use Rattle.std.proofs.lemmas.List.{drop-drop, length-take-le, take-append-drop, take-take}
 use Rattle.std.proofs.Math.Seq.{drop_at}
@@ -38,11 +39,13 @@ module _ (s : Dimensions) (b x : ℕ) (inside : x < s.block) where
   value-none (u ∷ us) all = ap (λ (y : ℕ). bit_xor y (value us (b * s.block + x))) (all.0 x inside) ∙ ap (bit_xor 0) (value-none us all.1)
 
   pub value-off : (us news : List Update) → Each (StaysOff s b) news → value (us ++ news) (b * s.block + x) ≡ value us (b * s.block + x)
-  value-off us news all = value-append us news (b * s.block + x) ∙ ap (bit_xor (value us (b * s.block + x))) (value-none news all) ∙ xor_zero_r (value us (b * s.block + x))
+  value-off us news all = value-append us news (b * s.block + x) ∙ ap (bit_xor (value us (b * s.block + x)))
+      (value-none news all) ∙ xor_zero_r (value us (b * s.block + x))
 
 -- so a block that isn't rebuilt has the same values at all numbers from what the head inherited up to what it
 -- has applied
-pub off-value : (s : Dimensions) (d : ℕ) (settled : List Update) (p : Process) → (replica_of p d).applied ≤ length settled → HeadOff s d settled p → SameValues s d settled p
+pub off-value : (s : Dimensions) (d : ℕ) (settled : List Update) (p : Process) → (replica_of p d).applied
+    ≤ length settled → HeadOff s d settled p → SameValues s d settled p
 off-value s d settled p within off h b n x heads unbuilt from to inside =
     sym (ap (λ (us : List Update). value us (b * s.block + x)) whole ∙ value-off s b x inside (take n settled) mid mid-off)
   where
@@ -65,7 +68,8 @@ off-value s d settled p within off h b n x heads unbuilt from to inside =
     behind =
         ap (λ (us : List Update). drop n (us ++ log)) (sym (take-append-drop n (take c settled)))
         ∙ ap (drop n) (append_assoc (take n (take c settled)) mid log)
-        ∙ drop_at (take n (take c settled)) (mid ++ log) n (length-take-le n (take c settled) (let long = length-take-le c settled within in omega (arith, long, to)))
+        ∙ drop_at (take n (take c settled)) (mid ++ log) n
+        (length-take-le n (take c settled) (let long = length-take-le c settled within in omega (arith, long, to)))
 
     further : drop n (history settled (replica_of p d)) ≡ drop (n - h.inherited) (drop h.inherited (history settled (replica_of p d)))
     further = let split : n ≡ h.inherited + (n - h.inherited) = omega (arith, from) in
@@ -74,7 +78,9 @@ off-value s d settled p within off h b n x heads unbuilt from to inside =
     mid-off : Each (StaysOff s b) mid
     mid-off =
         each-left (StaysOff s b) mid log
-        (subst (Each (StaysOff s b)) (sym further ∙ behind) (each-drop (StaysOff s b) (n - h.inherited) (drop h.inherited (history settled (replica_of p d))) (off h b heads unbuilt)))
+        (subst (Each (StaysOff s b)) (sym further ∙ behind)
+        (each-drop (StaysOff s b) (n - h.inherited) (drop h.inherited (history settled (replica_of p d)))
+        (off h b heads unbuilt)))
 
 -- the same, as a law
 pub blocks_rest : BlocksRest

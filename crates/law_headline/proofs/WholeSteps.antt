@@ -64,8 +64,11 @@ treats-built s shaped v w p t i is pin lives treated members holds new write app
       (holding-from s w.settled (v.process p) (before-holds s v v w p t pin members (λ q qin. refl) (λ q qin. refl) (λ e. refl) acts lives holds))
 
 -- and so of one that receives a message
-pub received-built : (s : Dimensions) (v u w : State) (x p : ProcessId) (m : Message) (i : ℕ) → p ≡ ParityNode i → IsProcess s p → v.dead p ≡ false → Members s v → HoldsBytes s v → MayStand s v x p m
-    → MarksNew m (v.process p) → SettledWrite s w.settled → AppliesSettled s w.settled (v.process p) (receive s x m (v.process p)) → Popped s v u x p m → Acted s u w p (receive s x m (v.process p))
+pub received-built : (s : Dimensions) (v u w : State) (x p : ProcessId) (m : Message) (i : ℕ) → p ≡ ParityNode i
+    → IsProcess s p → v.dead p ≡ false → Members s v → HoldsBytes s v → MayStand s v x p m
+    → MarksNew m (v.process p) → SettledWrite s w.settled
+    → AppliesSettled s w.settled (v.process p) (receive s x m (v.process p)) → Popped s v u x p m
+    → Acted s u w p (receive s x m (v.process p))
     → (d : ℕ) → d < s.k → StaysBuilt d (v.process p) (receive s x m (v.process p)).process
 received-built s v u w x p m i is pin lives members holds may marks write applies pops acts d below b was = holding.there d b below was where
   named : (v.process p).name ≡ ParityNode i
@@ -73,13 +76,18 @@ received-built s v u w x p m i is pin lives members holds may marks write applie
 
   holding : Holding s w.settled (rebuilt_at (v.process p)) (receive s x m (v.process p)).process
   holding =
-      received-holds s w.settled write (rebuilt_at (v.process p)) x m (v.process p) (subst (Addresses s m) (sym (members.named p pin)) (addressed s v x p m may))
+      received-holds s w.settled write (rebuilt_at (v.process p)) x m (v.process p)
+      (subst (Addresses s m) (sym (members.named p pin)) (addressed s v x p m may))
       (parity-ready s w.settled (v.process p) i named (receive s x m (v.process p)) applies) marks applies
-      (holding-from s w.settled (v.process p) (before-holds s v u w p (receive s x m (v.process p)) pin members pops.processes pops.dead pops.settled acts lives holds))
+      (holding-from s w.settled (v.process p) (before-holds s v u w p (receive s x m (v.process p)) pin members
+      pops.processes pops.dead pops.settled acts lives holds))
 
 -- one process made a step
-module _ (s : Dimensions) (calls more : List Call) (v w : State) (p : ProcessId) (pin : IsProcess s p) (lives : v.dead p ≡ false) (reach : Reach (FineIn s calls) s v)
-    (others : (q : ProcessId) → IsProcess s q → q ≢ p → w.process q ≡ v.process q) (dead : (q : ProcessId) → IsProcess s q → w.dead q ≡ v.dead q) (begins : (d : ℕ) → d < s.k → Prolongs (v.settled d) (w.settled d)) where
+module _ (s : Dimensions) (calls more : List Call) (v w : State) (p : ProcessId) (pin : IsProcess s p)
+    (lives : v.dead p ≡ false) (reach : Reach (FineIn s calls) s v)
+    (others : (q : ProcessId) → IsProcess s q → q ≢ p → w.process q ≡ v.process q)
+    (dead : (q : ProcessId) → IsProcess s q → w.dead q ≡ v.dead q)
+    (begins : (d : ℕ) → d < s.k → Prolongs (v.settled d) (w.settled d)) where
   -- another process's history is as it was
   other-off : (i d : ℕ) → i < s.m → v.dead (ParityNode i) ≡ false → d < s.k → ParityNode i ≢ p → HeadOff s d (v.settled d) (v.process (ParityNode i))
       → HeadOff s d (w.settled d) (w.process (ParityNode i))
@@ -87,10 +95,12 @@ module _ (s : Dimensions) (calls more : List Call) (v w : State) (p : ProcessId)
       subst (λ (us : List Update). Each (StaysOff s b) (drop h.inherited us)) (sym same) (off h b heads unbuilt))
     where
       same : history (w.settled d) (replica_of (v.process (ParityNode i)) d) ≡ history (v.settled d) (replica_of (v.process (ParityNode i)) d)
-      same = history-grown (v.settled d) (replica_of (v.process (ParityNode i)) d) ((reach d below).replicas (ParityNode i) iin living tt).applied (w.settled d) (begins d below)
+      same = history-grown (v.settled d) (replica_of (v.process (ParityNode i)) d)
+          ((reach d below).replicas (ParityNode i) iin living tt).applied (w.settled d) (begins d below)
 
   -- where its own is right, all are
-  pub all-off : ((i d : ℕ) → p ≡ ParityNode i → d < s.k → HeadOff s d (v.settled d) (v.process p) → HeadOff s d (w.settled d) (w.process p)) → HeadsOff s v → HeadsOff s w
+  pub all-off : ((i d : ℕ) → p ≡ ParityNode i → d < s.k → HeadOff s d (v.settled d) (v.process p)
+      → HeadOff s d (w.settled d) (w.process p)) → HeadsOff s v → HeadsOff s w
   all-off own off i d iin living below = by (same-cases (ParityNode i) p) where
     lived : v.dead (ParityNode i) ≡ false
     lived = sym (dead (ParityNode i) iin) ∙ living
@@ -115,4 +125,5 @@ module _ (s : Dimensions) (calls more : List Call) (v w : State) (p : ProcessId)
     pub long-off : ((h : Head) → head_at (w.process p) d ≡ Some h → Long d (v.process p) (w.process p)) → StaysBuilt d (v.process p) (w.process p)
         → HeadOff s d (v.settled d) (v.process p) → HeadOff s d (w.settled d) (w.process p)
     long-off long stays off =
-        off-long s d (v.settled d) (w.settled d) (v.process p) (w.process p) was-reached.applied is-reached.applied stays long (λ h heads. (both d below).3 h heads) off
+        off-long s d (v.settled d) (w.settled d) (v.process p) (w.process p) was-reached.applied is-reached.applied
+        stays long (λ h heads. (both d below).3 h heads) off

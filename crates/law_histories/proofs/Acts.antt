@@ -1,6 +1,7 @@
 -- What a process does, told around it: its part stays, a message is taken off a link, messages are sent, an
 -- update is issued, an acknowledgement is kept.
-use Rattle.std.proofs.Common.{ℕ, ◌≡◌, ◌≢◌, ◌<◌, ◌≤◌, max, Bool, true, false, List, [], ◌∷◌, ◌++◌, length, Option, Some, None, ◌⊎◌, inl, inr, refl, sym, ap, subst, ◌∙◌, arith}
+use Rattle.std.proofs.Common.{ℕ, ◌≡◌, ◌≢◌, ◌<◌, ◌≤◌, max, Bool, true, false, List, [], ◌∷◌, ◌++◌, length, Option, Some}
+use Rattle.std.proofs.Common.{None, ◌⊎◌, inl, inr, refl, sym, ap, subst, ◌∙◌, arith}
 use Rattle.group_types.specs.Dimensions.{Dimensions}
 use Rattle.group_types.specs.Lists.{at}
 use Rattle.group_types.specs.Names.{IsProcess, of_rank}
@@ -42,7 +43,8 @@ Tells d p to (tells.Ack r e n) = e.0 ≡ d → (to ≡ of_rank d r.0) × (at 0 p
 Tells d p to (tells.Stable r e n) = e.0 ≡ d → (h : Head) × (head_at p d ≡ Some h) × (r.0 ≡ h.rank) × (n ≤ (replica_of p d).applied)
 Tells d p to (tells.ReadBlock session block rows) = Unit {0}
 Tells d p to (tells.Block session bytes n) = Unit {0}
-Tells d p to (tells.Mark session r block e n) = e.0 ≡ d → (h : Head) × (head_at p d ≡ Some h) × (r.0 ≡ h.rank) × (n ≤ (replica_of p d).applied) × (max (replica_of p d).applied h.inherited ≤ n)
+Tells d p to (tells.Mark session r block e n) = e.0 ≡ d → (h : Head) × (head_at p d ≡ Some h) × (r.0 ≡ h.rank)
+    × (n ≤ (replica_of p d).applied) × (max (replica_of p d).applied h.inherited ≤ n)
 Tells d p to (tells.Row session bytes stamp) = Unit {0}
 Tells d p to (tells.Cease upto) = Unit {0}
 Tells d p to (tells.Notice dead) = Unit {0}
@@ -60,17 +62,22 @@ tells-stale d p to (tells.Row session bytes stamp) none may = tt
 tells-stale d p to (tells.Cease upto) none may = tt
 tells-stale d p to (tells.Notice dead) none may = tt
 
-module _ (F : ℕ → ℕ → List Update → Type 0) (s : Dimensions) (v : State) (members : Members s v) (d : ℕ) (below : d < s.k) (p : ProcessId) (pin : IsProcess s p) (lives : v.dead p ≡ false) where
+module _ (F : ℕ → ℕ → List Update → Type 0) (s : Dimensions) (v : State) (members : Members s v) (d : ℕ)
+    (below : d < s.k) (p : ProcessId) (pin : IsProcess s p) (lives : v.dead p ≡ false) where
   -- its part stays
-  pub act-same : (old new : Process) (out inn : ProcessId → List Message) (settled : List Update) → SamePart d old new → Around F s v d p old out inn settled → Around F s v d p new out inn settled
+  pub act-same : (old new : Process) (out inn : ProcessId → List Message) (settled : List Update) → SamePart d old new
+      → Around F s v d p old out inn settled → Around F s v d p new out inn settled
   act-same old new out inn settled same around = record {
     own = λ keeps. subst (λ (x : Replica × Option Head). ReplicaFits F d settled x.0 x.1) (λ i. (sym same.replica i, sym same.head i)) (around.own keeps);
     sits = λ h heads. let was = around.sits h (sym same.head ∙ heads) in record { name = was.name; rank = same.rank ∙ was.rank; lower = was.lower };
     replicas = around.replicas;
     among = around.among;
     outward = λ i iin other living.
-        subst (λ (r : Replica). LaneReaches F d settled p i false (head_at new d) r (seen_at d settled (v.process (ParityNode i))) (out (ParityNode i)) (inn (ParityNode i))) (sym same.replica)
-        (subst (λ (h : Option Head). LaneReaches F d settled p i false h (replica_of old d) (seen_at d settled (v.process (ParityNode i))) (out (ParityNode i)) (inn (ParityNode i))) (sym same.head) (around.outward i iin other living));
+        subst (λ (r : Replica). LaneReaches F d settled p i false (head_at new d) r
+        (seen_at d settled (v.process (ParityNode i))) (out (ParityNode i)) (inn (ParityNode i))) (sym same.replica)
+        (subst (λ (h : Option Head). LaneReaches F d settled p i false h (replica_of old d)
+        (seen_at d settled (v.process (ParityNode i))) (out (ParityNode i)) (inn (ParityNode i))) (sym same.head)
+        (around.outward i iin other living));
     inward =
         λ x i is xin other. subst
         (λ (y : Seen). LaneReaches F d settled x i (v.dead x) (head_at (v.process x) d) (replica_of (v.process x) d) y (inn x) (out x)) (sym same_seen)
@@ -80,9 +87,16 @@ module _ (F : ℕ → ℕ → List Update → Type 0) (s : Dimensions) (v : Stat
     since = since-trans around.since (since-head d old new (replica_of old d) same.head same.replica (omega arith) (omega arith));
     unkept = λ not. same.replica ∙ around.unkept not;
     quiet = λ none. around.quiet (sym same.head ∙ none);
-    follows = λ h heads. subst (λ (r : Replica). Prolongs (history (v.settled d) (replica_of (v.process p) d)) (history settled r)) (sym same.replica) (around.follows h (sym same.head ∙ heads));
-    grew = grew-turned d (v.settled d) settled old new (λ has. record { head = has.head; heads = same.head ∙ has.heads; all = ap (λ (x : Replica). x.applied) same.replica ∙ has.all }) around.grew;
-    issued_here = λ i h iin other heads. subst (λ (x : Replica). Each (AckBelow d (last_of x)) (inn (ParityNode i))) (sym same.replica) (around.issued_here i h iin other (sym same.head ∙ heads));
+    follows = λ h heads. subst (λ (r : Replica). Prolongs (history (v.settled d) (replica_of (v.process p) d))
+        (history settled r)) (sym same.replica) (around.follows h (sym same.head ∙ heads));
+    grew = grew-turned d (v.settled d) settled old new
+        (λ has. record {
+          head = has.head;
+          heads = same.head ∙ has.heads;
+          all = ap (λ (x : Replica). x.applied) same.replica ∙ has.all;
+        }) around.grew;
+    issued_here = λ i h iin other heads. subst (λ (x : Replica). Each (AckBelow d (last_of x)) (inn (ParityNode i)))
+        (sym same.replica) (around.issued_here i h iin other (sym same.head ∙ heads));
     issued_there = around.issued_there;
     issued_else = around.issued_else;
   } where
@@ -114,16 +128,21 @@ module _ (F : ℕ → ℕ → List Update → Type 0) (s : Dimensions) (v : Stat
   } where
     issued_by : (i : ℕ) (h : Head) → i < s.m → ParityNode i ≢ p → head_at proc d ≡ Some h → (ParityNode i ≡ x) ⊎ (ParityNode i ≢ x)
         → Each (AckBelow d (last_of (replica_of proc d))) (left (ParityNode i))
-    issued_by i h iin other heads (inr apart) = subst (Each (AckBelow d (last_of (replica_of proc d)))) (sym (rest (ParityNode i) iin apart)) (around.issued_here i h iin other heads)
+    issued_by i h iin other heads (inr apart) = subst (Each (AckBelow d (last_of (replica_of proc d))))
+        (sym (rest (ParityNode i) iin apart)) (around.issued_here i h iin other heads)
     issued_by i h iin other heads (inl same) = subst (λ (z : ProcessId). Each (AckBelow d (last_of (replica_of proc d))) (left z)) (sym same)
-        (subst (Each (AckBelow d (last_of (replica_of proc d)))) first (subst (λ (z : ProcessId). Each (AckBelow d (last_of (replica_of proc d))) (inn z)) same (around.issued_here i h iin other heads))).1
+        (subst (Each (AckBelow d (last_of (replica_of proc d)))) first
+        (subst (λ (z : ProcessId). Each (AckBelow d (last_of (replica_of proc d))) (inn z)) same
+        (around.issued_here i h iin other heads))).1
 
     may_by : (y : ProcessId) → IsProcess s y → y ≢ p → (y ≡ x) ⊎ (y ≢ x) → Each (MayStand s v y p) (left y)
     may_by y yin other (inr apart) = subst (Each (MayStand s v y p)) (sym (rest y yin apart)) (around.may y yin other)
-    may_by y yin other (inl same) = subst (λ (z : ProcessId). Each (MayStand s v z p) (left z)) (sym same) (subst (Each (MayStand s v x p)) first (around.may x xin xother)).1
+    may_by y yin other (inl same) = subst (λ (z : ProcessId). Each (MayStand s v z p) (left z)) (sym same)
+        (subst (Each (MayStand s v x p)) first (around.may x xin xother)).1
 
     out_by : (i : ℕ) → i < s.m → ParityNode i ≢ p → v.dead (ParityNode i) ≡ false → (ParityNode i ≡ x) ⊎ (ParityNode i ≢ x)
-        → LaneReaches F d settled p i false (head_at proc d) (replica_of proc d) (seen_at d settled (v.process (ParityNode i))) (out (ParityNode i)) (left (ParityNode i))
+        → LaneReaches F d settled p i false (head_at proc d) (replica_of proc d)
+        (seen_at d settled (v.process (ParityNode i))) (out (ParityNode i)) (left (ParityNode i))
     out_by i iin other living (inr apart) = let lane = around.outward i iin other living in record {
       goes = lane.goes;
       ends = lane.ends;
@@ -136,33 +155,41 @@ module _ (F : ℕ → ℕ → List Update → Type 0) (s : Dimensions) (v : Stat
       kept = lane.kept;
       acks = λ alive.
           subst (λ (z : ProcessId). Each (AckFits d p (seen_at d settled (v.process (ParityNode i)))) (left z)) (sym same)
-          (subst (Each (AckFits d p (seen_at d settled (v.process (ParityNode i))))) first (subst (λ (z : ProcessId). Each (AckFits d p (seen_at d settled (v.process (ParityNode i)))) (inn z)) same (lane.acks alive))).1;
+          (subst (Each (AckFits d p (seen_at d settled (v.process (ParityNode i))))) first
+          (subst (λ (z : ProcessId). Each (AckFits d p (seen_at d settled (v.process (ParityNode i)))) (inn z)) same
+          (lane.acks alive))).1;
     }
 
     in_by : (y : ProcessId) (i : ℕ) → p ≡ ParityNode i → IsProcess s y → y ≢ p → (y ≡ x) ⊎ (y ≢ x)
         → LaneReaches F d settled y i (v.dead y) (head_at (v.process y) d) (replica_of (v.process y) d) (seen_at d settled proc) (left y) (out y)
     in_by y i is yin other (inr apart) =
         subst
-        (λ (link : List Message). LaneReaches F d settled y i (v.dead y) (head_at (v.process y) d) (replica_of (v.process y) d) (seen_at d settled proc) link (out y))
+        (λ (link : List Message). LaneReaches F d settled y i (v.dead y) (head_at (v.process y) d)
+        (replica_of (v.process y) d) (seen_at d settled proc) link (out y))
         (sym (rest y yin apart)) (around.inward y i is yin other)
     in_by y i is yin other (inl same) =
-        subst (λ (z : ProcessId). LaneReaches F d settled z i (v.dead z) (head_at (v.process z) d) (replica_of (v.process z) d) (seen_at d settled proc) (left z) (out z)) (sym same) tail where
+        subst (λ (z : ProcessId). LaneReaches F d settled z i (v.dead z) (head_at (v.process z) d)
+        (replica_of (v.process z) d) (seen_at d settled proc) (left z) (out z)) (sym same) tail where
           lane : LaneReaches F d settled x i (v.dead x) (head_at (v.process x) d) (replica_of (v.process x) d) (seen_at d settled proc) (m ∷ left x) (out x)
           lane =
               subst
-              (λ (link : List Message). LaneReaches F d settled x i (v.dead x) (head_at (v.process x) d) (replica_of (v.process x) d) (seen_at d settled proc) link (out x)) first
+              (λ (link : List Message). LaneReaches F d settled x i (v.dead x) (head_at (v.process x) d)
+              (replica_of (v.process x) d) (seen_at d settled proc) link (out x)) first
               (around.inward x i is xin xother)
 
           tail : LaneReaches F d settled x i (v.dead x) (head_at (v.process x) d) (replica_of (v.process x) d) (seen_at d settled proc) (left x) (out x)
           tail = record {
             goes = subst (λ (z : Seen). Along (next d) (Goes F d settled) z (left x)) (stays i is) lane.goes.1;
-            ends = λ alive h heads. subst (λ (z : Seen). EndsAt settled (replica_of (v.process x) d) h (run (next d) z (left x))) (stays i is) (lane.ends alive h heads);
+            ends = λ alive h heads.
+                subst (λ (z : Seen). EndsAt settled (replica_of (v.process x) d) h (run (next d) z (left x)))
+                (stays i is) (lane.ends alive h heads);
             kept = lane.kept;
             acks = lane.acks;
           }
 
   -- what is told goes, and changes nothing that is seen
-  module _ (proc : Process) (settled : List Update) (reaches : IsKeeper d p → ReplicaReaches F d settled proc) (sits : (h : Head) → head_at proc d ≡ Some h → HeadSits v d p proc h) where
+  module _ (proc : Process) (settled : List Update) (reaches : IsKeeper d p → ReplicaReaches F d settled proc)
+      (sits : (h : Head) → head_at proc d ≡ Some h → HeadSits v d p proc h) where
     -- of a head
     module _ (h : Head) (heads : head_at proc d ≡ Some h) where
       abbrev Ends : Seen → Type 0
@@ -172,10 +199,17 @@ module _ (F : ℕ → ℕ → List Update → Type 0) (s : Dimensions) (v : Stat
       is_head g e = some-same g h (sym e ∙ heads)
 
       raised-ends : (b : Bool) (n : ℕ) (seen : Seen) → Ends seen → (b ≡ true → n ≤ (replica_of proc d).applied) → Ends (raised b n seen)
-      raised-ends true n seen end low = record { rank = end.rank; history_is = end.history_is; number = let was = end.number in let most = low refl in omega (arith, was, most) }
+      raised-ends true n seen end low =
+          record {
+            rank = end.rank;
+            history_is = end.history_is;
+            number = let was = end.number in let most = low refl in
+                omega (arith, was, most);
+          }
       raised-ends false n seen end low = end
 
-      number-told : (seen : Seen) (r n : ℕ) → Ends seen → (g : Head) × (head_at proc d ≡ Some g) × (r ≡ g.rank) × (n ≤ (replica_of proc d).applied) → NumberGoes settled seen r n
+      number-told : (seen : Seen) (r n : ℕ) → Ends seen → (g : Head) × (head_at proc d ≡ Some g) × (r ≡ g.rank)
+          × (n ≤ (replica_of proc d).applied) → NumberGoes settled seen r n
       number-told seen r n end may = record {
         rank = may.2 ∙ ap (λ (x : Head). x.rank) (is_head may.0 may.1) ∙ sym end.rank;
         number_settled = let most = (reaches (keeper-rank d h.rank p (sits h heads).name)).applied in let low = may.3 in omega (arith, most, low);
@@ -187,7 +221,8 @@ module _ (F : ℕ → ℕ → List Update → Type 0) (s : Dimensions) (v : Stat
       mark-told seen r n end may = record {
         rank = may.2 ∙ ap (λ (x : Head). x.rank) (is_head may.0 may.1) ∙ sym end.rank;
         number_settled = let most = (reaches (keeper-rank d h.rank p (sits h heads).name)).applied in let low = may.3 in omega (arith, most, low);
-        above = let was = end.number in let most = may.4 in let same : may.0.inherited ≡ h.inherited = ap (λ (x : Head). x.inherited) (is_head may.0 may.1) in omega (arith, was, most, same);
+        above = let was = end.number in let most = may.4 in let same : may.0.inherited ≡ h.inherited =
+            ap (λ (x : Head). x.inherited) (is_head may.0 may.1) in omega (arith, was, most, same);
       }
 
       off-ends : (seen : Seen) (m : Message) → Ends seen → Stale d seen.rank m → Goes F d settled seen m × Ends (next d seen m)
@@ -197,17 +232,22 @@ module _ (F : ℕ → ℕ → List Update → Type 0) (s : Dimensions) (v : Stat
       tells-goes to seen (tells.Update r e u stable) end may = off-ends seen (tells.Update r e u stable) end (λ here. absurd (may here))
       tells-goes to seen (tells.Adopt r e base list) end may = off-ends seen (tells.Adopt r e base list) end (λ here. absurd (may here))
       tells-goes to seen (tells.Ack r e n) end may = (tt, end)
-      tells-goes to seen (tells.Stable r e n) end may =
-          ((λ live. number-told seen r.0 n end (may (live-parts d seen e.0 r.0 live).0)), raised-ends (is_live d seen e.0 r.0) n seen end (λ live. (may (live-parts d seen e.0 r.0 live).0).3))
+      tells-goes to seen (tells.Stable r e n) end may = (
+        (λ live. number-told seen r.0 n end (may (live-parts d seen e.0 r.0 live).0)),
+        raised-ends (is_live d seen e.0 r.0) n seen end (λ live. (may (live-parts d seen e.0 r.0 live).0).3),
+      )
       tells-goes to seen (tells.ReadBlock session block rows) end may = (tt, end)
       tells-goes to seen (tells.Block session bytes n) end may = (tt, end)
-      tells-goes to seen (tells.Mark session r block e n) end may =
-          ((λ live. mark-told seen r.0 n end (may (live-parts d seen e.0 r.0 live).0)), raised-ends (is_live d seen e.0 r.0) n seen end (λ live. (may (live-parts d seen e.0 r.0 live).0).3))
+      tells-goes to seen (tells.Mark session r block e n) end may = (
+        (λ live. mark-told seen r.0 n end (may (live-parts d seen e.0 r.0 live).0)),
+        raised-ends (is_live d seen e.0 r.0) n seen end (λ live. (may (live-parts d seen e.0 r.0 live).0).3),
+      )
       tells-goes to seen (tells.Row session bytes stamp) end may = (tt, end)
       tells-goes to seen (tells.Cease upto) end may = (tt, end)
       tells-goes to seen (tells.Notice dead) end may = (tt, end)
 
-      tells-along : (to : ProcessId) (seen : Seen) (ms : List Message) → Ends seen → Each (Tells d proc to) ms → Along (next d) (Goes F d settled) seen ms × Ends (run (next d) seen ms)
+      tells-along : (to : ProcessId) (seen : Seen) (ms : List Message) → Ends seen → Each (Tells d proc to) ms
+          → Along (next d) (Goes F d settled) seen ms × Ends (run (next d) seen ms)
       tells-along to seen [] end may = (tt, end)
       tells-along to seen (m ∷ ms) end may =
           let here = tells-goes to seen m end may.0 in
@@ -215,14 +255,22 @@ module _ (F : ℕ → ℕ → List Update → Type 0) (s : Dimensions) (v : Stat
           ((here.0, rest.0), rest.1)
 
     -- in any case
-    tells-any : (to : ProcessId) (seen : Seen) (ms : List Message) → ((h : Head) → head_at proc d ≡ Some h → EndsAt settled (replica_of proc d) h seen) → Each (Tells d proc to) ms
+    tells-any : (to : ProcessId) (seen : Seen) (ms : List Message)
+        → ((h : Head) → head_at proc d ≡ Some h → EndsAt settled (replica_of proc d) h seen) → Each (Tells d proc to) ms
         → Along (next d) (Goes F d settled) seen ms × ((h : Head) → head_at proc d ≡ Some h → EndsAt settled (replica_of proc d) h (run (next d) seen ms))
     tells-any to seen ms end may = by (head_at proc d) refl where
-      by : (o : Option Head) → head_at proc d ≡ o → Along (next d) (Goes F d settled) seen ms × ((h : Head) → head_at proc d ≡ Some h → EndsAt settled (replica_of proc d) h (run (next d) seen ms))
+      by : (o : Option Head) → head_at proc d ≡ o → Along (next d) (Goes F d settled) seen ms
+          × ((h : Head) → head_at proc d ≡ Some h → EndsAt settled (replica_of proc d) h (run (next d) seen ms))
       by (Some h) is =
           let told = tells-along h is to seen ms (end h is) may in
           (told.0, λ g e. subst (λ (x : Head). EndsAt settled (replica_of proc d) x (run (next d) seen ms)) (sym (is_head h is g e)) told.1)
-      by None is = (stale-along F d settled seen ms (each-weaker (Tells d proc to) (Stale d seen.rank) (λ m told. ranked-weaker d (λ r. r < 0) (λ r. r < seen.rank) (λ r none. absurd (omega (arith, none))) m (tells-stale d proc to m is told)) ms may), λ g e. absurd (cc (is, e)))
+      by None is = (
+        stale-along F d settled seen ms
+            (each-weaker (Tells d proc to) (Stale d seen.rank)
+            (λ m told. ranked-weaker d (λ r. r < 0) (λ r. r < seen.rank) (λ r none. absurd (omega (arith, none))) m
+            (tells-stale d proc to m is told)) ms may),
+        λ g e. absurd (cc (is, e)),
+      )
 
     tells-ack : IsKeeper d p → (to : ProcessId) (m : Message) → Tells d proc to m → AckFits d to (seen_at d settled proc) m
     tells-ack keeps to (tells.Ack r e n) may = λ here. let parts = may here in record {
@@ -251,7 +299,8 @@ module _ (F : ℕ → ℕ → List Update → Type 0) (s : Dimensions) (v : Stat
     outward = out_by;
     inward = in_by;
     silent = λ none i iin other living. each-append (Stale d 0) (out (ParityNode i)) (sent (ParityNode i)) (around.silent none i iin other living)
-        (each-weaker (Tells d proc (ParityNode i)) (Stale d 0) (λ m told. tells-stale d proc (ParityNode i) m none told) (sent (ParityNode i)) (may (ParityNode i)));
+        (each-weaker (Tells d proc (ParityNode i)) (Stale d 0) (λ m told. tells-stale d proc (ParityNode i) m none told)
+        (sent (ParityNode i)) (may (ParityNode i)));
     may = around.may;
     since = around.since;
     unkept = around.unkept;
@@ -259,8 +308,10 @@ module _ (F : ℕ → ℕ → List Update → Type 0) (s : Dimensions) (v : Stat
     follows = around.follows;
     grew = around.grew;
     issued_here = around.issued_here;
-    issued_there = λ x i h is xin other living heads. each-append (AckBelow d (last_of (replica_of (v.process x) d))) (out x) (sent x) (around.issued_there x i h is xin other living heads)
-        (each-weaker (Tells d proc x) (AckBelow d (last_of (replica_of (v.process x) d))) (λ m told. told-issued x i h is xin other living heads m told) (sent x) (may x));
+    issued_there = λ x i h is xin other living heads. each-append (AckBelow d (last_of (replica_of (v.process x) d)))
+        (out x) (sent x) (around.issued_there x i h is xin other living heads)
+        (each-weaker (Tells d proc x) (AckBelow d (last_of (replica_of (v.process x) d)))
+        (λ m told. told-issued x i h is xin other living heads m told) (sent x) (may x));
     issued_else = around.issued_else;
   } where
     -- what is acknowledged to a living head it has issued
@@ -274,7 +325,8 @@ module _ (F : ℕ → ℕ → List Update → Type 0) (s : Dimensions) (v : Stat
         let rank_same : r.0 ≡ h.rank = rank-one d r.0 h.rank (sym parts.0 ∙ from.0) in
         let begins = same-rank-begins F d settled (seen_at d settled proc) (inn x) lane.goes (end.rank ∙ sym rank_same ∙ sym parts.1) in
         let longer = begins.reaches in
-        let whole : length (run (next d) (seen_at d settled proc) (inn x)).history ≡ length (history settled (replica_of (v.process x) d)) = ap length end.history_is in
+        let whole : length (run (next d) (seen_at d settled proc) (inn x)).history
+        ≡ length (history settled (replica_of (v.process x) d)) = ap length end.history_is in
         let own = length-history settled (replica_of proc d) (around.own (subst (IsKeeper d) (sym is) tt)).applied in
         let theirs = length-history settled (replica_of (v.process x) d) (around.replicas x xin other living (keeper-rank d h.rank x from.0)).applied in
         let most = parts.2 in
@@ -290,10 +342,13 @@ module _ (F : ℕ → ℕ → List Update → Type 0) (s : Dimensions) (v : Stat
     told-issued x i h is xin other living heads (tells.Notice dead) told = tt
 
     out_by : (i : ℕ) → i < s.m → ParityNode i ≢ p → v.dead (ParityNode i) ≡ false
-        → LaneReaches F d settled p i false (head_at proc d) (replica_of proc d) (seen_at d settled (v.process (ParityNode i))) (out (ParityNode i) ++ sent (ParityNode i)) (inn (ParityNode i))
+        → LaneReaches F d settled p i false (head_at proc d) (replica_of proc d)
+        (seen_at d settled (v.process (ParityNode i))) (out (ParityNode i) ++ sent (ParityNode i))
+        (inn (ParityNode i))
     out_by i iin other living = record {
       goes = along-append (next d) (Goes F d settled) seen (out (ParityNode i)) (sent (ParityNode i)) lane.goes told.0;
-      ends = λ alive h heads. subst (EndsAt settled (replica_of proc d) h) (sym (run-append (next d) seen (out (ParityNode i)) (sent (ParityNode i)))) (told.1 h heads);
+      ends = λ alive h heads. subst (EndsAt settled (replica_of proc d) h)
+          (sym (run-append (next d) seen (out (ParityNode i)) (sent (ParityNode i)))) (told.1 h heads);
       kept = lane.kept;
       acks = lane.acks;
     } where
@@ -303,8 +358,11 @@ module _ (F : ℕ → ℕ → List Update → Type 0) (s : Dimensions) (v : Stat
       lane : LaneReaches F d settled p i false (head_at proc d) (replica_of proc d) seen (out (ParityNode i)) (inn (ParityNode i))
       lane = around.outward i iin other living
 
-      told : Along (next d) (Goes F d settled) (run (next d) seen (out (ParityNode i))) (sent (ParityNode i)) × ((h : Head) → head_at proc d ≡ Some h → EndsAt settled (replica_of proc d) h (run (next d) (run (next d) seen (out (ParityNode i))) (sent (ParityNode i))))
-      told = tells-any proc settled around.own around.sits (ParityNode i) (run (next d) seen (out (ParityNode i))) (sent (ParityNode i)) (λ h heads. lane.ends refl h heads) (may (ParityNode i))
+      told : Along (next d) (Goes F d settled) (run (next d) seen (out (ParityNode i))) (sent (ParityNode i))
+          × ((h : Head) → head_at proc d ≡ Some h → EndsAt settled (replica_of proc d) h
+          (run (next d) (run (next d) seen (out (ParityNode i))) (sent (ParityNode i))))
+      told = tells-any proc settled around.own around.sits (ParityNode i) (run (next d) seen (out (ParityNode i)))
+          (sent (ParityNode i)) (λ h heads. lane.ends refl h heads) (may (ParityNode i))
 
     in_by : (x : ProcessId) (i : ℕ) → p ≡ ParityNode i → IsProcess s x → x ≢ p
         → LaneReaches F d settled x i (v.dead x) (head_at (v.process x) d) (replica_of (v.process x) d) (seen_at d settled proc) (inn x) (out x ++ sent x)
@@ -313,5 +371,7 @@ module _ (F : ℕ → ℕ → List Update → Type 0) (s : Dimensions) (v : Stat
       ends = lane.ends;
       kept = lane.kept;
       acks = λ alive. each-append (AckFits d x (seen_at d settled proc)) (out x) (sent x) (lane.acks alive)
-          (each-weaker (Tells d proc x) (AckFits d x (seen_at d settled proc)) (λ m told. tells-ack proc settled around.own around.sits (subst (IsKeeper d) (sym is) tt) x m told) (sent x) (may x));
+          (each-weaker (Tells d proc x) (AckFits d x (seen_at d settled proc))
+          (λ m told. tells-ack proc settled around.own around.sits (subst (IsKeeper d) (sym is) tt) x m told) (sent x)
+          (may x));
     }

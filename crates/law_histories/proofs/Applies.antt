@@ -1,6 +1,7 @@
 -- What is applied is settled: the updates that a replica applies stand among the settled ones, right behind
 -- those that it had applied.
-use Rattle.std.proofs.Common.{ℕ, ◌≡◌, ◌<◌, ◌≤◌, ◌+◌, ◌-◌, max, List, [], ◌∷◌, ◌++◌, length, replicate, take, drop, Option, None, ◌⊎◌, inl, inr, refl, sym, ap, ◌∙◌, arith}
+use Rattle.std.proofs.Common.{ℕ, ◌≡◌, ◌<◌, ◌≤◌, ◌+◌, ◌-◌, max, List, [], ◌∷◌, ◌++◌, length, replicate, take, drop}
+use Rattle.std.proofs.Common.{Option, None, ◌⊎◌, inl, inr, refl, sym, ap, ◌∙◌, arith}
 use Rattle.std.proofs.Math.Seq.{take-add}
 use Rattle.std.proofs.lemmas.Bool.{cases_lt}
 use Rattle.std.proofs.lemmas.List.{drop-take, take-take}
@@ -30,7 +31,8 @@ cut-same a n whole settled low prolongs =
       by : (a < c) ⊎ (c ≤ a) → take (n - a) (drop a (take c us)) ≡ take (n - a) (drop a us)
       by (inl less) =
           let split : c ≡ a + (c - a) = omega (arith, less) in
-          ap (λ (k : ℕ). take (n - a) (drop a (take k us))) split ∙ ap (take (n - a)) (drop-take a (c - a) us) ∙ take-take (n - a) (c - a) (drop a us) (omega (arith, most))
+          ap (λ (k : ℕ). take (n - a) (drop a (take k us))) split ∙ ap (take (n - a)) (drop-take a (c - a) us)
+          ∙ take-take (n - a) (c - a) (drop a us) (omega (arith, most))
       by (inr none) =
           let zero_left : n - a ≡ 0 = omega (arith, none, most) in
           ap (λ (k : ℕ). take k (drop a (take c us))) zero_left ∙ sym (ap (λ (k : ℕ). take k (drop a us)) zero_left)
@@ -53,7 +55,8 @@ kept-append kept (u ∷ us) vs = kept-append _ us vs
 pub items-applied : (settled : List Update) (r : Replica) (n : ℕ) → r.applied ≤ length settled → Prolongs settled (history settled r) → n ≤ length settled
     → ItemsFit settled r → ItemsFit settled (applied_to n r)
 items-applied settled r n applied prolongs low holds = record {
-  items = ap (λ (items : Items). items_after items (up_to n r)) holds.items ∙ sym (items-append [] (take r.applied settled) (up_to n r)) ∙ ap (items_after []) (sym more);
+  items = ap (λ (items : Items). items_after items (up_to n r)) holds.items
+      ∙ sym (items-append [] (take r.applied settled) (up_to n r)) ∙ ap (items_after []) (sym more);
   kept =
       ap (λ (kept : List (Option Kept)). kept_after kept (up_to n r)) holds.kept
       ∙ sym (kept-append (replicate callers None) (take r.applied settled) (up_to n r)) ∙ ap (kept_after (replicate callers None)) (sym more);
@@ -71,13 +74,19 @@ items-applied settled r n applied prolongs low holds = record {
 
 -- where more is settled it holds the same
 pub items-grown : (settled more : List Update) (r : Replica) → r.applied ≤ length settled → Prolongs settled more → ItemsFit settled r → ItemsFit more r
-items-grown settled more r applied begins holds = record { items = holds.items ∙ ap (items_after []) same; kept = holds.kept ∙ ap (kept_after (replicate callers None)) same } where
-  same : take r.applied settled ≡ take r.applied more
-  same = ap (take r.applied) (sym begins.front) ∙ take-take r.applied (length settled) more applied
+items-grown settled more r applied begins holds =
+    record {
+      items = holds.items ∙ ap (items_after []) same;
+      kept = holds.kept
+          ∙ ap (kept_after (replicate callers None)) same;
+    } where
+      same : take r.applied settled ≡ take r.applied more
+      same = ap (take r.applied) (sym begins.front) ∙ take-take r.applied (length settled) more applied
 
 -- what is settled after a head settled up to a number: its history up to there, or what was settled if that
 -- is more
-pub settles-is : (d : ℕ) (settled : List Update) (r : Replica) (n : ℕ) → r.applied ≤ length settled → Prolongs settled (history settled r) → NumberedFrom 1 (history settled r) → n ≤ last_of r
+pub settles-is : (d : ℕ) (settled : List Update) (r : Replica) (n : ℕ) → r.applied ≤ length settled
+    → Prolongs settled (history settled r) → NumberedFrom 1 (history settled r) → n ≤ last_of r
     → settled_with (settlements d (up_to n r)) d settled ≡ take (max (length settled) n) (history settled r)
 settles-is d settled r n applied prolongs numbers within = by (cases_lt (length settled) n) where
   by : (length settled < n) ⊎ (n ≤ length settled) → settled_with (settlements d (up_to n r)) d settled ≡ take (max (length settled) n) (history settled r)

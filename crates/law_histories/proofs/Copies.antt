@@ -1,5 +1,6 @@
 -- A row forgets the copies of a leader with its death, and takes no mark of it any more.
-use Rattle.std.proofs.Common.{ℕ, suc, ◌≡◌, ◌≢◌, ◌==◌, nat_le, nat_lt, Bool, true, false, not, ◌&&◌, List, [], ◌∷◌, Option, Some, None, ◌⊎◌, inl, inr, refl, sym, ap, subst, ◌∙◌, if◌then◌else◌, arith}
+use Rattle.std.proofs.Common.{ℕ, suc, ◌≡◌, ◌≢◌, ◌==◌, nat_le, nat_lt, Bool, true, false, not, ◌&&◌, List, [], ◌∷◌}
+use Rattle.std.proofs.Common.{Option, Some, None, ◌⊎◌, inl, inr, refl, sym, ap, subst, ◌∙◌, if◌then◌else◌, arith}
 use Rattle.std.proofs.lemmas.Grind.{common_steps}
 use Rattle.std.specs.Prelude.{cond, filter, find, is_some}
 use Rattle.std.specs.List.{list_any, range_with_len}
@@ -22,16 +23,19 @@ use Rattle.group_calls.specs.Turns.{CallName}
 use Rattle.group_calls.specs.declared.decision.Decision.{Decision}
 use Rattle.group_calls.specs.declared.decision.Decision.TheVariants as decides
 use Rattle.group_run.specs.Applying.{ProcessStep, apply_to, block_after, copy_after, for_each, head_at, held_at, replica_of, when, with_head, with_replica}
-use Rattle.group_run.specs.Asking.{Oldest, act_on, ask_head, collect_from, collect_held, found_at, handed_out, is_call, issued, oldest_inherited, retry_block, ticketed, update_of}
+use Rattle.group_run.specs.Asking.{Oldest, act_on, ask_head, collect_from, collect_held, found_at, handed_out, is_call}
+use Rattle.group_run.specs.Asking.{issued, oldest_inherited, retry_block, ticketed, update_of}
 use Rattle.group_run.specs.Deciding.{decide}
 use Rattle.group_run.specs.Heading.{acknowledge, acknowledged, judge, judge_head, least_acked, other_parities}
 use Rattle.group_run.specs.History.{History, history_of, no_history}
-use Rattle.group_run.specs.Leaders.{close_sessions, copy_kept, copy_marked, lost_of, mark_comes, mark_taken, own_mark, row_finished, session_opened, start_session, with_leader}
+use Rattle.group_run.specs.Leaders.{close_sessions, copy_kept, copy_marked, lost_of, mark_comes, mark_taken, own_mark}
+use Rattle.group_run.specs.Leaders.{row_finished, session_opened, start_session, with_leader}
 use Rattle.group_run.specs.Meaning.{IsDrained}
 use Rattle.group_run.specs.Process.{Copy, Gathering, Head, Held, Process}
 use Rattle.group_run.specs.Receiving.{death_known, enthroned, notice_comes, read_comes, receive, take_over_if, taken_over, takes_over, with_rank}
 use Rattle.group_run.specs.Replica.{last_of, up_to, with_update}
-use Rattle.group_run.specs.Rows.{accepts_mark, begin_copy, copies_ceased, copy_begun, copy_in, is_copy, is_marked, marked, parity_number, with_copies, without_copy}
+use Rattle.group_run.specs.Rows.{accepts_mark, begin_copy, copies_ceased, copy_begun, copy_in, is_copy, is_marked}
+use Rattle.group_run.specs.Rows.{marked, parity_number, with_copies, without_copy}
 use Rattle.group_run.specs.World.{after}
 use Rattle.law_moves.proofs.Moves.{Asks, Collects, Flushes, Keeps, Treats}
 use Rattle.law_moves.specs.State.{State, state_of}
@@ -47,7 +51,8 @@ use Rattle.law_histories.proofs.Finished.{living-by}
 each-passing : (test : Copy → Bool) (P : Copy → Type 0) (xs : List Copy) → Each P xs → Each (λ x. P x × (test x ≡ true)) (filter test xs)
 each-passing test P [] all = tt
 each-passing test P (x ∷ xs) all = by (test x) refl (each-passing test P xs all.1) where
-  by : (b : Bool) → test x ≡ b → Each (λ y. P y × (test y ≡ true)) (filter test xs) → Each (λ y. P y × (test y ≡ true)) (cond b (x ∷ filter test xs) (filter test xs))
+  by : (b : Bool) → test x ≡ b → Each (λ y. P y × (test y ≡ true)) (filter test xs)
+      → Each (λ y. P y × (test y ≡ true)) (cond b (x ∷ filter test xs) (filter test xs))
   by true passes rest = ((all.0, passes), rest)
   by false fails rest = rest
 
@@ -72,7 +77,8 @@ module _ (s : Dimensions) where
   spared-apply : (d n : ℕ) (p : Process) → IsSpared p → IsSpared (apply_to s d n p)
   spared-apply d n p spared =
       each-map (λ c. knows_dead p.known (ParityNode c.leader) ≡ false) (copy_after s p.name d (up_to n (replica_of p d))) p.as_row.copies
-      (each-weaker (λ c. knows_dead p.known (ParityNode c.leader) ≡ false) (λ c. knows_dead p.known (ParityNode (copy_after s p.name d (up_to n (replica_of p d)) c).leader) ≡ false)
+      (each-weaker (λ c. knows_dead p.known (ParityNode c.leader) ≡ false)
+      (λ c. knows_dead p.known (ParityNode (copy_after s p.name d (up_to n (replica_of p d)) c).leader) ≡ false)
       (λ c is. ap (λ (l : ℕ). knows_dead p.known (ParityNode l)) (leader-after s p.name d (up_to n (replica_of p d)) c) ∙ is) p.as_row.copies spared)
 
   spared-judge_head : (d : ℕ) (o : Option Head) (p : Process) → IsSpared p → IsSpared (judge_head s d p o).process
@@ -86,14 +92,18 @@ module _ (s : Dimensions) where
   spared-when true p t spared turned = turned refl
   spared-when false p t spared turned = spared
 
-  spared-each : (xs : List ℕ) (f : ℕ → Process → ProcessStep) → ((x : ℕ) (q : Process) → IsSpared q → IsSpared (f x q).process) → (p : Process) → IsSpared p → IsSpared (for_each xs f p).process
+  spared-each : (xs : List ℕ) (f : ℕ → Process → ProcessStep)
+      → ((x : ℕ) (q : Process) → IsSpared q → IsSpared (f x q).process) → (p : Process) → IsSpared p
+      → IsSpared (for_each xs f p).process
   spared-each [] f each p spared = spared
   spared-each (x ∷ xs) f each p spared = spared-each xs f each (f x p).process (each x p spared)
 
   -- marks
-  spared-begun : (b : Bool) (leader number block : ℕ) (p : Process) → knows_dead p.known (ParityNode leader) ≡ false → IsSpared p → IsSpared (copy_begun b s leader number block p)
+  spared-begun : (b : Bool) (leader number block : ℕ) (p : Process) → knows_dead p.known (ParityNode leader) ≡ false
+      → IsSpared p → IsSpared (copy_begun b s leader number block p)
   spared-begun true leader number block p known spared = spared
-  spared-begun false leader number block p known spared = each-append (λ c. knows_dead p.known (ParityNode c.leader) ≡ false) p.as_row.copies _ spared (known, tt)
+  spared-begun false leader number block p known spared =
+      each-append (λ c. knows_dead p.known (ParityNode c.leader) ≡ false) p.as_row.copies _ spared (known, tt)
 
   spared-row : (b : Bool) (c : Copy) (p : Process) → IsSpared p → IsSpared (row_finished b s c p).process
   spared-row true c p spared = spared
@@ -105,14 +115,17 @@ module _ (s : Dimensions) where
       (each-left (λ x. not (is_copy c.leader c.number x)) (λ x. knows_dead p.known (ParityNode x.leader) ≡ false) p.as_row.copies spared)
   spared-kept false c p known spared =
       each-map (λ x. knows_dead p.known (ParityNode x.leader) ≡ false) (λ x. if is_copy c.leader c.number x then c else x) p.as_row.copies
-      (each-weaker (λ x. knows_dead p.known (ParityNode x.leader) ≡ false) (λ x. knows_dead p.known (ParityNode (if is_copy c.leader c.number x then c else x).leader) ≡ false)
+      (each-weaker (λ x. knows_dead p.known (ParityNode x.leader) ≡ false)
+      (λ x. knows_dead p.known (ParityNode (if is_copy c.leader c.number x then c else x).leader) ≡ false)
       (λ x is. by x (is_copy c.leader c.number x) is) p.as_row.copies spared)
     where
       by : (x : Copy) (b : Bool) → knows_dead p.known (ParityNode x.leader) ≡ false → knows_dead p.known (ParityNode (if b then c else x).leader) ≡ false
       by x true is = known
       by x false is = is
 
-  spared-marked : (d n : ℕ) (o : Option Copy) (p : Process) → ((c : Copy) → o ≡ Some c → knows_dead p.known (ParityNode c.leader) ≡ false) → IsSpared p → IsSpared (copy_marked s d n o p).process
+  spared-marked : (d n : ℕ) (o : Option Copy) (p : Process)
+      → ((c : Copy) → o ≡ Some c → knows_dead p.known (ParityNode c.leader) ≡ false) → IsSpared p
+      → IsSpared (copy_marked s d n o p).process
   spared-marked d n None p known spared = spared
   spared-marked d n (Some c) p known spared = spared-kept (is_marked s (marked d n c)) (marked d n c) p (known c refl) spared
 
@@ -125,14 +138,17 @@ module _ (s : Dimensions) where
 
     taken : accepts_mark p leader number r d ≡ true → IsSpared (mark_taken s leader number block d n p).process
     taken accepts =
-        let known : knows_dead p.known (ParityNode leader) ≡ false = middle (r == at 0 p.ranks d) (knows_dead p.known (ParityNode leader)) (nat_lt (at 0 p.as_row.ceased leader) number) accepts in
+        let known : knows_dead p.known (ParityNode leader) ≡ false =
+        middle (r == at 0 p.ranks d) (knows_dead p.known (ParityNode leader))
+        (nat_lt (at 0 p.as_row.ceased leader) number) accepts in
         marks (begin_copy s leader number block p) (spared-begun (is_some (copy_in p.as_row.copies leader number)) leader number block p known spared)
       where
         marks : (q : Process) → IsSpared q → IsSpared (copy_marked s d n (copy_in (apply_to s d n q).as_row.copies leader number) (apply_to s d n q)).process
         marks q begun =
             let after_apply = spared-apply d n q begun in
             spared-marked d n (copy_in (apply_to s d n q).as_row.copies leader number) (apply_to s d n q)
-            (λ c found. found-one (is_copy leader number) (λ x. knows_dead q.known (ParityNode x.leader) ≡ false) (apply_to s d n q).as_row.copies c found after_apply) after_apply
+            (λ c found. found-one (is_copy leader number) (λ x. knows_dead q.known (ParityNode x.leader) ≡ false)
+            (apply_to s d n q).as_row.copies c found after_apply) after_apply
 
   spared-session : (block : ℕ) (p : Process) → IsSpared p → IsSpared (start_session s block p).process
   spared-session block p spared = spared-each (lost_of s p) (own_mark s (parity_number p.name) (suc p.as_leader.last_session) block)
@@ -142,20 +158,23 @@ module _ (s : Dimensions) where
   -- calls
   spared-retry : (b : ℕ) (o : Option Oldest) (p : Process) → IsSpared p → IsSpared (retry_block s b o p).step.process
   spared-retry b (Some o) p spared = spared
-  spared-retry b None p spared = spared-when (not (list_any (λ g. g.block == b) p.as_leader.sessions)) p (start_session s b p) spared (λ is. spared-session b p spared)
+  spared-retry b None p spared = spared-when (not (list_any (λ g. g.block == b) p.as_leader.sessions)) p
+      (start_session s b p) spared (λ is. spared-session b p spared)
 
   spared-ticketed : (b : Bool) (d : ℕ) (u : Update) (t : ProcessStep) → IsSpared t.process → IsSpared (ticketed b d u t).step.process
   spared-ticketed true d u t spared = spared
   spared-ticketed false d u t spared = spared
 
-  spared-act : (name : CallName) (op : Asked) (d : ℕ) (h : Head) (p : Process) (decision : Decision) → IsSpared p → IsSpared (act_on s name op d h p decision).step.process
+  spared-act : (name : CallName) (op : Asked) (d : ℕ) (h : Head) (p : Process) (decision : Decision) → IsSpared p
+      → IsSpared (act_on s name op d h p decision).step.process
   spared-act name op d h p (decides.Answer r) spared = spared
   spared-act name op d h p (decides.Retry n) spared = spared
   spared-act name op d h p decides.NoSpace spared = spared
   spared-act name op d h p (decides.NeedBlock b) spared = spared-retry b (oldest_inherited p (range_with_len 0 s.k)) p spared
   spared-act name op d h p (decides.Issue body outcome) spared =
       let u : Update = update_of name op d body outcome p in
-      spared-ticketed (nat_le u.number (replica_of (issued s d h u p).process d).applied) d u (issued s d h u p) (spared-judge d (with_replica d (with_update u (replica_of p d)) p) spared)
+      spared-ticketed (nat_le u.number (replica_of (issued s d h u p).process d).applied) d u (issued s d h u p)
+      (spared-judge d (with_replica d (with_update u (replica_of p d)) p) spared)
 
   spared-ask : (name : CallName) (op : Asked) (d : ℕ) (p : Process) (o : Option Head) → IsSpared p → IsSpared (ask_head s name op d p o).step.process
   spared-ask name op d p None spared = spared
@@ -181,37 +200,46 @@ module _ (s : Dimensions) where
   spared-known : (x : ProcessId) (p : Process) → IsSpared p → IsSpared (death_known x p)
   spared-known (DataNode e) p spared = spared
   spared-known (ParityNode l) p spared =
-      each-weaker (λ c. (knows_dead p.known (ParityNode c.leader) ≡ false) × (not (c.leader == l) ≡ true)) (λ c. knows_dead (with_dead p.known (ParityNode l)) (ParityNode c.leader) ≡ false)
+      each-weaker (λ c. (knows_dead p.known (ParityNode c.leader) ≡ false) × (not (c.leader == l) ≡ true))
+      (λ c. knows_dead (with_dead p.known (ParityNode l)) (ParityNode c.leader) ≡ false)
       (λ c both. knows-other p.known (ParityNode l) (ParityNode c.leader) (apart c.leader both.1) ∙ both.0)
-      (filter (λ c. not (c.leader == l)) p.as_row.copies) (each-passing (λ c. not (c.leader == l)) (λ c. knows_dead p.known (ParityNode c.leader) ≡ false) p.as_row.copies spared)
+      (filter (λ c. not (c.leader == l)) p.as_row.copies)
+      (each-passing (λ c. not (c.leader == l)) (λ c. knows_dead p.known (ParityNode c.leader) ≡ false) p.as_row.copies
+      spared)
     where
       apart : (n : ℕ) → not (n == l) ≡ true → ParityNode n ≢ ParityNode l
       apart n test same = let equal : n ≡ l = cc same in let is : (n == l) ≡ true = grind (arith, common_steps) in cc (test, ap not is)
 
   spared-ceased : (leader upto : ℕ) (p : Process) → IsSpared p → IsSpared (copies_ceased leader upto p)
-  spared-ceased leader upto p spared = each-left (λ c. not (c.leader == leader && nat_le c.number upto)) (λ c. knows_dead p.known (ParityNode c.leader) ≡ false) p.as_row.copies spared
+  spared-ceased leader upto p spared = each-left (λ c. not (c.leader == leader && nat_le c.number upto))
+      (λ c. knows_dead p.known (ParityNode c.leader) ≡ false) p.as_row.copies spared
 
   spared-close : (gs : List Gathering) (p : Process) → IsSpared p → IsSpared (close_sessions s gs p).process
   spared-close [] p spared = spared
   spared-close (g ∷ gs) p spared = spared-ceased (parity_number p.name) p.as_leader.last_session (with_leader (record p.as_leader { sessions = [] }) p) spared
 
   spared-take : (d : ℕ) (p : Process) → IsSpared p → IsSpared (take_over_if s d p).process
-  spared-take d p spared = spared-when (takes_over p d p.name) p (taken_over s d p) spared (λ is. spared-judge d (enthroned s (suc (parity_number p.name)) d p) spared)
+  spared-take d p spared = spared-when (takes_over p d p.name) p (taken_over s d p) spared
+      (λ is. spared-judge d (enthroned s (suc (parity_number p.name)) d p) spared)
 
   spared-notice : (x : ProcessId) (p : Process) → IsSpared p → IsSpared (notice_comes s x p).process
   spared-notice x p spared =
       let q : Process = death_known x p in
-      spared-each (range_with_len 0 s.k) (take_over_if s) spared-take _ (spared-each (range_with_len 0 s.k) (judge s) spared-judge _ (spared-close q.as_leader.sessions q (spared-known x p spared)))
+      spared-each (range_with_len 0 s.k) (take_over_if s) spared-take _
+      (spared-each (range_with_len 0 s.k) (judge s) spared-judge _
+      (spared-close q.as_leader.sessions q (spared-known x p spared)))
 
   spared-ack : (i r d n : ℕ) (o : Option Head) (p : Process) → IsSpared p → IsSpared (acknowledge s i r d n o p).process
   spared-ack i r d n None p spared = spared
   spared-ack i r d n (Some h) p spared =
-      spared-when (r == h.rank) p (judge s d (with_head d (Some (acknowledged i n h)) p)) spared (λ is. spared-judge d (with_head d (Some (acknowledged i n h)) p) spared)
+      spared-when (r == h.rank) p (judge s d (with_head d (Some (acknowledged i n h)) p)) spared
+      (λ is. spared-judge d (with_head d (Some (acknowledged i n h)) p) spared)
 
   -- a message
   spared-receives : (x : ProcessId) (m : Message) (p : Process) → IsSpared p → IsSpared (receive s x m p).process
   spared-receives x (tells.Update r d u stable) p spared = spared-when (nat_le (at 0 p.ranks d.0) r.0) p _ spared (λ is. spared-apply d.0 stable p spared)
-  spared-receives x (tells.Adopt r d base list) p spared = spared-when (nat_le (at 0 p.ranks d.0) r.0) p _ spared (λ is. spared-apply d.0 base (with_rank d.0 r.0 p) spared)
+  spared-receives x (tells.Adopt r d base list) p spared = spared-when (nat_le (at 0 p.ranks d.0) r.0) p _ spared
+      (λ is. spared-apply d.0 base (with_rank d.0 r.0 p) spared)
   spared-receives x (tells.Stable r d n) p spared = spared-when (nat_le (at 0 p.ranks d.0) r.0) p _ spared (λ is. spared-apply d.0 n p spared)
   spared-receives (DataNode e) (tells.Ack r d n) p spared = spared
   spared-receives (ParityNode i) (tells.Ack r d n) p spared = spared-ack i r.0 d.0 n (head_at p d.0) p spared
@@ -232,7 +260,8 @@ module _ (s : Dimensions) where
   abbrev pub AllSpared : State → Type 0
   AllSpared v = (p : ProcessId) → IsProcess s p → IsSpared (v.process p)
 
-  one-spared : (v w : State) (p : ProcessId) → ((q : ProcessId) → IsProcess s q → q ≢ p → w.process q ≡ v.process q) → IsSpared (w.process p) → AllSpared v → AllSpared w
+  one-spared : (v w : State) (p : ProcessId) → ((q : ProcessId) → IsProcess s q → q ≢ p → w.process q ≡ v.process q)
+      → IsSpared (w.process p) → AllSpared v → AllSpared w
   one-spared v w p others spared all q qin = by (same-cases q p) where
     by : (q ≡ p) ⊎ (q ≢ p) → IsSpared (w.process q)
     by (inl same) = subst (λ (y : ProcessId). IsSpared (w.process y)) (sym same) spared
@@ -241,7 +270,8 @@ module _ (s : Dimensions) where
   keeps-spared : Keeps s AllSpared
   keeps-spared = record {
     opens = λ v starts p pin. subst IsSpared (sym (starts.process p pin)) tt;
-    treats = λ v w p t pin up lives treated all acts. one-spared v w p acts.others (subst IsSpared (sym acts.process) (spared-treats (v.process p) t treated (all p pin))) all;
+    treats = λ v w p t pin up lives treated all acts. one-spared v w p acts.others
+        (subst IsSpared (sym acts.process) (spared-treats (v.process p) t treated (all p pin))) all;
     receives =
         λ v u w x p m xin pin apart up lives all pops acts. one-spared v w p (λ q qin other. acts.others q qin other ∙ pops.processes q qin)
         (subst IsSpared (sym acts.process) (spared-receives x m (v.process p) (all p pin))) all;
@@ -259,11 +289,14 @@ forgotten h members all drained i l lives lin dead =
 
     knows : knows_dead ((state_of h).process (ParityNode i)).known (ParityNode l) ≡ true
     knows = by (knows_dead ((state_of h).process (ParityNode i)).known (ParityNode l)) refl where
-      by : (b : Bool) → knows_dead ((state_of h).process (ParityNode i)).known (ParityNode l) ≡ b → knows_dead ((state_of h).process (ParityNode i)).known (ParityNode l) ≡ true
+      by : (b : Bool) → knows_dead ((state_of h).process (ParityNode i)).known (ParityNode l) ≡ b
+          → knows_dead ((state_of h).process (ParityNode i)).known (ParityNode l) ≡ true
       by true is = is
       by false is = absurd (cc (
         dead,
-        living-by (ParityNode l) ((state_of h).dead (ParityNode l)) (knows_dead ((state_of h).process (ParityNode i)).known (ParityNode l)) ((state_of h).link (ParityNode l) (ParityNode i))
+        living-by (ParityNode l) ((state_of h).dead (ParityNode l))
+            (knows_dead ((state_of h).process (ParityNode i)).known (ParityNode l))
+            ((state_of h).link (ParityNode l) (ParityNode i))
             (members.stands (ParityNode l) (ParityNode i) lin lives.0 apart lives.1) is (drained (ParityNode l) (ParityNode i) lin lives apart),
       ))
 
@@ -273,4 +306,5 @@ forgotten_always s es run drained =
     let same : h.world ≡ after s es = world-from (no_history s) es in
     let shape : h.world.shape ≡ s = shape-from (no_history s) es in
     subst DeadForgotten same (forgotten h (subst (λ (t : Dimensions). Members t (state_of h)) (sym shape) (members_always s es run))
-    (subst (λ (t : Dimensions). AllSpared t (state_of h)) (sym shape) (holds_always s (AllSpared s) (keeps-spared s) es run)) (subst IsDrained (sym same) drained))
+    (subst (λ (t : Dimensions). AllSpared t (state_of h)) (sym shape)
+    (holds_always s (AllSpared s) (keeps-spared s) es run)) (subst IsDrained (sym same) drained))

@@ -1,5 +1,6 @@
 -- What acknowledgements tell holds along every run; so where all are delivered a head has settled all its log.
-use Rattle.std.proofs.Common.{ℕ, zero, suc, ◌≡◌, ◌≢◌, ◌<◌, ◌≤◌, ◌+◌, Bool, true, false, not, ◌&&◌, List, [], ◌∷◌, ◌++◌, length, Option, Some, None, inl, inr, refl, sym, ap, subst, ◌∙◌, arith}
+use Rattle.std.proofs.Common.{ℕ, zero, suc, ◌≡◌, ◌≢◌, ◌<◌, ◌≤◌, ◌+◌, Bool, true, false, not, ◌&&◌, List, [], ◌∷◌, ◌++◌}
+use Rattle.std.proofs.Common.{length, Option, Some, None, inl, inr, refl, sym, ap, subst, ◌∙◌, arith}
 use Rattle.std.specs.Prelude.{cond, filter, unwrap_or}
 use Rattle.std.specs.List.{range_with_len}
 use Rattle.group_types.specs.Dimensions.{Dimensions}
@@ -39,10 +40,16 @@ use Rattle.law_histories.proofs.Folds.{run}
 pub keeps-told : (s : Dimensions) → IsShape s → Keeps s (λ v. Reached s v × Told s v)
 keeps-told s shaped = record {
   opens = λ v starts. ((keeps_reach s shaped).opens v starts, told-opens s shaped v starts);
-  treats = λ v w p t pin up lives treated both acts. ((keeps_reach s shaped).treats v w p t pin up lives treated both.0 acts, told-treats s shaped v w p t pin up lives treated both.0 both.1 acts);
+  treats = λ v w p t pin up lives treated both acts. (
+    (keeps_reach s shaped).treats v w p t pin up lives treated both.0 acts,
+    told-treats s shaped v w p t pin up lives
+        treated both.0 both.1 acts,
+  );
   receives =
-      λ v u w x p m xin pin apart up lives both pops acts.
-      ((keeps_reach s shaped).receives v u w x p m xin pin apart up lives both.0 pops acts, told-receives s shaped v u w x p xin pin apart up lives both.0 both.1 m pops acts);
+      λ v u w x p m xin pin apart up lives both pops acts. (
+        (keeps_reach s shaped).receives v u w x p m xin pin apart up lives both.0 pops acts,
+        told-receives s shaped v u w x p xin pin apart up lives both.0 both.1 m pops acts,
+      );
   dies = λ v w p keep pin both died. ((keeps_reach s shaped).dies v w p keep pin both.0 died, told-dies s shaped v w p keep pin both.1 died);
 }
 
@@ -54,7 +61,9 @@ abbrev pub IsEmpty : Dimensions → State → Type 0
 IsEmpty s v = (from to : ProcessId) → IsProcess s from → IsProcess s to → v.dead to ≡ false → from ≢ to → v.link from to ≡ []
 
 -- the least of numbers none of which is lower
-least-all : (h : Head) (last : ℕ) (test : ℕ → Bool) (a n : ℕ) → ((i : ℕ) → a ≤ i → i < a + n → test i ≡ true → last ≤ acked_by h i) → last ≤ least_acked h last (filter test (range_with_len a n))
+least-all : (h : Head) (last : ℕ) (test : ℕ → Bool) (a n : ℕ)
+    → ((i : ℕ) → a ≤ i → i < a + n → test i ≡ true → last ≤ acked_by h i)
+    → last ≤ least_acked h last (filter test (range_with_len a n))
 least-all h last test a zero all = omega arith
 least-all h last test a (suc n) all = by (test a) refl (least-all h last test (a + 1) n (λ i low high. all i (omega (arith, low)) (omega (arith, high)))) where
   by : (b : Bool) → test a ≡ b → last ≤ least_acked h last (filter test (range_with_len (a + 1) n))
@@ -92,7 +101,9 @@ module _ (s : Dimensions) (v : State) (reached : Reached s v) (told : Told s v) 
     -- it has acknowledged all that the head has
     pub told-all : IsTold h.rank (at None h.acks i) (last_of (replica_of (v.process p) d))
     told-all = subst (IsTold h.rank (at None h.acks i)) same
-        (subst (λ (ms : List Message). IsTold h.rank (newest d (at None h.acks i) ms) (last_of (replica_of (v.process (ParityNode i)) d))) (empty (ParityNode i) p iin pin lives (λ k. other (sym k)))
+        (subst (λ (ms : List Message). IsTold h.rank (newest d (at None h.acks i) ms)
+        (last_of (replica_of (v.process (ParityNode i)) d)))
+        (empty (ParityNode i) p iin pin lives (λ k. other (sym k)))
         (told.acks p i d pin iin other lives lives-too below h heads ends.rank))
       where
         same : last_of (replica_of (v.process (ParityNode i)) d) ≡ last_of (replica_of (v.process p) d)
@@ -125,7 +136,12 @@ module _ (s : Dimensions) (v : State) (reached : Reached s v) (told : Told s v) 
       each : (i : ℕ) → 0 ≤ i → i < 0 + s.m → test i ≡ true → last_of (replica_of (v.process p) d) ≤ acked_by h i
       each i low high passes =
           let both = parts (same_process (v.process p).name (ParityNode i)) (knows_dead (v.process p).known (ParityNode i)) passes in
-          acked-all i (omega (arith, high)) (λ same. cc (both.0, ap (λ (y : ProcessId). same_process y (ParityNode i)) (reached.0.named p pin ∙ same), same-refl (ParityNode i))) both.1
+          acked-all i (omega (arith, high))
+          (λ same. cc (
+            both.0,
+            ap (λ (y : ProcessId). same_process y (ParityNode i)) (reached.0.named p pin ∙ same),
+            same-refl (ParityNode i),
+          )) both.1
 
       nothing : (us : List Update) → length us ≡ 0 → us ≡ []
       nothing [] none = refl

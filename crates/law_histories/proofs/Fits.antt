@@ -115,7 +115,8 @@ module _ (F : ℕ → ℕ → List Update → Type 0) (s : Dimensions) (v : Stat
         told-by e.0 r.0 x may.0,
         λ low.
             let both = goes-first (tells.Update r e u stable) rest first e.0 may.0.1.partition may.1 in
-            update-numbers F e.0 (v.settled e.0) (v.process p) both.1 r.0 stable u (both.0 (live-is e.0 (seen_at e.0 (v.settled e.0) (v.process p)) e.0 r.0 refl low)),
+            update-numbers F e.0 (v.settled e.0) (v.process p) both.1 r.0 stable u
+            (both.0 (live-is e.0 (seen_at e.0 (v.settled e.0) (v.process p)) e.0 r.0 refl low)),
       )
   fits-numbers (tells.Stable r e n) rest first =
       let may : IsFrom s v x e.0 r.0 × IsParity p = may-first (tells.Stable r e n) rest first in (
@@ -132,14 +133,16 @@ module _ (F : ℕ → ℕ → List Update → Type 0) (s : Dimensions) (v : Stat
         told-by e.0 r.0 x may.0,
         λ low.
             let both = goes-first (tells.Adopt r e base list) rest first e.0 may.0.1.partition may.2 in
-            adopt-numbers F e.0 (v.settled e.0) (v.process p) both.1 r.0 base list (both.0 (live-is e.0 (seen_at e.0 (v.settled e.0) (v.process p)) e.0 r.0 refl low)),
+            adopt-numbers F e.0 (v.settled e.0) (v.process p) both.1 r.0 base list
+            (both.0 (live-is e.0 (seen_at e.0 (v.settled e.0) (v.process p)) e.0 r.0 refl low)),
       )
   fits-numbers (tells.Ack r e n) rest first = by x refl where
     by : (y : ProcessId) → x ≡ y → FitsNumbers s y (tells.Ack r e n) (v.process p)
     by (DataNode z) is = tt
     by (ParityNode i) is =
         let may : IsFrom s v p e.0 r.0 = may-first (tells.Ack r e n) rest first in
-        let seat = seat-some (head_at (v.process p) e.0) r.0 (ap (λ (y : ProcessId). seat_of (v.process y) e.0) may.0 ∙ may.1.leads (ap v.dead (sym may.0) ∙ lives)) in
+        let seat = seat-some (head_at (v.process p) e.0) r.0 (ap (λ (y : ProcessId). seat_of (v.process y) e.0) may.0
+        ∙ may.1.leads (ap v.dead (sym may.0) ∙ lives)) in
         record {
           ranked = ranked e.0 r.0 p may;
           heads = (seat.0, seat.1, seat.2);
@@ -180,5 +183,6 @@ numbers-fit h s shape both from to m rest fin tin apart lives first = fits-numbe
 
 pub numbers_fit_always : NumbersFitAlways
 numbers_fit_always s es run =
-    subst (λ (w : World). (from to : ProcessId) (m : Message) (rest : List Message) → IsProcess s from → IsProcess s to → from ≢ to → Lives w to → link w from to ≡ m ∷ rest → FitsNumbers s from m (process_of w to))
+    subst (λ (w : World). (from to : ProcessId) (m : Message) (rest : List Message) → IsProcess s from → IsProcess s to
+    → from ≢ to → Lives w to → link w from to ≡ m ∷ rest → FitsNumbers s from m (process_of w to))
     (world-from (no_history s) es) (numbers-fit (history_of s es) s (shape-from (no_history s) es) (reach_always s es run))

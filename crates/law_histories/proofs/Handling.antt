@@ -27,7 +27,8 @@ use Rattle.group_run.specs.Replica.{Replica, empty_replica, last_of, with_update
 use Rattle.law_moves.proofs.Moves.{Treats, Asks, Collects, Flushes}
 use Rattle.law_histories.proofs.Calls.{still-collect}
 use Rattle.law_histories.proofs.Told.{Settles}
-use Rattle.law_histories.proofs.Plain.{Plain, plain-apply, plain-judge, plain-refl, plain-same, plain-session, plain-trans, plain-when, settles-judge, settles-plain}
+use Rattle.law_histories.proofs.Plain.{Plain, plain-apply, plain-judge, plain-refl, plain-same, plain-session}
+use Rattle.law_histories.proofs.Plain.{plain-trans, plain-when, settles-judge, settles-plain}
 
 -- a call: the head stays, and only a head gets more updates, of which it judges
 pub record Handles (s : Dimensions) (d : ℕ) (p q : Process) : Type 0 where
@@ -69,7 +70,8 @@ module _ (s : Dimensions) (d : ℕ) where
   plain-retry b (Some o) p = plain-refl d p
   plain-retry b None p = plain-when d (not (list_any (λ g. g.block == b) p.as_leader.sessions)) p (start_session s b p) (plain-session s d b p)
 
-  handles-act : (name : CallName) (op : Asked) (e : ℕ) (h : Head) (p : Process) (decision : Decision) → head_at p e ≡ Some h → Handles s d p (act_on s name op e h p decision).step.process
+  handles-act : (name : CallName) (op : Asked) (e : ℕ) (h : Head) (p : Process) (decision : Decision)
+      → head_at p e ≡ Some h → Handles s d p (act_on s name op e h p decision).step.process
   handles-act name op e h p (decides.Answer r) heads = handles-plain s d p p (plain-refl d p)
   handles-act name op e h p (decides.Retry n) heads = handles-plain s d p p (plain-refl d p)
   handles-act name op e h p decides.NoSpace heads = handles-plain s d p p (plain-refl d p)
@@ -96,7 +98,15 @@ module _ (s : Dimensions) (d : ℕ) where
   pub plain-adopt : (r e base : ℕ) (list : List Update) (p : Process) → e ≢ d → Plain d p (log_adopted s r e base list p)
   plain-adopt r e base list p other =
       let ranked : Process = with_rank e r p in
-      let first : Plain d p ranked = record { name = refl; known = refl; head = refl; rank = at-put-other 0 p.ranks e d r (λ is. other (sym is)); last = refl; applied = omega arith } in
+      let first : Plain d p ranked =
+      record {
+        name = refl;
+        known = refl;
+        head = refl;
+        rank = at-put-other 0 p.ranks e d r (λ is. other (sym is));
+        last = refl;
+        applied = omega arith;
+      } in
       let q : Process = apply_to s e base ranked in
       plain-trans first (plain-trans (plain-apply s d e base ranked) (plain-other d e (adopting base list (replica_of q e)) q other))
 

@@ -1,5 +1,6 @@
 -- While at most m processes are dead some process of each partition lives, and the lowest of them heads it.
-use Rattle.std.proofs.Common.{ℕ, zero, suc, ◌≡◌, ◌≢◌, ◌<◌, ◌≤◌, ◌+◌, ◌-◌, Bool, true, false, [], length, map, ◌⊎◌, inl, inr, refl, sym, ap, subst, ◌∙◌, if◌then◌else◌, arith}
+use Rattle.std.proofs.Common.{ℕ, zero, suc, ◌≡◌, ◌≢◌, ◌<◌, ◌≤◌, ◌+◌, ◌-◌, Bool, true, false, [], length, map, ◌⊎◌, inl}
+use Rattle.std.proofs.Common.{inr, refl, sym, ap, subst, ◌∙◌, if◌then◌else◌, arith}
 use Rattle.std.proofs.lemmas.Bool.{cases_eq, cases_lt}
 use Rattle.std.specs.Prelude.{Contains}
 use Rattle.std.specs.List.{range_with_len}
@@ -19,19 +20,25 @@ use Rattle.law_moves.proofs.Runs.{framed-from, framed-opening, world-from}
 use Rattle.law_histories.specs.Laws.{HeadedAlways, IsHeaded}
 
 -- the dead of a range are those of its parts
-count-parts : (f : ℕ → Bool) (a m n : ℕ) → count_dead (map f (range_with_len a (n + m))) ≡ count_dead (map f (range_with_len a n)) + count_dead (map f (range_with_len (a + n) m))
+count-parts : (f : ℕ → Bool) (a m n : ℕ) → count_dead (map f (range_with_len a (n + m)))
+    ≡ count_dead (map f (range_with_len a n)) + count_dead (map f (range_with_len (a + n) m))
 count-parts f a m zero =
     let shorter : 0 + m ≡ m = omega arith in
     let here : a + 0 ≡ a = omega arith in
-    let whole : count_dead (map f (range_with_len a (0 + m))) ≡ count_dead (map f (range_with_len a m)) = ap (λ (x : ℕ). count_dead (map f (range_with_len a x))) shorter in
-    let there : count_dead (map f (range_with_len (a + 0) m)) ≡ count_dead (map f (range_with_len a m)) = ap (λ (x : ℕ). count_dead (map f (range_with_len x m))) here in
+    let whole : count_dead (map f (range_with_len a (0 + m))) ≡ count_dead (map f (range_with_len a m)) =
+    ap (λ (x : ℕ). count_dead (map f (range_with_len a x))) shorter in
+    let there : count_dead (map f (range_with_len (a + 0) m)) ≡ count_dead (map f (range_with_len a m)) =
+    ap (λ (x : ℕ). count_dead (map f (range_with_len x m))) here in
     omega (arith, whole, there)
 count-parts f a m (suc n) =
     let rest = count-parts f (a + 1) m n in
     let longer : suc n + m ≡ suc (n + m) = omega arith in
     let next : a + 1 + n ≡ a + suc n = omega arith in
-    let whole : count_dead (map f (range_with_len a (suc n + m))) ≡ count_dead (map f (range_with_len a (suc (n + m)))) = ap (λ (x : ℕ). count_dead (map f (range_with_len a x))) longer in
-    let there : count_dead (map f (range_with_len (a + 1 + n) m)) ≡ count_dead (map f (range_with_len (a + suc n) m)) = ap (λ (x : ℕ). count_dead (map f (range_with_len x m))) next in
+    let whole : count_dead (map f (range_with_len a (suc n + m)))
+    ≡ count_dead (map f (range_with_len a (suc (n + m)))) = ap (λ (x : ℕ). count_dead (map f (range_with_len a x)))
+    longer in
+    let there : count_dead (map f (range_with_len (a + 1 + n) m)) ≡ count_dead (map f (range_with_len (a + suc n) m)) =
+    ap (λ (x : ℕ). count_dead (map f (range_with_len x m))) next in
     omega (arith, rest, whole, there)
 
 -- where all of a range are dead they are as many
@@ -92,13 +99,16 @@ rank-in s d (suc i) below low = omega (arith, low)
 pub headed : (h : History) → FramedHistory h → IsDrained h.world → ¬ (IsDown h.world) → IsHeaded h.world
 headed h framed drained up d below = by (lowest (λ r. is_dead h.world (of_rank d r)) (suc h.world.shape.m)) where
   few : lost_in h.world.shape (state_of h) ≤ h.world.shape.m
-  few = let same = lost-nodes h.world.shape h.world.nodes h.settled framed.nodes_many in not_more (cases_lt h.world.shape.m (dead_nodes h.world.nodes)) same where
-    not_more : (h.world.shape.m < dead_nodes h.world.nodes) ⊎ (dead_nodes h.world.nodes ≤ h.world.shape.m)
-        → lost_in h.world.shape (state_of h) ≡ dead_nodes h.world.nodes → lost_in h.world.shape (state_of h) ≤ h.world.shape.m
-    not_more (inl more) same = absurd (up more)
-    not_more (inr low) same = omega (arith, low, same)
+  few = let same = lost-nodes h.world.shape h.world.nodes h.settled framed.nodes_many in
+      not_more (cases_lt h.world.shape.m (dead_nodes h.world.nodes)) same where
+        not_more : (h.world.shape.m < dead_nodes h.world.nodes) ⊎ (dead_nodes h.world.nodes ≤ h.world.shape.m)
+            → lost_in h.world.shape (state_of h) ≡ dead_nodes h.world.nodes → lost_in h.world.shape (state_of h) ≤ h.world.shape.m
+        not_more (inl more) same = absurd (up more)
+        not_more (inr low) same = omega (arith, low, same)
 
-  by : ((r : ℕ) × (r < suc h.world.shape.m) × (is_dead h.world (of_rank d r) ≡ false) × ((q : ℕ) → q < r → is_dead h.world (of_rank d q) ≡ true)) ⊎ ((q : ℕ) → q < suc h.world.shape.m → is_dead h.world (of_rank d q) ≡ true)
+  by : ((r : ℕ) × (r < suc h.world.shape.m) × (is_dead h.world (of_rank d r) ≡ false)
+      × ((q : ℕ) → q < r → is_dead h.world (of_rank d q) ≡ true))
+      ⊎ ((q : ℕ) → q < suc h.world.shape.m → is_dead h.world (of_rank d q) ≡ true)
       → (r : ℕ) × Heads h.world d r × HasTakenOver h.world d r
   by (inr all) = absurd (some-lives h.world.shape (is_dead h.world) d below few all)
   by (inl found) =
@@ -109,11 +119,13 @@ headed h framed drained up d below = by (lowest (λ r. is_dead h.world (of_rank 
       none : (q : ℕ) (from : ProcessId) → IsProcess h.world.shape from → from ≢ of_rank d found.0 → found.0 ≤ h.world.shape.m
           → ¬ (Contains (link h.world from (of_rank d found.0)) (tells.Notice (of_rank d q)))
       none q from fin other within has =
-          let empty : link h.world from (of_rank d found.0) ≡ [] = drained from (of_rank d found.0) fin (rank-in h.world.shape d found.0 below within, found.2) other in
+          let empty : link h.world from (of_rank d found.0) ≡ [] =
+          drained from (of_rank d found.0) fin (rank-in h.world.shape d found.0 below within, found.2) other in
           let low = has.1 in let zero_long : length (link h.world from (of_rank d found.0)) ≡ 0 = ap length empty in absurd (omega (arith, low, zero_long))
 
 pub headed_always : HeadedAlways
 headed_always s es run drained up =
     let h : History = history_of s es in
     let same : h.world ≡ after s es = world-from (no_history s) es in
-    subst IsHeaded same (headed h (framed-from (no_history s) es (framed-opening s) run.1) (subst IsDrained (sym same) drained) (λ down. up (subst IsDown same down)))
+    subst IsHeaded same (headed h (framed-from (no_history s) es (framed-opening s) run.1)
+    (subst IsDrained (sym same) drained) (λ down. up (subst IsDown same down)))

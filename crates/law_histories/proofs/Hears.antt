@@ -1,6 +1,7 @@
 -- What a parity process does that hears a head of another rank, told around it: an update or a new head's list
 -- is taken, and where all of lower rank are dead the process takes the partition over.
-use Rattle.std.proofs.Common.{ℕ, suc, ◌≡◌, ◌≢◌, ◌<◌, ◌≤◌, ◌+◌, Bool, true, false, List, [], ◌∷◌, ◌++◌, length, take, Some, None, ◌⊎◌, inl, inr, refl, sym, ap, subst, ◌∙◌, arith}
+use Rattle.std.proofs.Common.{ℕ, suc, ◌≡◌, ◌≢◌, ◌<◌, ◌≤◌, ◌+◌, Bool, true, false, List, [], ◌∷◌, ◌++◌, length, take}
+use Rattle.std.proofs.Common.{Some, None, ◌⊎◌, inl, inr, refl, sym, ap, subst, ◌∙◌, arith}
 use Rattle.std.proofs.lemmas.Bool.{cases_eq, cases_lt}
 use Rattle.std.proofs.lemmas.List.{take-take}
 use Rattle.group_types.specs.Dimensions.{Dimensions}
@@ -30,11 +31,14 @@ use Rattle.law_histories.proofs.Around.{Around, HeadSits, grew-turned, since-tra
 use Rattle.law_histories.proofs.Folds.{along-append, run-append, run, Along}
 use Rattle.law_histories.proofs.Heads.{head-inward}
 use Rattle.law_histories.proofs.Histories.{length-history}
-use Rattle.law_histories.proofs.Lanes.{Lower, Ranked, Resyncs, Stale, along-lower, live-is, lower-run, ranked-weaker, resync, same-rank-step, stale-along, stale-run, begins-refl}
+use Rattle.law_histories.proofs.Lanes.{Lower, Ranked, Resyncs, Stale, along-lower, live-is, lower-run, ranked-weaker}
+use Rattle.law_histories.proofs.Lanes.{resync, same-rank-step, stale-along, stale-run, begins-refl}
 use Rattle.law_histories.proofs.Ranks.{Used, head-from, may-used, rank-of_rank, used}
 
 -- an acknowledgement is of the sender's rank, and its head has that
-pub ack-turned : (d : ℕ) (x : ProcessId) (a b : Seen) → (x ≡ of_rank d a.rank → (b.rank ≡ a.rank) × (length a.history ≤ length b.history)) → (m : Message) → AckFits d x a m → AckFits d x b m
+pub ack-turned : (d : ℕ) (x : ProcessId) (a b : Seen)
+    → (x ≡ of_rank d a.rank → (b.rank ≡ a.rank) × (length a.history ≤ length b.history)) → (m : Message)
+    → AckFits d x a m → AckFits d x b m
 ack-turned d x a b turn (tells.Ack r e n) fits = λ here.
     let old = fits here in
     let now = turn (old.head_is ∙ ap (of_rank d) (sym old.rank)) in
@@ -55,8 +59,11 @@ module _ (F : ℕ → ℕ → List Update → Type 0) (laws : HistoryLaws F) (s 
   module _ (old new : Process) (left : ProcessId → List Message) (settled : List Update) (x : ProcessId) (m : Message) (r : ℕ)
       (first : v.link x p ≡ m ∷ left x) (rest : (y : ProcessId) → IsProcess s y → y ≢ x → left y ≡ v.link y p) (xin : IsProcess s x) (xother : x ≢ p)
       (in_use : Used s v d x r) (heads : head_at old d ≡ None) (same_head : head_at new d ≡ None)
-      (hears : Lower F d settled (seen_at d settled new) (next d (seen_at d settled old) m)) (risen : (seen_at d settled old).rank ≤ r) (now : (seen_at d settled new).rank ≡ r) (fits : ReplicaReaches F d settled new)
-      (more : (replica_of old d).applied ≤ (replica_of new d).applied) (keeps : IsKeeper d p) (around : Around F s v d p old (v.link p) (λ y. v.link y p) settled) where
+      (hears : Lower F d settled (seen_at d settled new) (next d (seen_at d settled old) m))
+      (risen : (seen_at d settled old).rank ≤ r) (now : (seen_at d settled new).rank ≡ r)
+      (fits : ReplicaReaches F d settled new)
+      (more : (replica_of old d).applied ≤ (replica_of new d).applied) (keeps : IsKeeper d p)
+      (around : Around F s v d p old (v.link p) (λ y. v.link y p) settled) where
     abbrev a : Seen
     a = seen_at d settled old
 
@@ -75,8 +82,11 @@ module _ (F : ℕ → ℕ → List Update → Type 0) (laws : HistoryLaws F) (s 
       by : (a.rank ≡ r) ⊎ (a.rank ≢ r) → (b.rank ≡ a.rank) × (length a.history ≤ length b.history)
       by (inl same) =
           let rank_same : b.rank ≡ a.rank = now ∙ sym same in
-          let begins = same-rank-step F d settled a m goes (sym hears.rank ∙ rank_same) in
-          (rank_same, let longer = begins.reaches in let here : length b.history ≡ length (next d a m).history = ap length hears.history in omega (arith, longer, here))
+          let begins = same-rank-step F d settled a m goes (sym hears.rank ∙ rank_same) in (
+            rank_same,
+            let longer = begins.reaches in let here : length b.history ≡ length (next d a m).history = ap
+                length hears.history in omega (arith, longer, here),
+          )
       by (inr other) = absurd (cc (in_use.1.below a.rank (omega (arith, other, risen)), ap v.dead name, living))
 
     -- other links into the process
@@ -87,20 +97,29 @@ module _ (F : ℕ → ℕ → List Update → Type 0) (laws : HistoryLaws F) (s 
       -- messages there have another rank
       other_ranks : Each (λ n. Ranked d (λ k. (k ≡ rank_of y) × (k ≢ r)) n) (v.link y p)
       other_ranks = each-weaker (MayStand s v y p) (λ n. Ranked d (λ k. (k ≡ rank_of y) × (k ≢ r)) n)
-          (λ n may. ranked-weaker d (Used s v d y) (λ k. (k ≡ rank_of y) × (k ≢ r)) (λ k from. (sym (rank-of_rank d k) ∙ ap rank_of (sym from.0), λ same. apart (from.0 ∙ ap (of_rank d) same ∙ sym in_use.0))) n (may-used s v d y p n may))
+          (λ n may. ranked-weaker d (Used s v d y) (λ k. (k ≡ rank_of y) × (k ≢ r))
+          (λ k from. (
+            sym (rank-of_rank d k) ∙ ap rank_of (sym from.0),
+            λ same. apart (from.0 ∙ ap (of_rank d) same ∙ sym in_use.0),
+          )) n (may-used s v d y p n may))
           (v.link y p) (around.may y yin yother)
 
       goes_by : (r < rank_of y) ⊎ (rank_of y ≤ r) → Along (next d) (Goes F d settled) b (v.link y p)
       goes_by (inr low) = stale-along F d settled b (v.link y p)
-          (each-weaker (λ n. Ranked d (λ k. (k ≡ rank_of y) × (k ≢ r)) n) (Stale d b.rank) (λ n ranked. ranked-weaker d (λ k. (k ≡ rank_of y) × (k ≢ r)) (λ k. k < b.rank) (λ k both. let same = both.0 in let other = both.1 in omega (arith, same, other, low, now)) n ranked)
+          (each-weaker (λ n. Ranked d (λ k. (k ≡ rank_of y) × (k ≢ r)) n) (Stale d b.rank)
+          (λ n ranked. ranked-weaker d (λ k. (k ≡ rank_of y) × (k ≢ r)) (λ k. k < b.rank)
+          (λ k both. let same = both.0 in let other = both.1 in omega (arith, same, other, low, now)) n ranked)
           (v.link y p) other_ranks)
       goes_by (inl high) = (resynced high).goes where
         resynced : r < rank_of y → Resyncs F d settled a b (v.link y p)
         resynced high = resync F d settled a b (omega (arith, risen, now)) (around.own keeps).prolongs fits.prolongs (v.link y p)
-            (each-weaker (λ n. Ranked d (λ k. (k ≡ rank_of y) × (k ≢ r)) n) (λ n. Ranked d (λ k. b.rank < k) n) (λ n ranked. ranked-weaker d (λ k. (k ≡ rank_of y) × (k ≢ r)) (λ k. b.rank < k) (λ k both. let same = both.0 in omega (arith, same, high, now)) n ranked)
+            (each-weaker (λ n. Ranked d (λ k. (k ≡ rank_of y) × (k ≢ r)) n) (λ n. Ranked d (λ k. b.rank < k) n)
+            (λ n ranked. ranked-weaker d (λ k. (k ≡ rank_of y) × (k ≢ r)) (λ k. b.rank < k)
+            (λ k both. let same = both.0 in omega (arith, same, high, now)) n ranked)
             (v.link y p) other_ranks) old_lane.goes
 
-      ends_by : v.dead y ≡ false → (h : Head) → head_at (v.process y) d ≡ Some h → (r < h.rank) ⊎ (h.rank ≤ r) → EndsAt settled (replica_of (v.process y) d) h (run (next d) b (v.link y p))
+      ends_by : v.dead y ≡ false → (h : Head) → head_at (v.process y) d ≡ Some h → (r < h.rank) ⊎ (h.rank ≤ r)
+          → EndsAt settled (replica_of (v.process y) d) h (run (next d) b (v.link y p))
       ends_by living h is_head (inr low) = absurd (by (cases_eq h.rank r)) where
         from : Used s v d y h.rank
         from = head-from s v d members below y h yin living is_head
@@ -117,13 +136,16 @@ module _ (F : ℕ → ℕ → List Update → Type 0) (laws : HistoryLaws F) (s 
 
         again : Resyncs F d settled a b (v.link y p)
         again = resync F d settled a b (omega (arith, risen, now)) (around.own keeps).prolongs fits.prolongs (v.link y p)
-            (each-weaker (λ n. Ranked d (λ k. (k ≡ rank_of y) × (k ≢ r)) n) (λ n. Ranked d (λ k. b.rank < k) n) (λ n ranked. ranked-weaker d (λ k. (k ≡ rank_of y) × (k ≢ r)) (λ k. b.rank < k) (λ k both. let same = both.0 in omega (arith, same, high, now, own_rank)) n ranked)
+            (each-weaker (λ n. Ranked d (λ k. (k ≡ rank_of y) × (k ≢ r)) n) (λ n. Ranked d (λ k. b.rank < k) n)
+            (λ n ranked. ranked-weaker d (λ k. (k ≡ rank_of y) × (k ≢ r)) (λ k. b.rank < k)
+            (λ k both. let same = both.0 in omega (arith, same, high, now, own_rank)) n ranked)
             (v.link y p) other_ranks) old_lane.goes
 
         end : EndsAt settled (replica_of (v.process y) d) h (run (next d) a (v.link y p))
         end = old_lane.ends living h is_head
 
-        by : (run (next d) a (v.link y p) ≡ run (next d) b (v.link y p)) ⊎ (run (next d) a (v.link y p) ≡ a) → EndsAt settled (replica_of (v.process y) d) h (run (next d) b (v.link y p))
+        by : (run (next d) a (v.link y p) ≡ run (next d) b (v.link y p)) ⊎ (run (next d) a (v.link y p) ≡ a)
+            → EndsAt settled (replica_of (v.process y) d) h (run (next d) b (v.link y p))
         by (inl same) = subst (EndsAt settled (replica_of (v.process y) d) h) same end
         by (inr stays) = let same : a.rank ≡ h.rank = ap (λ (z : Seen). z.rank) (sym stays) ∙ end.rank in absurd (omega (arith, same, high, risen))
 
@@ -136,25 +158,32 @@ module _ (F : ℕ → ℕ → List Update → Type 0) (laws : HistoryLaws F) (s 
 
     acks_by : (i : ℕ) → p ≡ ParityNode i → (y : ProcessId) → IsProcess s y → y ≢ p → v.dead y ≡ false → Each (AckFits d y b) (v.link p y)
     acks_by i is y yin yother living =
-        each-weaker (AckFits d y a) (AckFits d y b) (λ n fits. ack-turned d y a b (turned i is y living) n fits) (v.link p y) ((around.inward y i is yin yother).acks living)
+        each-weaker (AckFits d y a) (AckFits d y b) (λ n fits. ack-turned d y a b (turned i is y living) n fits)
+        (v.link p y) ((around.inward y i is yin yother).acks living)
 
     in_by : (y : ProcessId) (i : ℕ) → p ≡ ParityNode i → IsProcess s y → y ≢ p → (y ≡ x) ⊎ (y ≢ x)
         → LaneReaches F d settled y i (v.dead y) (head_at (v.process y) d) (replica_of (v.process y) d) b (left y) (v.link p y)
     in_by y i is yin yother (inr apart) =
-        subst (λ (link : List Message). LaneReaches F d settled y i (v.dead y) (head_at (v.process y) d) (replica_of (v.process y) d) b link (v.link p y)) (sym (rest y yin apart)) (record {
+        subst (λ (link : List Message). LaneReaches F d settled y i (v.dead y) (head_at (v.process y) d)
+        (replica_of (v.process y) d) b link (v.link p y)) (sym (rest y yin apart)) (record {
           goes = goes_by i is y yin yother apart (cases_lt r (rank_of y));
           ends = λ living h is_head. ends_by i is y yin yother apart living h is_head (cases_lt r h.rank);
           kept = kept_by i is y yin yother;
           acks = acks_by i is y yin yother;
         })
     in_by y i is yin yother (inl same) =
-        subst (λ (z : ProcessId). LaneReaches F d settled z i (v.dead z) (head_at (v.process z) d) (replica_of (v.process z) d) b (left z) (v.link p z)) (sym same) (record {
+        subst (λ (z : ProcessId). LaneReaches F d settled z i (v.dead z) (head_at (v.process z) d)
+        (replica_of (v.process z) d) b (left z) (v.link p z)) (sym same) (record {
           goes = along-lower F d settled b (next d a m) (left x) hears (subst (Along (next d) (Goes F d settled) a) first lane.goes).1;
           ends = λ living h is_head.
               let end : EndsAt settled (replica_of (v.process x) d) h (run (next d) (next d a m) (left x)) = subst
               (λ (link : List Message). EndsAt settled (replica_of (v.process x) d) h (run (next d) a link)) first (lane.ends living h is_head) in
               let lower = lower-run F d settled b (next d a m) (left x) hears in
-              record { rank = lower.rank ∙ end.rank; history_is = lower.history ∙ end.history_is; number = let less = lower.number in let most = end.number in omega (arith, less, most) };
+              record {
+                rank = lower.rank ∙ end.rank;
+                history_is = lower.history ∙ end.history_is;
+                number = let less = lower.number in let most = end.number in omega (arith, less, most);
+              };
           kept = kept_by i is x xin xother;
           acks = acks_by i is x xin xother;
         }) where
@@ -162,7 +191,8 @@ module _ (F : ℕ → ℕ → List Update → Type 0) (laws : HistoryLaws F) (s 
           lane = around.inward x i is xin xother
 
     out_by : (i : ℕ) → i < s.m → ParityNode i ≢ p → v.dead (ParityNode i) ≡ false → (ParityNode i ≡ x) ⊎ (ParityNode i ≢ x)
-        → LaneReaches F d settled p i false (head_at new d) (replica_of new d) (seen_at d settled (v.process (ParityNode i))) (v.link p (ParityNode i)) (left (ParityNode i))
+        → LaneReaches F d settled p i false (head_at new d) (replica_of new d)
+        (seen_at d settled (v.process (ParityNode i))) (v.link p (ParityNode i)) (left (ParityNode i))
     out_by i iin other living (inr apart) = let lane = around.outward i iin other living in record {
       goes = lane.goes;
       ends = λ alive h is_head. absurd (cc (same_head, is_head));
@@ -175,12 +205,15 @@ module _ (F : ℕ → ℕ → List Update → Type 0) (laws : HistoryLaws F) (s 
       kept = λ alive h is_head. absurd (cc (same_head, is_head));
       acks = λ alive.
           subst (λ (z : ProcessId). Each (AckFits d p (seen_at d settled (v.process (ParityNode i)))) (left z)) (sym same)
-          (subst (Each (AckFits d p (seen_at d settled (v.process (ParityNode i))))) first (subst (λ (z : ProcessId). Each (AckFits d p (seen_at d settled (v.process (ParityNode i)))) (v.link z p)) same (lane.acks alive))).1;
+          (subst (Each (AckFits d p (seen_at d settled (v.process (ParityNode i))))) first
+          (subst (λ (z : ProcessId). Each (AckFits d p (seen_at d settled (v.process (ParityNode i)))) (v.link z p))
+          same (lane.acks alive))).1;
     }
 
     may_by : (y : ProcessId) → IsProcess s y → y ≢ p → (y ≡ x) ⊎ (y ≢ x) → Each (MayStand s v y p) (left y)
     may_by y yin other (inr apart) = subst (Each (MayStand s v y p)) (sym (rest y yin apart)) (around.may y yin other)
-    may_by y yin other (inl same) = subst (λ (z : ProcessId). Each (MayStand s v z p) (left z)) (sym same) (subst (Each (MayStand s v x p)) first (around.may x xin xother)).1
+    may_by y yin other (inl same) = subst (λ (z : ProcessId). Each (MayStand s v z p) (left z)) (sym same)
+        (subst (Each (MayStand s v x p)) first (around.may x xin xother)).1
 
     pub act-hear : Around F s v d p new (v.link p) left settled
     act-hear = record {
@@ -203,10 +236,16 @@ module _ (F : ℕ → ℕ → List Update → Type 0) (laws : HistoryLaws F) (s 
     }
 
   -- the process takes the partition over, and tells the others what it has
-  module _ (old new : Process) (out inn sent : ProcessId → List Message) (settled : List Update) (i : ℕ) (name : p ≡ ParityNode i) (none : head_at old d ≡ None) (noseat : seat_of (v.process p) d ≡ None) (untouched : replica_of old d ≡ replica_of (v.process p) d)
-      (lower : (j : ℕ) → j < suc i → v.dead (of_rank d j) ≡ true) (low : at 0 old.ranks d ≤ i) (heads : head_at new d ≡ Some (new_head s (suc i) (last_of (replica_of old d)))) (own_rank : at 0 new.ranks d ≡ suc i) (same : replica_of new d ≡ replica_of old d)
-      (sends : (j : ℕ) → j < s.m → ParityNode j ≢ p → v.dead (ParityNode j) ≡ false → sent (ParityNode j) ≡ tells.Adopt (rank (suc i)) (partition d) (replica_of old d).applied (replica_of old d).log ∷ [])
-      (quiet : (q : ProcessId) (seen : Seen) → Each (AckFits d q seen) (sent q)) (none_acked : (q : ProcessId) (n : ℕ) → Each (AckBelow d n) (sent q)) (around : Around F s v d p old out inn settled) where
+  module _ (old new : Process) (out inn sent : ProcessId → List Message) (settled : List Update) (i : ℕ)
+      (name : p ≡ ParityNode i) (none : head_at old d ≡ None) (noseat : seat_of (v.process p) d ≡ None)
+      (untouched : replica_of old d ≡ replica_of (v.process p) d)
+      (lower : (j : ℕ) → j < suc i → v.dead (of_rank d j) ≡ true) (low : at 0 old.ranks d ≤ i)
+      (heads : head_at new d ≡ Some (new_head s (suc i) (last_of (replica_of old d))))
+      (own_rank : at 0 new.ranks d ≡ suc i) (same : replica_of new d ≡ replica_of old d)
+      (sends : (j : ℕ) → j < s.m → ParityNode j ≢ p → v.dead (ParityNode j) ≡ false → sent (ParityNode j)
+      ≡ tells.Adopt (rank (suc i)) (partition d) (replica_of old d).applied (replica_of old d).log ∷ [])
+      (quiet : (q : ProcessId) (seen : Seen) → Each (AckFits d q seen) (sent q)) (none_acked : (q : ProcessId) (n : ℕ)
+      → Each (AckBelow d n) (sent q)) (around : Around F s v d p old out inn settled) where
     abbrev r : Replica
     r = replica_of old d
 
@@ -226,7 +265,12 @@ module _ (F : ℕ → ℕ → List Update → Type 0) (laws : HistoryLaws F) (s 
       short = was.short;
       fine = was.fine;
       holds = was.holds;
-      heads = λ g e. subst (HeadReaches settled r) (is_head g e) (record { inherited = omega arith; first = λ none. absurd (cc none); all_or = by (cases_eq r.applied (length settled)) });
+      heads = λ g e. subst (HeadReaches settled r) (is_head g e)
+          (record {
+            inherited = omega arith;
+            first = λ none. absurd (cc none);
+            all_or = by (cases_eq r.applied (length settled));
+          });
     } where
       reach : length settled ≤ last_of r
       reach = let long = length-history settled r was.applied in let most = was.prolongs.reaches in omega (arith, long, most)
@@ -253,7 +297,9 @@ module _ (F : ℕ → ℕ → List Update → Type 0) (laws : HistoryLaws F) (s 
           absurd (cc (seat, ap (λ (y : ProcessId). seat_of (v.process y) d) there ∙ noseat))
 
     tells_by : (j : ℕ) → j < s.m → ParityNode j ≢ p → v.dead (ParityNode j) ≡ false
-        → LaneReaches F d settled p j false (head_at new d) (replica_of new d) (seen_at d settled (v.process (ParityNode j))) (out (ParityNode j) ++ sent (ParityNode j)) (inn (ParityNode j))
+        → LaneReaches F d settled p j false (head_at new d) (replica_of new d)
+        (seen_at d settled (v.process (ParityNode j))) (out (ParityNode j) ++ sent (ParityNode j))
+        (inn (ParityNode j))
     tells_by j jin other living = record {
       goes = along-append (next d) (Goes F d settled) seen (out (ParityNode j)) (sent (ParityNode j)) lane.goes
           (subst (λ (y : Seen). Along (next d) (Goes F d settled) y (sent (ParityNode j))) (sym quiet_run)
@@ -284,18 +330,23 @@ module _ (F : ℕ → ℕ → List Update → Type 0) (laws : HistoryLaws F) (s 
       quiet_run : run (next d) seen (out (ParityNode j)) ≡ seen
       quiet_run =
           stale-run d seen (out (ParityNode j))
-          (each-weaker (Stale d 0) (Stale d seen.rank) (λ m stale. ranked-weaker d (λ k. k < 0) (λ k. k < seen.rank) (λ k none. absurd (omega (arith, none))) m stale) (out (ParityNode j)) (around.silent none j jin other living))
+          (each-weaker (Stale d 0) (Stale d seen.rank) (λ m stale. ranked-weaker d (λ k. k < 0) (λ k. k < seen.rank)
+          (λ k none. absurd (omega (arith, none))) m stale) (out (ParityNode j))
+          (around.silent none j jin other living))
 
-      taken : run (next d) seen (out (ParityNode j) ++ sent (ParityNode j)) ≡ record { rank = suc i; history = take r.applied seen.history ++ r.log; number = r.applied + length r.log }
+      taken : run (next d) seen (out (ParityNode j) ++ sent (ParityNode j))
+          ≡ record { rank = suc i; history = take r.applied seen.history ++ r.log; number = r.applied + length r.log }
       taken =
           run-append (next d) seen (out (ParityNode j)) (sent (ParityNode j))
           ∙ (λ t. run (next d) (quiet_run t) (sends j jin other living t))
-          ∙ ap (λ (b : Bool). replaced b (suc i) r.applied r.log seen) (live-is d seen d (suc i) refl (let less = lower_there j jin living in omega (arith, less)))
+          ∙ ap (λ (b : Bool). replaced b (suc i) r.applied r.log seen)
+          (live-is d seen d (suc i) refl (let less = lower_there j jin living in omega (arith, less)))
 
       whole : take r.applied seen.history ++ r.log ≡ history settled r
       whole =
           ap (λ (us : List Update). us ++ r.log)
-          (sym (take-take r.applied (length settled) seen.history was.applied) ∙ ap (take r.applied) (around.replicas (ParityNode j) jin other living tt).prolongs.front)
+          (sym (take-take r.applied (length settled) seen.history was.applied)
+          ∙ ap (take r.applied) (around.replicas (ParityNode j) jin other living tt).prolongs.front)
 
     hears_by : (x : ProcessId) (j : ℕ) → p ≡ ParityNode j → IsProcess s x → x ≢ p
         → LaneReaches F d settled x j (v.dead x) (head_at (v.process x) d) (replica_of (v.process x) d) (seen_at d settled new) (inn x) (out x ++ sent x)
@@ -304,14 +355,17 @@ module _ (F : ℕ → ℕ → List Update → Type 0) (laws : HistoryLaws F) (s 
         (seen_at d settled new) own_rank x j xin other (inn x) (out x ++ sent x) (around.may x xin other)
         (λ living. each-append (AckFits d x (seen_at d settled new)) (out x) (sent x)
         (each-weaker (AckFits d x (seen_at d settled old)) (AckFits d x (seen_at d settled new))
-        (λ m fits. ack-turned d x (seen_at d settled old) (seen_at d settled new) (λ from. absurd (cc (lower (at 0 old.ranks d) (omega (arith, low)), ap v.dead from, living))) m fits) (out x) ((around.inward x j is xin other).acks living))
+        (λ m fits. ack-turned d x (seen_at d settled old) (seen_at d settled new)
+        (λ from. absurd (cc (lower (at 0 old.ranks d) (omega (arith, low)), ap v.dead from, living))) m fits) (out x)
+        ((around.inward x j is xin other).acks living))
         (quiet x (seen_at d settled new)))
 
     -- nobody has acknowledged anything to a process that wasn't the head
     none-comes : (last j : ℕ) (m : Message) → MayStand s v (ParityNode j) p m → AckBelow d last m
     none-comes last j (tells.Ack k e n) may = λ here.
         let from : Used s v d p k.0 = used s v d p e.0 k.0 here may in
-        let seat : seat_of (v.process p) d ≡ Some k.0 = ap (λ (y : ProcessId). seat_of (v.process y) d) from.0 ∙ from.1.leads (ap v.dead (sym from.0) ∙ lives) in
+        let seat : seat_of (v.process p) d ≡ Some k.0 = ap (λ (y : ProcessId). seat_of (v.process y) d) from.0
+        ∙ from.1.leads (ap v.dead (sym from.0) ∙ lives) in
         absurd (cc (seat, noseat))
     none-comes last j (tells.Update k e u stable) may = tt
     none-comes last j (tells.Adopt k e base list) may = tt
@@ -333,7 +387,11 @@ module _ (F : ℕ → ℕ → List Update → Type 0) (laws : HistoryLaws F) (s 
       inward = hears_by;
       silent = λ nothing. absurd (cc (nothing, heads));
       may = around.may;
-      since = since-trans around.since (record { applied = subst (λ (x : Replica). r.applied ≤ x.applied) (sym same) (omega arith); heads = λ h is. absurd (cc (none, is)) });
+      since = since-trans around.since
+          (record {
+            applied = subst (λ (x : Replica). r.applied ≤ x.applied) (sym same) (omega arith);
+            heads = λ h is. absurd (cc (none, is));
+          });
       unkept = λ not. absurd (not keeps);
       quiet = λ nothing. absurd (cc (nothing, heads));
       follows =

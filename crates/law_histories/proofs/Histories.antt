@@ -1,6 +1,7 @@
 -- Histories of replicas: what applying, an update behind, a new head's list and more settled updates make of
 -- them.
-use Rattle.std.proofs.Common.{ℕ, suc, ◌≡◌, ◌≢◌, ◌<◌, ◌≤◌, ◌+◌, ◌-◌, ◌==◌, nat_lt, max, Bool, true, false, List, [], ◌∷◌, ◌++◌, length, take, drop, ◌⊎◌, inl, inr, refl, sym, ap, subst, ◌∙◌, append_assoc, arith}
+use Rattle.std.proofs.Common.{ℕ, suc, ◌≡◌, ◌≢◌, ◌<◌, ◌≤◌, ◌+◌, ◌-◌, ◌==◌, nat_lt, max, Bool, true, false, List, [], ◌∷◌}
+use Rattle.std.proofs.Common.{◌++◌, length, take, drop, ◌⊎◌, inl, inr, refl, sym, ap, subst, ◌∙◌, append_assoc, arith}
 use Rattle.std.proofs.lemmas.Grind.{common_steps}
 use Rattle.std.proofs.lemmas.Bool.{cases_lt}
 use Rattle.std.proofs.lemmas.List.{append-nil, drop_all, length-append, length-drop, length-take-le, take-append-drop, take-take}
@@ -55,7 +56,9 @@ module _ (settled : List Update) (r : Replica) (applied : r.applied ≤ length s
 
   -- where more is settled the history is the same
   pub history-grown : (more : List Update) → Prolongs settled more → history more r ≡ history settled r
-  history-grown more begins = ap (λ (us : List Update). us ++ r.log) (sym (take-take r.applied (length settled) more applied) ∙ ap (take r.applied) begins.front)
+  history-grown more begins =
+      ap (λ (us : List Update). us ++ r.log) (sym (take-take r.applied (length settled) more applied)
+      ∙ ap (take r.applied) begins.front)
 
   pub history-with_update : (u : Update) → history settled (with_update u r) ≡ history settled r ++ u ∷ []
   history-with_update u = sym (append_assoc (take r.applied settled) r.log (u ∷ []))
@@ -101,14 +104,17 @@ module _ (settled : List Update) (r : Replica) (applied : r.applied ≤ length s
       ∙ ap (λ (us : List Update). take r.applied settled ++ us) (take-append-drop m r.log)
 
 -- a new head's list in the place of the log
-pub history-adopted : (settled list : List Update) (base : ℕ) (r : Replica) → r.applied ≤ length settled → base ≤ r.applied → (whole : List Update) → base ≤ length whole
+pub history-adopted : (settled list : List Update) (base : ℕ) (r : Replica) → r.applied ≤ length settled
+    → base ≤ r.applied → (whole : List Update) → base ≤ length whole
     → Prolongs settled (take base whole ++ list) → history settled (adopting base list r) ≡ take base whole ++ list
 history-adopted settled list base r applied low whole long prolongs =
     let c : ℕ = r.applied in
     let all : List Update = take base whole ++ list in
     let front : take c settled ≡ take c all = ap (take c) (sym prolongs.front) ∙ take-take c (length settled) all applied in
     let base_long : length (take base whole) ≡ base = length-take-le base whole long in
-    let behind : drop (c - base) list ≡ drop c all = sym (ap (λ (k : ℕ). drop k all) (omega (arith, base_long, low)) ∙ drop-append-add (take base whole) list (c - base)) in
+    let behind : drop (c - base) list ≡ drop c all =
+    sym (ap (λ (k : ℕ). drop k all) (omega (arith, base_long, low)) ∙ drop-append-add (take base whole) list
+    (c - base)) in
     (λ i. front i ++ behind i) ∙ take-append-drop c all
 
 -- what is settled in a partition
@@ -127,7 +133,8 @@ settled-in-other d e (u ∷ us) other =
 pub settled-in-append : (d : ℕ) (a b : List Settlement) → settled_in d (a ++ b) ≡ settled_in d a ++ settled_in d b
 settled-in-append d [] b = refl
 settled-in-append d (x ∷ xs) b = by (x.partition == d) (settled-in-append d xs b) where
-  by : (t : Bool) → settled_in d (xs ++ b) ≡ settled_in d xs ++ settled_in d b → front_if t x.update (settled_in d (xs ++ b)) ≡ front_if t x.update (settled_in d xs) ++ settled_in d b
+  by : (t : Bool) → settled_in d (xs ++ b) ≡ settled_in d xs ++ settled_in d b
+      → front_if t x.update (settled_in d (xs ++ b)) ≡ front_if t x.update (settled_in d xs) ++ settled_in d b
   by true rest = ap (λ (us : List Update). x.update ∷ us) rest
   by false rest = rest
 
@@ -153,7 +160,8 @@ new-behind c a (u ∷ us) all low = by (cases_lt a c) (λ less. new-behind c (su
       ap (λ (b : Bool). cond b (u ∷ new_ones c us) (new_ones c us)) below ∙ rest (omega arith) ∙ sym (ap (λ (k : ℕ). drop k (u ∷ us)) on)
 
 -- what is settled after a head settled up to number n: its history up to there, if that is more
-pub settled-more : (d n : ℕ) (settled : List Update) (r : Replica) (applied : r.applied ≤ length settled) → Prolongs settled (history settled r) → NumberedFrom 1 (history settled r)
+pub settled-more : (d n : ℕ) (settled : List Update) (r : Replica) (applied : r.applied ≤ length settled)
+    → Prolongs settled (history settled r) → NumberedFrom 1 (history settled r)
     → length settled ≤ n → n ≤ last_of r → settled_with (settlements d (up_to n r)) d settled ≡ take n (history settled r)
 settled-more d n settled r applied prolongs numbers more within =
     let c : ℕ = length settled in
@@ -162,7 +170,8 @@ settled-more d n settled r applied prolongs numbers more within =
     let new : new_ones c (settled_in d (settlements d (up_to n r))) ≡ drop (c - a) (take m r.log) =
     ap (new_ones c) (settled-in-own d (up_to n r))
     ∙ new-behind c a (take m r.log)
-    (numbered-front (suc a) (take m r.log) (drop m r.log) (subst (NumberedFrom (suc a)) (sym (take-append-drop m r.log)) (log-numbered settled r applied numbers))) applied in
+    (numbered-front (suc a) (take m r.log) (drop m r.log) (subst (NumberedFrom (suc a)) (sym (take-append-drop m r.log))
+    (log-numbered settled r applied numbers))) applied in
     let split : m ≡ (c - a) + (n - c) = omega (arith, more, applied) in
     let long = front-long settled r applied in
     let front : settled ≡ take a settled ++ take (c - a) r.log =
@@ -175,7 +184,8 @@ settled-more d n settled r applied prolongs numbers more within =
     ∙ sym (ap (λ (k : ℕ). take k (history settled r)) (omega (arith, long, more, applied)) ∙ take-append-add (take a settled) r.log m)
 
 -- nothing more is settled up to a number that was
-pub settled-no-more : (d n : ℕ) (settled : List Update) (r : Replica) (applied : r.applied ≤ length settled) → Prolongs settled (history settled r) → NumberedFrom 1 (history settled r)
+pub settled-no-more : (d n : ℕ) (settled : List Update) (r : Replica) (applied : r.applied ≤ length settled)
+    → Prolongs settled (history settled r) → NumberedFrom 1 (history settled r)
     → n ≤ length settled → settled_with (settlements d (up_to n r)) d settled ≡ settled
 settled-no-more d n settled r applied prolongs numbers low =
     let c : ℕ = length settled in
@@ -188,6 +198,7 @@ settled-no-more d n settled r applied prolongs numbers low =
     let new : new_ones c (settled_in d (settlements d (up_to n r))) ≡ [] =
     ap (new_ones c) (settled-in-own d (up_to n r))
     ∙ new-behind c a (take m r.log)
-    (numbered-front (suc a) (take m r.log) (drop m r.log) (subst (NumberedFrom (suc a)) (sym (take-append-drop m r.log)) (log-numbered settled r applied numbers))) applied
+    (numbered-front (suc a) (take m r.log) (drop m r.log) (subst (NumberedFrom (suc a)) (sym (take-append-drop m r.log))
+    (log-numbered settled r applied numbers))) applied
     ∙ drop_all (c - a) (take m r.log) (omega (arith, taken, low)) in
     ap (λ (us : List Update). settled ++ us) new ∙ append-nil settled

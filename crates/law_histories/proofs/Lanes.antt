@@ -1,5 +1,6 @@
 -- What messages make of what is seen of a partition: which are dropped, and that the rank only rises.
-use Rattle.std.proofs.Common.{ℕ, ◌≡◌, ◌≢◌, ◌<◌, ◌≤◌, ◌+◌, ◌==◌, nat_le, Bool, true, false, ◌&&◌, List, [], ◌∷◌, ◌++◌, length, take, ◌⊎◌, inl, inr, refl, sym, ap, subst, ◌∙◌, arith}
+use Rattle.std.proofs.Common.{ℕ, ◌≡◌, ◌≢◌, ◌<◌, ◌≤◌, ◌+◌, ◌==◌, nat_le, Bool, true, false, ◌&&◌, List, [], ◌∷◌, ◌++◌}
+use Rattle.std.proofs.Common.{length, take, ◌⊎◌, inl, inr, refl, sym, ap, subst, ◌∙◌, arith}
 use Rattle.std.proofs.lemmas.Grind.{common_steps}
 use Rattle.std.proofs.lemmas.Bool.{cases_eq}
 use Rattle.std.proofs.lemmas.List.{length-append, take-append-le, take-take, take_all}
@@ -92,8 +93,11 @@ module _ (F : ℕ → ℕ → List Update → Type 0) (d : ℕ) where
 
   pub stale-along : (settled : List Update) (seen : Seen) (ms : List Message) → Each (Stale d seen.rank) ms → Along (next d) (Goes F d settled) seen ms
   stale-along settled seen [] stale = tt
-  stale-along settled seen (m ∷ ms) stale =
-      (stale-goes settled seen m stale.0, subst (λ (y : Seen). Along (next d) (Goes F d settled) y ms) (sym (stale-next d seen m stale.0)) (stale-along settled seen ms stale.1))
+  stale-along settled seen (m ∷ ms) stale = (
+    stale-goes settled seen m stale.0,
+    subst (λ (y : Seen). Along (next d) (Goes F d settled) y ms)
+        (sym (stale-next d seen m stale.0)) (stale-along settled seen ms stale.1),
+  )
 
 -- the rank only rises
 pub rank-rises : (d : ℕ) (seen : Seen) (m : Message) → seen.rank ≤ (next d seen m).rank
@@ -128,7 +132,10 @@ pub begins-refl : (us : List Update) → Prolongs us us
 begins-refl us = record { reaches = omega arith; front = take_all (length us) us (omega arith) }
 
 pub begins-append : (us vs : List Update) → Prolongs us (us ++ vs)
-begins-append us vs = record { reaches = let long = length-append us vs in omega (arith, long); front = take-append-le (length us) us vs (omega arith) ∙ take_all (length us) us (omega arith) }
+begins-append us vs = record {
+  reaches = let long = length-append us vs in omega (arith, long);
+  front = take-append-le (length us) us vs (omega arith) ∙ take_all (length us) us (omega arith);
+}
 
 pub begins-trans : (us vs ws : List Update) → Prolongs us vs → Prolongs vs ws → Prolongs us ws
 begins-trans us vs ws a b = record {
@@ -144,7 +151,8 @@ module _ (F : ℕ → ℕ → List Update → Type 0) (d : ℕ) (settled : List 
     by true = begins-append seen.history (u ∷ [])
     by false = begins-refl seen.history
   same-rank-step seen (tells.Adopt r e base list) goes same = by (is_live d seen e.0 r.0) refl same where
-    by : (b : Bool) → is_live d seen e.0 r.0 ≡ b → (replaced b r.0 base list seen).rank ≡ seen.rank → Prolongs seen.history (replaced b r.0 base list seen).history
+    by : (b : Bool) → is_live d seen e.0 r.0 ≡ b → (replaced b r.0 base list seen).rank ≡ seen.rank
+        → Prolongs seen.history (replaced b r.0 base list seen).history
     by true live is = let above = (goes live).rank in absurd (omega (arith, above, is))
     by false live is = begins-refl seen.history
   same-rank-step seen (tells.Ack r e n) goes same = begins-refl seen.history
@@ -163,24 +171,34 @@ module _ (F : ℕ → ℕ → List Update → Type 0) (d : ℕ) (settled : List 
   same-rank-step seen (tells.Notice dead) goes same = begins-refl seen.history
 
   -- so does a link that leaves it
-  pub same-rank-begins : (seen : Seen) (ms : List Message) → Along (next d) (Goes F d settled) seen ms → (run (next d) seen ms).rank ≡ seen.rank → Prolongs seen.history (run (next d) seen ms).history
+  pub same-rank-begins : (seen : Seen) (ms : List Message) → Along (next d) (Goes F d settled) seen ms
+      → (run (next d) seen ms).rank ≡ seen.rank → Prolongs seen.history (run (next d) seen ms).history
   same-rank-begins seen [] goes same = begins-refl seen.history
   same-rank-begins seen (m ∷ ms) goes same =
       let first = rank-rises d seen m in
       let rest = run-rises d (next d seen m) ms in
       let here : (next d seen m).rank ≡ seen.rank = omega (arith, first, rest, same) in
-      begins-trans seen.history (next d seen m).history (run (next d) seen (m ∷ ms)).history (same-rank-step seen m goes.0 here) (same-rank-begins (next d seen m) ms goes.1 (same ∙ sym here))
+      begins-trans seen.history (next d seen m).history (run (next d) seen (m ∷ ms)).history
+      (same-rank-step seen m goes.0 here) (same-rank-begins (next d seen m) ms goes.1 (same ∙ sym here))
 
   -- where more is settled, what leaves the rank still goes
-  grows-step : (more : List Update) → length settled ≤ length more → (seen : Seen) (m : Message) → (next d seen m).rank ≡ seen.rank → Goes F d settled seen m → Goes F d more seen m
+  grows-step : (more : List Update) → length settled ≤ length more → (seen : Seen) (m : Message)
+      → (next d seen m).rank ≡ seen.rank → Goes F d settled seen m → Goes F d more seen m
   grows-step more longer seen (tells.Update r e u stable) same goes =
-      λ live. let old = goes live in record { rank = old.rank; stable_settled = let low = old.stable_settled in omega (arith, low, longer); few = old.few; fine = old.fine }
+      λ live. let old = goes live in record {
+        rank = old.rank;
+        stable_settled = let low = old.stable_settled in
+            omega (arith, low, longer);
+        few = old.few;
+        fine = old.fine;
+      }
   grows-step more longer seen (tells.Adopt r e base list) same goes = λ live.
       let above = (goes live).rank in
       let is : r.0 ≡ seen.rank = sym (ap (λ (b : Bool). (replaced b r.0 base list seen).rank) live) ∙ same in
       absurd (omega (arith, above, is))
   grows-step more longer seen (tells.Ack r e n) same goes = tt
-  grows-step more longer seen (tells.Stable r e n) same goes = λ live. let old = goes live in record { rank = old.rank; number_settled = let low = old.number_settled in omega (arith, low, longer) }
+  grows-step more longer seen (tells.Stable r e n) same goes = λ live. let old = goes live in
+      record { rank = old.rank; number_settled = let low = old.number_settled in omega (arith, low, longer) }
   grows-step more longer seen (tells.ReadBlock session block rows) same goes = tt
   grows-step more longer seen (tells.Block session bytes n) same goes = tt
   grows-step more longer seen (tells.Mark session r block e n) same goes =
@@ -217,23 +235,36 @@ module _ (F : ℕ → ℕ → List Update → Type 0) (d : ℕ) (settled : List 
   lower-raised false a b n lower = lower
 
   lower-appended : (t : Bool) (a b : Seen) (u : Update) (n : ℕ) → Lower a b → Lower (appended t u n a) (appended t u n b)
-  lower-appended true a b u n lower = record { rank = lower.rank; history = ap (λ (us : List Update). us ++ u ∷ []) lower.history; number = let low = lower.number in omega (arith, low) }
+  lower-appended true a b u n lower =
+      record {
+        rank = lower.rank;
+        history = ap (λ (us : List Update). us ++ u ∷ []) lower.history;
+        number = let low = lower.number in omega (arith, low);
+      }
   lower-appended false a b u n lower = lower
 
   lower-replaced : (t : Bool) (a b : Seen) (r base : ℕ) (list : List Update) → Lower a b → Lower (replaced t r base list a) (replaced t r base list b)
-  lower-replaced true a b r base list lower = record { rank = refl; history = ap (λ (us : List Update). take base us ++ list) lower.history; number = omega arith }
+  lower-replaced true a b r base list lower =
+      record {
+        rank = refl;
+        history = ap (λ (us : List Update). take base us ++ list) lower.history;
+        number = omega arith;
+      }
   lower-replaced false a b r base list lower = lower
 
   lower-next : (a b : Seen) (m : Message) → Lower a b → Lower (next d a m) (next d b m)
   lower-next a b (tells.Update r e u stable) lower =
-      subst (λ (t : Bool). Lower (appended t u stable a) (appended (is_live d b e.0 r.0) u stable b)) (sym (same-live a b lower e.0 r.0)) (lower-appended (is_live d b e.0 r.0) a b u stable lower)
+      subst (λ (t : Bool). Lower (appended t u stable a) (appended (is_live d b e.0 r.0) u stable b))
+      (sym (same-live a b lower e.0 r.0)) (lower-appended (is_live d b e.0 r.0) a b u stable lower)
   lower-next a b (tells.Adopt r e base list) lower =
       subst (λ (t : Bool). Lower (replaced t r.0 base list a) (replaced (is_live d b e.0 r.0) r.0 base list b)) (sym (same-live a b lower e.0 r.0))
       (lower-replaced (is_live d b e.0 r.0) a b r.0 base list lower)
   lower-next a b (tells.Stable r e n) lower =
-      subst (λ (t : Bool). Lower (raised t n a) (raised (is_live d b e.0 r.0) n b)) (sym (same-live a b lower e.0 r.0)) (lower-raised (is_live d b e.0 r.0) a b n lower)
+      subst (λ (t : Bool). Lower (raised t n a) (raised (is_live d b e.0 r.0) n b)) (sym (same-live a b lower e.0 r.0))
+      (lower-raised (is_live d b e.0 r.0) a b n lower)
   lower-next a b (tells.Mark session r block e n) lower =
-      subst (λ (t : Bool). Lower (raised t n a) (raised (is_live d b e.0 r.0) n b)) (sym (same-live a b lower e.0 r.0)) (lower-raised (is_live d b e.0 r.0) a b n lower)
+      subst (λ (t : Bool). Lower (raised t n a) (raised (is_live d b e.0 r.0) n b)) (sym (same-live a b lower e.0 r.0))
+      (lower-raised (is_live d b e.0 r.0) a b n lower)
   lower-next a b (tells.Ack r e n) lower = lower
   lower-next a b (tells.ReadBlock session block rows) lower = lower
   lower-next a b (tells.Block session bytes n) lower = lower
@@ -247,7 +278,12 @@ module _ (F : ℕ → ℕ → List Update → Type 0) (d : ℕ) (settled : List 
 
   lower-goes : (a b : Seen) (m : Message) → Lower a b → Goes F d settled b m → Goes F d settled a m
   lower-goes a b (tells.Update r e u stable) lower goes = λ live. let old = goes (sym (same-live a b lower e.0 r.0) ∙ live) in
-      record { rank = old.rank ∙ sym lower.rank; stable_settled = old.stable_settled; few = old.few; fine = subst (λ (us : List Update). Fine F d stable (us ++ u ∷ [])) (sym lower.history) old.fine }
+      record {
+        rank = old.rank ∙ sym lower.rank;
+        stable_settled = old.stable_settled;
+        few = old.few;
+        fine = subst (λ (us : List Update). Fine F d stable (us ++ u ∷ [])) (sym lower.history) old.fine;
+      }
   lower-goes a b (tells.Adopt r e base list) lower goes = λ live. let old = goes (sym (same-live a b lower e.0 r.0) ∙ live) in record {
     rank = let low = old.rank in let same = lower.rank in omega (arith, low, same);
     base_settled = old.base_settled;
@@ -255,10 +291,17 @@ module _ (F : ℕ → ℕ → List Update → Type 0) (d : ℕ) (settled : List 
     few = old.few;
     fine = subst (λ (us : List Update). Fine F d base (take base us ++ list)) (sym lower.history) old.fine;
   }
-  lower-goes a b (tells.Stable r e n) lower goes = λ live. let old = goes (sym (same-live a b lower e.0 r.0) ∙ live) in record { rank = old.rank ∙ sym lower.rank; number_settled = old.number_settled }
+  lower-goes a b (tells.Stable r e n) lower goes = λ live. let old = goes (sym (same-live a b lower e.0 r.0) ∙ live) in
+      record { rank = old.rank ∙ sym lower.rank; number_settled = old.number_settled }
   lower-goes a b (tells.Mark session r block e n) lower goes =
       λ live. let old = goes
-      (sym (same-live a b lower e.0 r.0) ∙ live) in record { rank = old.rank ∙ sym lower.rank; number_settled = old.number_settled; above = let low = lower.number in let most = old.above in omega (arith, low, most) }
+      (sym (same-live a b lower e.0 r.0) ∙ live) in
+      record {
+        rank = old.rank ∙ sym lower.rank;
+        number_settled = old.number_settled;
+        above = let low = lower.number
+            in let most = old.above in omega (arith, low, most);
+      }
   lower-goes a b (tells.Ack r e n) lower goes = tt
   lower-goes a b (tells.ReadBlock session block rows) lower goes = tt
   lower-goes a b (tells.Block session bytes n) lower goes = tt
@@ -309,7 +352,8 @@ module _ (F : ℕ → ℕ → List Update → Type 0) (d : ℕ) (settled : List 
       front = front-same base a.history b.history goes.base_settled pa pb
 
     -- by whether it is of the partition
-    by-part : (m : Message) (e r : ℕ) → (e ≡ d) ⊎ (e ≢ d) → (e ≢ d → Passes a b m) → (e ≡ d → is_live d a e r ≡ true → Joins a b m) → (e ≡ d → b.rank < r) → Passes a b m ⊎ Joins a b m
+    by-part : (m : Message) (e r : ℕ) → (e ≡ d) ⊎ (e ≢ d) → (e ≢ d → Passes a b m)
+        → (e ≡ d → is_live d a e r ≡ true → Joins a b m) → (e ≡ d → b.rank < r) → Passes a b m ⊎ Joins a b m
     by-part m e r (inr other) off on above = inl (off other)
     by-part m e r (inl here) off on above = let high = above here in inr (on here (live-is d a e r here (omega (arith, high, higher))))
 
@@ -349,7 +393,8 @@ module _ (F : ℕ → ℕ → List Update → Type 0) (d : ℕ) (settled : List 
       later : Resyncs a b ms
       later = rest (subst (λ (y : Seen). Along (next d) (Goes F d settled) y ms) pass.a_stays goes)
 
-      by : (run (next d) a ms ≡ run (next d) b ms) ⊎ (run (next d) a ms ≡ a) → (run (next d) (next d a m) ms ≡ run (next d) (next d b m) ms) ⊎ (run (next d) (next d a m) ms ≡ a)
+      by : (run (next d) a ms ≡ run (next d) b ms) ⊎ (run (next d) a ms ≡ a)
+          → (run (next d) (next d a m) ms ≡ run (next d) (next d b m) ms) ⊎ (run (next d) (next d a m) ms ≡ a)
       by (inl same) = inl (ap (λ (y : Seen). run (next d) y ms) pass.a_stays ∙ same ∙ ap (λ (y : Seen). run (next d) y ms) (sym pass.b_stays))
       by (inr same) = inr (ap (λ (y : Seen). run (next d) y ms) pass.a_stays ∙ same)
 

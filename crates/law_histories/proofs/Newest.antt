@@ -47,11 +47,14 @@ newest-silent d o [] none = refl
 newest-silent d o (m ∷ ms) none = ap (λ (x : Option ℕ). newest d x ms) (told-none d o m none.0) ∙ newest-silent d o ms none.1
 
 -- behind a link, where the step is silent
-pub newest-sent : (d : ℕ) (q : ProcessId) (sent : List Sent) → Silent d sent → (link : List Message) (o : Option ℕ) → newest d o (link ++ sent_to q sent) ≡ newest d o link
-newest-sent d q sent silent link o = newest-append d o link (sent_to q sent) ∙ newest-silent d (newest d o link) (sent_to q sent) (each-sent_to (λ to m. NoAck d m) q sent silent)
+pub newest-sent : (d : ℕ) (q : ProcessId) (sent : List Sent) → Silent d sent → (link : List Message) (o : Option ℕ)
+    → newest d o (link ++ sent_to q sent) ≡ newest d o link
+newest-sent d q sent silent link o = newest-append d o link (sent_to q sent)
+    ∙ newest-silent d (newest d o link) (sent_to q sent) (each-sent_to (λ to m. NoAck d m) q sent silent)
 
 -- whoever owes no acknowledgement of the partition is silent
-silent-one : (d : ℕ) (due : ProcessId → ℕ → ℕ → Type 0) (k : ℕ) (p : Process) → ((to : ProcessId) (r e : ℕ) → due to r e → e ≢ d) → (z : Sent) (m : Message) → MaySend due k p z.to m → NoAck d m
+silent-one : (d : ℕ) (due : ProcessId → ℕ → ℕ → Type 0) (k : ℕ) (p : Process)
+    → ((to : ProcessId) (r e : ℕ) → due to r e → e ≢ d) → (z : Sent) (m : Message) → MaySend due k p z.to m → NoAck d m
 silent-one d due k p none z (tells.Ack r e n) may = none z.to r.0 e.0 may
 silent-one d due k p none z (tells.Update r e u stable) may = tt
 silent-one d due k p none z (tells.Adopt r e base list) may = tt
@@ -63,8 +66,10 @@ silent-one d due k p none z (tells.Row session bytes stamp) may = tt
 silent-one d due k p none z (tells.Cease upto) may = tt
 silent-one d due k p none z (tells.Notice dead) may = tt
 
-pub silent-well : (d : ℕ) (due : ProcessId → ℕ → ℕ → Type 0) (k : ℕ) (p : Process) → ((to : ProcessId) (r e : ℕ) → due to r e → e ≢ d) → (sent : List Sent) → SentWell due k p sent → Silent d sent
-silent-well d due k p none sent well = each-weaker (λ z. MaySend due k p z.to z.message) (λ z. NoAck d z.message) (λ z may. silent-one d due k p none z z.message may) sent well
+pub silent-well : (d : ℕ) (due : ProcessId → ℕ → ℕ → Type 0) (k : ℕ) (p : Process)
+    → ((to : ProcessId) (r e : ℕ) → due to r e → e ≢ d) → (sent : List Sent) → SentWell due k p sent → Silent d sent
+silent-well d due k p none sent well = each-weaker (λ z. MaySend due k p z.to z.message) (λ z. NoAck d z.message)
+    (λ z may. silent-one d due k p none z z.message may) sent well
 
 -- the same of equal parts
 pub acks-is : (d i : ℕ) (head head' : Option Head) (rank rank' last last' : ℕ) (back back' : List Message) → head' ≡ head → rank' ≡ rank → last' ≡ last

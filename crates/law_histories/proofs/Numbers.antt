@@ -1,5 +1,7 @@
 -- What of the headline is told of numbers alone, from what every replica has seen.
-use Rattle.std.proofs.Common.{ℕ, zero, suc, ◌≡◌, ◌<◌, ◌≤◌, ◌+◌, ◌==◌, Bool, true, false, List, [], ◌∷◌, length, take, get_or, Option, Some, None, ◌⊎◌, inl, inr, refl, sym, ap, subst, ◌∙◌, if◌then◌else◌, arith}
+use Rattle.std.proofs.Common.{ℕ, zero, suc, ◌≡◌, ◌<◌, ◌≤◌, ◌+◌, ◌==◌, Bool, true, false, List, [], ◌∷◌, length, take}
+use Rattle.std.proofs.Common.{get_or, Option, Some, None, ◌⊎◌, inl, inr, refl, sym, ap, subst, ◌∙◌, if◌then◌else◌}
+use Rattle.std.proofs.Common.{arith}
 use Rattle.std.proofs.lemmas.Grind.{common_steps}
 use Rattle.std.proofs.lemmas.List.{get_or-append-add, get_or-take}
 use Rattle.std.proofs.lemmas.Option.{get_or_from_slice_get, slice_get-get_or, slice_get_within}
@@ -67,7 +69,8 @@ data-applied F s v members reach d below lives = by (fits.heads h heads) where
   seat : (h : Head) × (head_at (v.process (DataNode d)) d ≡ Some h) × (h.rank ≡ 0)
   seat =
       seat-some (head_at (v.process (DataNode d)) d) 0
-      ((members.sits (DataNode d) d below lives below).0 ∙ (let own : (d == d) ≡ true = grind (arith, common_steps) in ap (λ (b : Bool). if b then Some 0 else None) own))
+      ((members.sits (DataNode d) d below lives below).0 ∙ (let own : (d == d) ≡ true = grind (arith, common_steps) in
+      ap (λ (b : Bool). if b then Some 0 else None) own))
 
   h : Head
   h = seat.0
@@ -80,7 +83,8 @@ data-applied F s v members reach d below lives = by (fits.heads h heads) where
     none : h.inherited ≡ 0
     none = reaches.first seat.2
 
-    which : ((replica_of (v.process (DataNode d)) d).applied ≡ length (v.settled d)) ⊎ (((replica_of (v.process (DataNode d)) d).applied < h.inherited) × (length (v.settled d) ≤ h.inherited))
+    which : ((replica_of (v.process (DataNode d)) d).applied ≡ length (v.settled d))
+        ⊎ (((replica_of (v.process (DataNode d)) d).applied < h.inherited) × (length (v.settled d) ≤ h.inherited))
         → (replica_of (v.process (DataNode d)) d).applied ≡ length (v.settled d)
     which (inl all) = all
     which (inr waits) = let less = waits.0 in absurd (omega (arith, less, none))
@@ -109,7 +113,8 @@ module _ (h : History) (members : Members h.world.shape (state_of h)) (reach : R
 
 history-members : (s : Dimensions) (es : List Event) → IsRun s es
     → Members (history_of s es).world.shape (state_of (history_of s es)) × Reach Any (history_of s es).world.shape (state_of (history_of s es))
-history-members s es run = subst (λ (t : Dimensions). Members t (state_of (history_of s es)) × Reach Any t (state_of (history_of s es))) (sym (shape-from (no_history s) es)) (reach_always s es run)
+history-members s es run = subst (λ (t : Dimensions). Members t (state_of (history_of s es))
+    × Reach Any t (state_of (history_of s es))) (sym (shape-from (no_history s) es)) (reach_always s es run)
 
 pub numbers_kept_always : NumbersKeptAlways
 numbers_kept_always s es run =

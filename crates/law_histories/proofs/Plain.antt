@@ -1,5 +1,7 @@
 -- What of a process the laws of acknowledgements look at, and the steps that leave it.
-use Rattle.std.proofs.Common.{ℕ, zero, suc, ◌≡◌, ◌≢◌, ◌<◌, ◌≤◌, ◌+◌, ◌-◌, Bool, true, false, not, ◌&&◌, List, [], ◌∷◌, ◌++◌, length, take, drop, Option, Some, None, ◌⊎◌, inl, inr, refl, sym, ap, subst, ◌∙◌, arith}
+use Rattle.std.proofs.Common.{ℕ, zero, suc, ◌≡◌, ◌≢◌, ◌<◌, ◌≤◌, ◌+◌, ◌-◌, Bool, true, false, not, ◌&&◌, List, [], ◌∷◌}
+use Rattle.std.proofs.Common.{◌++◌, length, take, drop, Option, Some, None, ◌⊎◌, inl, inr, refl, sym, ap, subst, ◌∙◌}
+use Rattle.std.proofs.Common.{arith}
 use Rattle.std.proofs.lemmas.Bool.{cases_eq}
 use Rattle.std.proofs.lemmas.List.{length-append, length-drop, take-append-drop}
 use Rattle.std.specs.Prelude.{is_some}
@@ -35,7 +37,15 @@ pub plain-refl : (d : ℕ) (p : Process) → Plain d p p
 plain-refl d p = record { name = refl; known = refl; head = refl; rank = refl; last = refl; applied = omega arith }
 
 pub plain-trans : {d : ℕ} {p q r : Process} → Plain d p q → Plain d q r → Plain d p r
-plain-trans a b = record { name = b.name ∙ a.name; known = b.known ∙ a.known; head = b.head ∙ a.head; rank = b.rank ∙ a.rank; last = b.last ∙ a.last; applied = let one = a.applied in let two = b.applied in omega (arith, one, two) }
+plain-trans a b = record {
+  name = b.name ∙ a.name;
+  known = b.known ∙ a.known;
+  head = b.head ∙ a.head;
+  rank = b.rank
+      ∙ a.rank;
+  last = b.last ∙ a.last;
+  applied = let one = a.applied in let two = b.applied in omega (arith, one, two);
+}
 
 pub plain-same : (d : ℕ) (p q : Process) → SameIn d p q → Plain d p q
 plain-same d p q same = record {
@@ -51,7 +61,8 @@ plain-same d p q same = record {
 pub settles-plain : (s : Dimensions) (d : ℕ) (p q : Process) → Plain d p q → Settles s d p → Settles s d q
 settles-plain s d p q plain settles h heads =
     let old = settles h (sym plain.head ∙ heads) in
-    let same : least_acked h (last_of (replica_of q d)) (other_parities s.m q.name q.known) ≡ least_acked h (last_of (replica_of p d)) (other_parities s.m p.name p.known)
+    let same : least_acked h (last_of (replica_of q d)) (other_parities s.m q.name q.known)
+    ≡ least_acked h (last_of (replica_of p d)) (other_parities s.m p.name p.known)
     = λ j. least_acked h (plain.last j) (other_parities s.m (plain.name j) (plain.known j)) in
     let more = plain.applied in omega (arith, old, same, more)
 
@@ -71,7 +82,8 @@ plain-apply s d e n p = by (cases_eq e d) where
     head = refl;
     rank = refl;
     last = ap last_of (replica-apply_to s d n p) ∙ last-kept n (replica_of p d);
-    applied = let now : (replica_of (apply_to s d n p) d).applied ≡ (applied_to n (replica_of p d)).applied = ap (λ (r : Replica). r.applied) (replica-apply_to s d n p) in omega (arith, now);
+    applied = let now : (replica_of (apply_to s d n p) d).applied ≡ (applied_to n (replica_of p d)).applied =
+        ap (λ (r : Replica). r.applied) (replica-apply_to s d n p) in omega (arith, now);
   }
 
   by : (e ≡ d) ⊎ (e ≢ d) → Plain d p (apply_to s e n p)
@@ -82,7 +94,8 @@ pub plain-when : (d : ℕ) (b : Bool) (p : Process) (t : ProcessStep) → Plain 
 plain-when d true p t plain = plain
 plain-when d false p t plain = plain-refl d p
 
-pub plain-each : (d : ℕ) (xs : List ℕ) (f : ℕ → Process → ProcessStep) → ((x : ℕ) (q : Process) → Plain d q (f x q).process) → (p : Process) → Plain d p (for_each xs f p).process
+pub plain-each : (d : ℕ) (xs : List ℕ) (f : ℕ → Process → ProcessStep)
+    → ((x : ℕ) (q : Process) → Plain d q (f x q).process) → (p : Process) → Plain d p (for_each xs f p).process
 plain-each d [] f each p = plain-refl d p
 plain-each d (x ∷ xs) f each p = plain-trans (each x p) (plain-each d xs f each (f x p).process)
 
@@ -102,7 +115,8 @@ settles-judge_head s d p (Some g) is h heads =
     let same : h ≡ g = cc (is, heads) in
     let plain : Plain d p q = plain-apply s d d n p in
     let last : last_of (replica_of q d) ≡ last_of (replica_of p d) = plain.last in
-    let least : least_acked h (last_of (replica_of q d)) (other_parities s.m p.name p.known) ≡ n = λ j. least_acked (same j) (last j) (other_parities s.m p.name p.known) in
+    let least : least_acked h (last_of (replica_of q d)) (other_parities s.m p.name p.known) ≡ n =
+    λ j. least_acked (same j) (last j) (other_parities s.m p.name p.known) in
     let low : n ≤ last_of (replica_of p d) = least-last g (last_of (replica_of p d)) (other_parities s.m p.name p.known) in
     let now : (replica_of q d).applied ≡ (applied_to n (replica_of p d)).applied = ap (λ (r : Replica). r.applied) (replica-apply_to s d n p) in
     let whole = last-kept n (replica_of p d) in
@@ -123,7 +137,8 @@ plain-mark s d leader number r block e n p =
     let q : Process = apply_to s e n begun in
     plain-when d (accepts_mark p leader number r e) p (mark_taken s leader number block e n p)
     (plain-trans (plain-trans (plain-begin d (is_some (copy_in p.as_row.copies leader number)) s leader number block p) (plain-apply s d e n begun))
-    (plain-same d q (copy_marked s e n (copy_in q.as_row.copies leader number) q).process (still-copy_marked s d e n (copy_in q.as_row.copies leader number) q).same))
+    (plain-same d q (copy_marked s e n (copy_in q.as_row.copies leader number) q).process
+    (still-copy_marked s d e n (copy_in q.as_row.copies leader number) q).same))
 
 -- a session that starts
 pub plain-session : (s : Dimensions) (d block : ℕ) (p : Process) → Plain d p (start_session s block p).process
@@ -132,7 +147,9 @@ plain-session s d block p =
     let number : ℕ = suc p.as_leader.last_session in
     let opened : Process = session_opened s number block p in
     let first : Plain d p opened = record { name = refl; known = refl; head = refl; rank = refl; last = refl; applied = omega arith } in
-    plain-trans first (plain-each d (lost_of s p) (own_mark s leader number block) (λ l q. plain-mark s d leader number (at 0 q.ranks l) block l (replica_of q l).applied q) opened)
+    plain-trans first
+    (plain-each d (lost_of s p) (own_mark s leader number block)
+    (λ l q. plain-mark s d leader number (at 0 q.ranks l) block l (replica_of q l).applied q) opened)
 
 -- a process whose heads stay, with as many updates
 pub record Onward (d : ℕ) (p q : Process) : Type 0 where
@@ -145,7 +162,8 @@ onward-trans a b = record { heads = λ h is. b.heads h (a.heads h is); last = b.
 onward-plain : (d : ℕ) (p q : Process) → Plain d p q → Onward d p q
 onward-plain d p q plain = record { heads = λ h is. plain.head ∙ is; last = plain.last }
 
-onward-each : (d : ℕ) (xs : List ℕ) (f : ℕ → Process → ProcessStep) → ((x : ℕ) (q : Process) → Onward d q (f x q).process) → (p : Process) → Onward d p (for_each xs f p).process
+onward-each : (d : ℕ) (xs : List ℕ) (f : ℕ → Process → ProcessStep)
+    → ((x : ℕ) (q : Process) → Onward d q (f x q).process) → (p : Process) → Onward d p (for_each xs f p).process
 onward-each d [] f each p = record { heads = λ h is. is; last = refl }
 onward-each d (x ∷ xs) f each p = onward-trans (each x p) (onward-each d xs f each (f x p).process)
 
@@ -153,7 +171,9 @@ onward-each d (x ∷ xs) f each p = onward-trans (each x p) (onward-each d xs f 
 module _ (s : Dimensions) (d : ℕ) where
   no_test : (q : Process) (h : Head) → head_at q d ≡ Some h → (y : ProcessId) → takes_over q d y ≡ false
   no_test q h some (DataNode z) = refl
-  no_test q h some (ParityNode i) = ap (λ (o : Option Head). not (is_some o) && knows_dead q.known (DataNode d) && list_all (λ j. knows_dead q.known (ParityNode j)) (range_with_len 0 i)) some
+  no_test q h some (ParityNode i) =
+      ap (λ (o : Option Head). not (is_some o) && knows_dead q.known (DataNode d) && list_all
+      (λ j. knows_dead q.known (ParityNode j)) (range_with_len 0 i)) some
 
   taken-last : (q : Process) → last_of (replica_of (taken_over s d q).process d) ≡ last_of (replica_of q d)
   taken-last q = (plain-judge s d d (enthroned s (suc (parity_number q.name)) d q)).last

@@ -1,5 +1,7 @@
 -- A drained group's heads have nothing unfinished, so no trace and no ask has to wait for an update.
-use Rattle.std.proofs.Common.{ℕ, zero, suc, ◌≡◌, ◌≢◌, ◌<◌, ◌≤◌, ◌+◌, ◌%◌, ◌==◌, nat_le, nat_lt, Bool, true, false, not, ◌&&◌, List, [], ◌∷◌, length, slice_index_or, Option, Some, None, inl, inr, refl, sym, ap, subst, ◌∙◌, if◌then◌else◌, arith}
+use Rattle.std.proofs.Common.{ℕ, zero, suc, ◌≡◌, ◌≢◌, ◌<◌, ◌≤◌, ◌+◌, ◌%◌, ◌==◌, nat_le, nat_lt, Bool, true, false, not}
+use Rattle.std.proofs.Common.{◌&&◌, List, [], ◌∷◌, length, slice_index_or, Option, Some, None, inl, inr, refl, sym, ap}
+use Rattle.std.proofs.Common.{subst, ◌∙◌, if◌then◌else◌, arith}
 use Rattle.std.proofs.lemmas.Grind.{common_steps}
 use Rattle.std.specs.Prelude.{Contains, cond, filter, is_some, ◌||◌}
 use Rattle.std.specs.List.{list_all, range_with_len}
@@ -26,7 +28,9 @@ use Rattle.group_calls.specs.declared.event.Cause.TheVariants as cause
 use Rattle.group_calls.specs.declared.event.Event.{Event}
 use Rattle.group_calls.specs.declared.event.Event.TheVariants.{Ask}
 use Rattle.group_run.specs.Applying.{ProcessStep, head_at, replica_of}
-use Rattle.group_run.specs.Asking.{Oldest, act_on, ask_head, ask_process, fate_from, fate_of, fate_unless, found_at, gone_or, inherited_or, is_adopted, is_in_log, issued, oldest_inherited, reply_from, retry_block, ticketed, update_of}
+use Rattle.group_run.specs.Asking.{Oldest, act_on, ask_head, ask_process, fate_from, fate_of, fate_unless, found_at}
+use Rattle.group_run.specs.Asking.{gone_or, inherited_or, is_adopted, is_in_log, issued, oldest_inherited, reply_from}
+use Rattle.group_run.specs.Asking.{retry_block, ticketed, update_of}
 use Rattle.group_run.specs.Deciding.{Found, decide, waits_for}
 use Rattle.group_run.specs.Heading.{other_parities}
 use Rattle.group_run.specs.Headline.{IsRun}
@@ -92,15 +96,23 @@ never-pending : (a : Answer) → NotPending a → ¬ (IsPending a)
 never-pending a goes pending = subst NotPending pending.2 goes
 
 -- nothing inherited is unfinished at a process whose heads have nothing in their logs
-none-inherited : (p : Process) (ds : List ℕ) → ((d : ℕ) (h : Head) → head_at p d ≡ Some h → Contains ds d → h.inherited ≤ (replica_of p d).applied) → oldest_inherited p ds ≡ None
+none-inherited : (p : Process) (ds : List ℕ)
+    → ((d : ℕ) (h : Head) → head_at p d ≡ Some h → Contains ds d → h.inherited ≤ (replica_of p d).applied)
+    → oldest_inherited p ds ≡ None
 none-inherited p [] all = refl
-none-inherited p (d ∷ ds) all = by (head_at p d) refl (none-inherited p ds (λ e h heads there. all e h heads (suc there.0, (let low = there.1 in omega (arith, low)), there.2))) where
-  by : (o : Option Head) → head_at p d ≡ o → oldest_inherited p ds ≡ None → inherited_or p d o (oldest_inherited p ds) ≡ None
-  by None is rest = rest
-  by (Some h) is rest =
-      let low : h.inherited ≤ (replica_of p d).applied = all d h is (0, omega arith, refl) in
-      let test : nat_lt (replica_of p d).applied h.inherited ≡ false = grind (arith, common_steps) in
-      ap (λ (b : Bool). if b then Some (record { partition = d; number = suc (replica_of p d).applied }) else oldest_inherited p ds) test ∙ rest
+none-inherited p (d ∷ ds) all =
+    by (head_at p d) refl
+    (none-inherited p ds (λ e h heads there. all e h heads (
+      suc there.0,
+      (let low = there.1 in omega (arith, low)),
+      there.2,
+    ))) where
+      by : (o : Option Head) → head_at p d ≡ o → oldest_inherited p ds ≡ None → inherited_or p d o (oldest_inherited p ds) ≡ None
+      by None is rest = rest
+      by (Some h) is rest =
+          let low : h.inherited ≤ (replica_of p d).applied = all d h is (0, omega arith, refl) in
+          let test : nat_lt (replica_of p d).applied h.inherited ≡ false = grind (arith, common_steps) in
+          ap (λ (b : Bool). if b then Some (record { partition = d; number = suc (replica_of p d).applied }) else oldest_inherited p ds) test ∙ rest
 
 goes-ticketed : (b : Bool) (d : ℕ) (u : Update) (t : ProcessStep) → NotPending (ticketed b d u t).answer
 goes-ticketed true d u t = tt
@@ -117,7 +129,8 @@ goes-act s name op d h p (decides.Retry n) goes none = absurd goes
 goes-act s name op d h p decides.NoSpace goes none = tt
 goes-act s name op d h p (decides.NeedBlock b) goes none = goes-block s b (oldest_inherited p (range_with_len 0 s.k)) p none
 goes-act s name op d h p (decides.Issue body outcome) goes none =
-    let u : Update = update_of name op d body outcome p in goes-ticketed (nat_le u.number (replica_of (issued s d h u p).process d).applied) d u (issued s d h u p)
+    let u : Update = update_of name op d body outcome p in
+    goes-ticketed (nat_le u.number (replica_of (issued s d h u p).process d).applied) d u (issued s d h u p)
 
 -- a fate that is known
 abbrev IsKnown : Answer → Type 0
@@ -141,13 +154,19 @@ all-filter test P a (suc n) all = by (test a) refl (all-filter test P (a + 1) n 
   by true is rest = ap (λ (b : Bool). b && list_all P (filter test (range_with_len (a + 1) n))) (all a (omega arith) (omega arith) is) ∙ rest
   by false is rest = rest
 
-module _ (s : Dimensions) (v : State) (reached : Reached s v) (told : Told s v) (empty : IsEmpty s v) (p : ProcessId) (pin : IsProcess s p) (lives : v.dead p ≡ false) where
+module _ (s : Dimensions) (v : State) (reached : Reached s v) (told : Told s v) (empty : IsEmpty s v) (p : ProcessId)
+    (pin : IsProcess s p) (lives : v.dead p ≡ false) where
   -- whoever is dead is known to be
   knows : (q : ProcessId) → IsProcess s q → q ≢ p → v.dead q ≡ true → knows_dead (v.process p).known q ≡ true
   knows q qin other isdead = by (knows_dead (v.process p).known q) refl where
     by : (b : Bool) → knows_dead (v.process p).known q ≡ b → knows_dead (v.process p).known q ≡ true
     by true is = is
-    by false is = absurd (cc (isdead, living-by q (v.dead q) (knows_dead (v.process p).known q) (v.link q p) (reached.0.stands q p qin pin other lives) is (empty q p qin pin lives other)))
+    by false is =
+        absurd (cc (
+          isdead,
+          living-by q (v.dead q) (knows_dead (v.process p).known q) (v.link q p)
+              (reached.0.stands q p qin pin other lives) is (empty q p qin pin lives other),
+        ))
 
   -- a head's acknowledgements are all there
   adopted : (d : ℕ) (h : Head) → d < s.k → head_at (v.process p) d ≡ Some h → is_adopted s (v.process p) h ≡ true
@@ -182,7 +201,9 @@ module _ (s : Dimensions) (v : State) (reached : Reached s v) (told : Told s v) 
   fate-known caller call d below None heads = tt
   fate-known caller call d below (Some h) heads =
       subst
-      (λ (us : List Update). IsKnown (fate_unless (is_in_log caller call us) (fate_from (is_adopted s (v.process p) h) call (at None (replica_of (v.process p) d).kept caller))))
+      (λ (us : List Update).
+      IsKnown (fate_unless (is_in_log caller call us)
+      (fate_from (is_adopted s (v.process p) h) call (at None (replica_of (v.process p) d).kept caller))))
       (sym (log-empty s v reached told empty p d h pin lives below heads))
       (subst (λ (b : Bool). IsKnown (fate_from b call (at None (replica_of (v.process p) d).kept caller))) (sym (adopted d h below heads))
       (known-fate call (at None (replica_of (v.process p) d).kept caller)))
@@ -190,16 +211,19 @@ module _ (s : Dimensions) (v : State) (reached : Reached s v) (told : Told s v) 
   -- and each call is decided at once
   inherits : (d : ℕ) (h : Head) → d < s.k → head_at (v.process p) d ≡ Some h → h.inherited ≤ (replica_of (v.process p) d).applied
   inherits d h below heads =
-      let reach : ReplicaReaches Any d (v.settled d) (v.process p) = (reached.1 d below).replicas p pin lives (keeps-it s v reached told empty p d h pin lives below heads) in
+      let reach : ReplicaReaches Any d (v.settled d) (v.process p) = (reached.1 d below).replicas p pin lives
+      (keeps-it s v reached told empty p d h pin lives below heads) in
       let most = (reach.heads h heads).inherited in
       let none : length (replica_of (v.process p) d).log ≡ 0 = ap length (log-empty s v reached told empty p d h pin lives below heads) in
       omega (arith, most, none)
 
-  asks-now : (name : CallName) (op : Asked) (d : ℕ) → d < s.k → (o : Option Head) → head_at (v.process p) d ≡ o → NotPending (ask_head s name op d (v.process p) o).answer
+  asks-now : (name : CallName) (op : Asked) (d : ℕ) → d < s.k → (o : Option Head) → head_at (v.process p) d ≡ o
+      → NotPending (ask_head s name op d (v.process p) o).answer
   asks-now name op d below None heads = tt
   asks-now name op d below (Some h) heads =
       goes-act s name op d h (v.process p) (decide (space_of s) h.inherited (replica_of (v.process p) d) op (found_at s d (v.process p) (v.process p).name))
-      (decides-now (space_of s) (replica_of (v.process p) d) op (found_at s d (v.process p) (v.process p).name) (log-empty s v reached told empty p d h pin lives below heads) h.inherited)
+      (decides-now (space_of s) (replica_of (v.process p) d) op (found_at s d (v.process p) (v.process p).name)
+      (log-empty s v reached told empty p d h pin lives below heads) h.inherited)
       (none-inherited (v.process p) (range_with_len 0 s.k) (λ e g is there. inherits e g (in-range e there) is))
     where
       in-range : (e : ℕ) → Contains (range_with_len 0 s.k) e → e < s.k
@@ -238,10 +262,14 @@ module _ (h : History) (reached : Reached h.world.shape (state_of h)) (told : To
   traced : IsTraced h.world
   traced caller call d p may = by (node_of h.world p).down (node_of h.world p).dead refl where
     by : (down dead : Bool) → (node_of h.world p).dead ≡ dead
-        → (if_up down dead (node_of h.world p) (unchanged (fate_of h.world.shape caller call d.0 (process_of h.world p) (head_at (process_of h.world p) d.0)) (node_of h.world p))).answer ≢ says.NotYet
+        → (if_up down dead (node_of h.world p)
+        (unchanged (fate_of h.world.shape caller call d.0 (process_of h.world p) (head_at (process_of h.world p) d.0))
+        (node_of h.world p))).answer ≢ says.NotYet
     by true dead is e = cc e
     by false true is e = cc e
-    by false false is e = subst IsKnown e (fate-known h.world.shape (state_of h) reached told empty p may.3 is caller call d.0 may.2 (head_at (process_of h.world p) d.0) refl)
+    by false false is e =
+        subst IsKnown e (fate-known h.world.shape (state_of h) reached told empty p may.3 is caller call d.0 may.2
+        (head_at (process_of h.world p) d.0) refl)
 
   asked : 0 < h.world.shape.k → IsAsked h.world
   asked some caller op p may = never-pending (step h.world (Ask caller op p)).turn.answer (by (node_of h.world p).down (node_of h.world p).dead refl) where
@@ -249,7 +277,9 @@ module _ (h : History) (reached : Reached h.world.shape (state_of h)) (told : To
     below = mod-below (fnv1a (key_of op.act)) h.world.shape.k some
 
     by : (down dead : Bool) → (node_of h.world p).dead ≡ dead
-        → NotPending (if_up down dead (node_of h.world p) (treated h.world.shape (node_of h.world p) (ask_process h.world.shape (next_name h.world caller) op (process_of h.world p)))).answer
+        → NotPending (if_up down dead (node_of h.world p)
+        (treated h.world.shape (node_of h.world p)
+        (ask_process h.world.shape (next_name h.world caller) op (process_of h.world p)))).answer
     by true dead is = tt
     by false true is = tt
     by false false is =
@@ -279,11 +309,18 @@ module _ (s : Dimensions) (es : List Event) (run : IsRun s es) (drained : IsDrai
   some-here = let first = run.0.k.0 in let many = ap (λ (t : Dimensions). t.k) shape in omega (arith, first, many)
 
 pub finished_always : FinishedAlways
-finished_always s es run drained = subst IsFinished (same s es run drained) (finished (history_of s es) (reached-here s es run drained) (told-here s es run drained) (drained-here s es run drained))
+finished_always s es run drained = subst IsFinished (same s es run drained)
+    (finished (history_of s es) (reached-here s es run drained) (told-here s es run drained)
+    (drained-here s es run drained))
 
 pub traced_always : TracedAlways
-traced_always s es run drained = subst IsTraced (same s es run drained) (traced (history_of s es) (reached-here s es run drained) (told-here s es run drained) (drained-here s es run drained))
+traced_always s es run drained =
+    subst IsTraced (same s es run drained)
+    (traced (history_of s es) (reached-here s es run drained) (told-here s es run drained)
+    (drained-here s es run drained))
 
 pub asked_always : AskedAlways
 asked_always s es run drained =
-    subst IsAsked (same s es run drained) (asked (history_of s es) (reached-here s es run drained) (told-here s es run drained) (drained-here s es run drained) (some-here s es run drained))
+    subst IsAsked (same s es run drained)
+    (asked (history_of s es) (reached-here s es run drained) (told-here s es run drained)
+    (drained-here s es run drained) (some-here s es run drained))

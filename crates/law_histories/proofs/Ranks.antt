@@ -55,9 +55,12 @@ module _ (s : Dimensions) (v : State) (d : ℕ) where
     by (inl above) = absurd (cc (from.1.below r above, ap v.dead is, lives))
     by (inr low) = let apart : rank ≢ r = other-rank p y r rank is other from in omega (arith, low, apart)
 
-  pub may-stale : (p y q : ProcessId) (r : ℕ) → p ≡ of_rank d r → v.dead p ≡ false → y ≢ p → (ms : List Message) → Each (MayStand s v y q) ms → Each (Stale d r) ms
+  pub may-stale : (p y q : ProcessId) (r : ℕ) → p ≡ of_rank d r → v.dead p ≡ false → y ≢ p → (ms : List Message)
+      → Each (MayStand s v y q) ms → Each (Stale d r) ms
   may-stale p y q r is lives other ms may =
-      each-weaker (MayStand s v y q) (Stale d r) (λ m one. ranked-weaker d (Used y) (λ k. k < r) (λ k from. lower-rank p y r k is lives other from) m (may-used y q m one)) ms may
+      each-weaker (MayStand s v y q) (Stale d r)
+      (λ m one. ranked-weaker d (Used y) (λ k. k < r) (λ k from. lower-rank p y r k is lives other from) m
+      (may-used y q m one)) ms may
 
   module _ (members : Members s v) (below : d < s.k) where
     -- a living head has its rank

@@ -1,5 +1,6 @@
 -- What acknowledgements tell, kept where a message is received.
-use Rattle.std.proofs.Common.{ℕ, suc, ◌≡◌, ◌≢◌, ◌<◌, ◌≤◌, ◌+◌, ◌-◌, ◌==◌, nat_le, Bool, true, false, List, [], ◌∷◌, ◌++◌, length, take, Option, Some, None, ◌⊎◌, inl, inr, refl, sym, ap, subst, ◌∙◌, arith}
+use Rattle.std.proofs.Common.{ℕ, suc, ◌≡◌, ◌≢◌, ◌<◌, ◌≤◌, ◌+◌, ◌-◌, ◌==◌, nat_le, Bool, true, false, List, [], ◌∷◌}
+use Rattle.std.proofs.Common.{◌++◌, length, take, Option, Some, None, ◌⊎◌, inl, inr, refl, sym, ap, subst, ◌∙◌, arith}
 use Rattle.std.proofs.lemmas.Bool.{cases_eq}
 use Rattle.std.proofs.lemmas.Grind.{common_steps}
 use Rattle.std.proofs.lemmas.List.{length-append, length-drop, length-take}
@@ -49,7 +50,8 @@ use Rattle.law_histories.proofs.Told.{Acks, IsTold, Settles, Told, newest}
 use Rattle.law_histories.proofs.Handling.{plain-adopt, plain-read, plain-taken}
 use Rattle.law_histories.proofs.ToldKeeping.{HeadSide, Reached, SenderSide, head-same, seated-at, sender-one, told-left}
 use Rattle.law_histories.proofs.Newest.{NoAck, Silent, newest-append, newest-sent, silent-well, told-here, told-none}
-use Rattle.law_histories.proofs.Plain.{Plain, onward-notice, plain-apply, plain-judge, plain-mark, plain-refl, plain-trans, plain-when, settles-judge, settles-notice, settles-plain}
+use Rattle.law_histories.proofs.Plain.{Plain, onward-notice, plain-apply, plain-judge, plain-mark, plain-refl}
+use Rattle.law_histories.proofs.Plain.{plain-trans, plain-when, settles-judge, settles-notice, settles-plain}
 use Rattle.law_histories.proofs.Folds.{Along}
 
 -- an acknowledgement at a process: nothing but a head's record of it changes
@@ -82,10 +84,13 @@ takes-ack s d j r n p (Some g) is = by (r == g.rank) refl where
     rank = refl;
     last = refl;
     settles = λ old. old;
-    heads = λ h heads. let same : h ≡ g = cc (is, heads) in let apart : r ≢ g.rank = grind (arith, common_steps) in inl (heads, subst (λ (x : Head). r ≢ x.rank) (sym same) apart);
+    heads = λ h heads. let same : h ≡ g = cc (is, heads) in let apart : r ≢ g.rank = grind (arith, common_steps) in
+        inl (heads, subst (λ (x : Head). r ≢ x.rank) (sym same) apart);
   }
 
-module _ (s : Dimensions) (shaped : IsShape s) (v u w : State) (x p : ProcessId) (m : Message) (xin : IsProcess s x) (pin : IsProcess s p) (apart : x ≢ p) (up : IsUp s v) (lives : v.dead p ≡ false) (reached : Reached s v) (told : Told s v)
+module _ (s : Dimensions) (shaped : IsShape s) (v u w : State) (x p : ProcessId) (m : Message) (xin : IsProcess s x)
+    (pin : IsProcess s p) (apart : x ≢ p) (up : IsUp s v) (lives : v.dead p ≡ false) (reached : Reached s v)
+    (told : Told s v)
     (pops : Popped s v u x p m) (acts : Acted s u w p (receive s x m (v.process p))) where
   abbrev proc : Process
   proc = v.process p
@@ -122,11 +127,13 @@ module _ (s : Dimensions) (shaped : IsShape s) (v u w : State) (x p : ProcessId)
 
   out : (y : ProcessId) → IsProcess s y → y ≢ p → v.dead y ≡ false → w.link p y ≡ v.link p y ++ sent_to y made.sent
   out y yin other living =
-      acts.sends y yin (ap (λ (z : Process). knows_dead z.known y) (sym acts.process) ∙ unknown s w after p pin (dead p pin ∙ lives) y yin other (dead y yin ∙ living))
+      acts.sends y yin (ap (λ (z : Process). knows_dead z.known y) (sym acts.process)
+      ∙ unknown s w after p pin (dead p pin ∙ lives) y yin other (dead y yin ∙ living))
       ∙ ap (λ (link : List Message). link ++ sent_to y made.sent) (pops.links p y pin yin (inr other))
 
   -- what is on its way, but for a message that acknowledges nothing of the partition
-  back : (d : ℕ) → NoAck d m → (i : ℕ) → i < s.m → ParityNode i ≢ p → (o : Option ℕ) → newest d o (w.link (ParityNode i) p) ≡ newest d o (v.link (ParityNode i) p)
+  back : (d : ℕ) → NoAck d m → (i : ℕ) → i < s.m → ParityNode i ≢ p → (o : Option ℕ)
+      → newest d o (w.link (ParityNode i) p) ≡ newest d o (v.link (ParityNode i) p)
   back d none i iin other o = by (same-cases (ParityNode i) x) where
     by : (ParityNode i ≡ x) ⊎ (ParityNode i ≢ x) → newest d o (w.link (ParityNode i) p) ≡ newest d o (v.link (ParityNode i) p)
     by (inr apart_from) = ap (newest d o) (acts.links (ParityNode i) p iin pin other ∙ pops.links (ParityNode i) p iin pin (inl apart_from))
@@ -135,14 +142,16 @@ module _ (s : Dimensions) (shaped : IsShape s) (v u w : State) (x p : ProcessId)
         ∙ sym (ap (newest d o) (ap (λ (y : ProcessId). v.link y p) same ∙ pops.first) ∙ ap (λ (k : Option ℕ). newest d k (u.link x p)) (told-none d o m none))
 
   -- nothing is acknowledged, and as much is had under the same rank
-  sends-same : (d : ℕ) → d < s.k → at 0 made.process.ranks d ≡ at 0 proc.ranks d → last_of (replica_of made.process d) ≡ last_of (replica_of proc d) → Silent d made.sent → Sends d
+  sends-same : (d : ℕ) → d < s.k → at 0 made.process.ranks d ≡ at 0 proc.ranks d → last_of (replica_of made.process d)
+      ≡ last_of (replica_of proc d) → Silent d made.sent → Sends d
   sends-same d below rank last silent y i yin other living is =
       sender-one s v w p pin others dead between told d below lives y i yin other living is
       (ap (λ (z : Process). at 0 z.ranks d) acts.process ∙ rank) (ap (λ (z : Process). last_of (replica_of z d)) acts.process ∙ last)
       (λ o. ap (newest d o) (out y yin other living) ∙ newest-sent d y made.sent silent (v.link p y) o)
 
   heads-same : (d : ℕ) → d < s.k → head_at made.process d ≡ head_at proc d → NoAck d m → Heads d
-  heads-same d below head none = head-same s v w p pin others dead between told d below lives (ap (λ (z : Process). head_at z d) acts.process ∙ head) (back d none)
+  heads-same d below head none = head-same s v w p pin others dead between told d below lives
+      (ap (λ (z : Process). head_at z d) acts.process ∙ head) (back d none)
 
   plainly : (d : ℕ) → d < s.k → Plain d proc made.process → Silent d made.sent → NoAck d m → All d
   plainly d below plain silent none = (
@@ -153,7 +162,8 @@ module _ (s : Dimensions) (shaped : IsShape s) (v u w : State) (x p : ProcessId)
 
   -- what is sent in answer to a message that isn't a notice
   silent-by : (d : ℕ) → is_notice m ≡ false → ((to : ProcessId) (r e : ℕ) → DueTo x m to r e → e ≢ d) → Silent d made.sent
-  silent-by d plain none = silent-well d (DueTo x m) s.k made.process none made.sent (received s x p m proc plain pin (seated-at s shaped v members p pin lives) (may-mark s v x p m may-first)).sent
+  silent-by d plain none = silent-well d (DueTo x m) s.k made.process none made.sent
+      (received s x p m proc plain pin (seated-at s shaped v members p pin lives) (may-mark s v x p m may-first)).sent
 
   module _ (d : ℕ) (below : d < s.k) where
     around : Around Any s v d p proc (v.link p) (λ y. v.link y p) (v.settled d)
@@ -173,7 +183,8 @@ module _ (s : Dimensions) (shaped : IsShape s) (v u w : State) (x p : ProcessId)
           let own = sits.rank in absurd (omega (arith, less, own, low))
 
     -- it hears a head, and acknowledges all that it has then
-    hears : (r n : ℕ) → Used s v d x r → at 0 proc.ranks d ≤ r → head_at made.process d ≡ head_at proc d → made.sent ≡ record { to = x; message = tells.Ack (rank r) (partition d) n } ∷ []
+    hears : (r n : ℕ) → Used s v d x r → at 0 proc.ranks d ≤ r → head_at made.process d ≡ head_at proc d
+        → made.sent ≡ record { to = x; message = tells.Ack (rank r) (partition d) n } ∷ []
         → at 0 made.process.ranks d ≡ r → ((i : ℕ) → p ≡ ParityNode i → last_of (replica_of made.process d) ≡ n) → All d
     hears r n from low head sent ranked last = (
       (λ h heads. absurd (cc (none, sym head ∙ ap (λ (z : Process). head_at z d) (sym acts.process) ∙ heads))),
@@ -183,25 +194,27 @@ module _ (s : Dimensions) (shaped : IsShape s) (v u w : State) (x p : ProcessId)
       none : head_at proc d ≡ None
       none = hears-none r from low
 
-      acknowledges : (y : ProcessId) (i : ℕ) → IsProcess s y → y ≢ p → v.dead y ≡ false → p ≡ ParityNode i → (h : Head) → head_at (v.process y) d ≡ Some h → at 0 (w.process p).ranks d ≡ h.rank
+      acknowledges : (y : ProcessId) (i : ℕ) → IsProcess s y → y ≢ p → v.dead y ≡ false → p ≡ ParityNode i → (h : Head)
+          → head_at (v.process y) d ≡ Some h → at 0 (w.process p).ranks d ≡ h.rank
           → IsTold h.rank (newest d (at None h.acks i) (w.link p y)) (last_of (replica_of (w.process p) d))
-      acknowledges y i yin other living is h heads same = inl (told_now ∙ ap Some (sym (ap (λ (z : Process). last_of (replica_of z d)) acts.process ∙ last i is))) where
-        rank_is : r ≡ h.rank
-        rank_is = sym ranked ∙ ap (λ (z : Process). at 0 z.ranks d) (sym acts.process) ∙ same
+      acknowledges y i yin other living is h heads same =
+          inl (told_now ∙ ap Some (sym (ap (λ (z : Process). last_of (replica_of z d)) acts.process ∙ last i is))) where
+            rank_is : r ≡ h.rank
+            rank_is = sym ranked ∙ ap (λ (z : Process). at 0 z.ranks d) (sym acts.process) ∙ same
 
-        is_head : x ≡ y
-        is_head = from.0 ∙ ap (of_rank d) rank_is ∙ sym (head-from s v d members below y h yin living heads).0
+            is_head : x ≡ y
+            is_head = from.0 ∙ ap (of_rank d) rank_is ∙ sym (head-from s v d members below y h yin living heads).0
 
-        one : sent_to y made.sent ≡ tells.Ack (rank r) (partition d) n ∷ []
-        one =
-            ap (sent_to y) sent ∙ ap (λ (z : ProcessId). sent_to y (record { to = z; message = tells.Ack (rank r) (partition d) n } ∷ [])) is_head
-            ∙ ap (λ (b : Bool). front_if b (tells.Ack (rank r) (partition d) n) []) (same-refl y)
+            one : sent_to y made.sent ≡ tells.Ack (rank r) (partition d) n ∷ []
+            one =
+                ap (sent_to y) sent ∙ ap (λ (z : ProcessId). sent_to y (record { to = z; message = tells.Ack (rank r) (partition d) n } ∷ [])) is_head
+                ∙ ap (λ (b : Bool). front_if b (tells.Ack (rank r) (partition d) n) []) (same-refl y)
 
-        told_now : newest d (at None h.acks i) (w.link p y) ≡ Some n
-        told_now =
-            ap (newest d (at None h.acks i)) (out y yin other living ∙ ap (λ (ms : List Message). v.link p y ++ ms) one)
-            ∙ newest-append d (at None h.acks i) (v.link p y) (tells.Ack (rank r) (partition d) n ∷ [])
-            ∙ told-here d (newest d (at None h.acks i) (v.link p y)) d n refl
+            told_now : newest d (at None h.acks i) (w.link p y) ≡ Some n
+            told_now =
+                ap (newest d (at None h.acks i)) (out y yin other living ∙ ap (λ (ms : List Message). v.link p y ++ ms) one)
+                ∙ newest-append d (at None h.acks i) (v.link p y) (tells.Ack (rank r) (partition d) n ∷ [])
+                ∙ told-here d (newest d (at None h.acks i) (v.link p y)) d n refl
 
     goes : (i : ℕ) → p ≡ ParityNode i → Goes Any d (v.settled d) seen m
     goes i is = (subst (Along (next d) (Goes Any d (v.settled d)) seen) pops.first (around.inward x i is xin apart).goes).0
@@ -212,7 +225,8 @@ module _ (s : Dimensions) (shaped : IsShape s) (v u w : State) (x p : ProcessId)
     updated : (u : Update) (stable : ℕ) → last_of (replica_of (update_taken s d u stable proc) d) ≡ suc (last_of (replica_of proc d))
     updated u stable =
         let q : Process = apply_to s d stable proc in
-        let is : replica_of (update_taken s d u stable proc) d ≡ with_update u (replica_of q d) = at-put empty_replica empty_replica q.replicas d (with_update u (replica_of q d)) in
+        let is : replica_of (update_taken s d u stable proc) d ≡ with_update u (replica_of q d) =
+        at-put empty_replica empty_replica q.replicas d (with_update u (replica_of q d)) in
         let last : last_of (replica_of (update_taken s d u stable proc) d) ≡ last_of (with_update u (replica_of q d)) = ap last_of is in
         let longer = length-append (replica_of q d).log (u ∷ []) in
         let kept : last_of (replica_of q d) ≡ last_of (replica_of proc d) = (plain-apply s d d stable proc).last in
@@ -223,7 +237,8 @@ module _ (s : Dimensions) (shaped : IsShape s) (v u w : State) (x p : ProcessId)
     adopted r base list i is goes =
         let ranked : Process = with_rank d r proc in
         let q : Process = apply_to s d base ranked in
-        let new : replica_of (log_adopted s r d base list proc) d ≡ adopting base list (replica_of q d) = at-put empty_replica empty_replica q.replicas d (adopting base list (replica_of q d)) in
+        let new : replica_of (log_adopted s r d base list proc) d ≡ adopting base list (replica_of q d) =
+        at-put empty_replica empty_replica q.replicas d (adopting base list (replica_of q d)) in
         let applied : replica_of q d ≡ applied_to base (replica_of proc d) = replica-apply_to s d base ranked in
         let last : last_of (replica_of (log_adopted s r d base list proc) d) ≡ last_of (adopting base list (applied_to base (replica_of proc d))) = ap last_of
         (new ∙ ap (adopting base list) applied) in
@@ -243,11 +258,13 @@ module _ (s : Dimensions) (shaped : IsShape s) (v u w : State) (x p : ProcessId)
   link-same i iin other apart_from = acts.links (ParityNode i) p iin pin other ∙ pops.links (ParityNode i) p iin pin (inl apart_from)
 
 -- messages of sessions leave what is looked at
-plain-block : (s : Dimensions) (d : ℕ) (x : ProcessId) (session : Session) (bytes : List ℕ) (n : ℕ) (p : Process) → Plain d p (receive s x (tells.Block session bytes n) p).process
+plain-block : (s : Dimensions) (d : ℕ) (x : ProcessId) (session : Session) (bytes : List ℕ) (n : ℕ) (p : Process)
+    → Plain d p (receive s x (tells.Block session bytes n) p).process
 plain-block s d (DataNode e) session bytes n p = record { name = refl; known = refl; head = refl; rank = refl; last = refl; applied = omega arith }
 plain-block s d (ParityNode i) session bytes n p = plain-refl d p
 
-plain-row : (s : Dimensions) (d : ℕ) (x : ProcessId) (session : Session) (bytes : List ℕ) (stamp : List ℕ) (p : Process) → Plain d p (receive s x (tells.Row session bytes stamp) p).process
+plain-row : (s : Dimensions) (d : ℕ) (x : ProcessId) (session : Session) (bytes : List ℕ) (stamp : List ℕ) (p : Process)
+    → Plain d p (receive s x (tells.Row session bytes stamp) p).process
 plain-row s d (DataNode e) session bytes stamp p = plain-refl d p
 plain-row s d (ParityNode i) session bytes stamp p = record { name = refl; known = refl; head = refl; rank = refl; last = refl; applied = omega arith }
 
@@ -260,17 +277,28 @@ plain-acknowledge : (s : Dimensions) (d i r e n : ℕ) (o : Option Head) (p : Pr
 plain-acknowledge s d i r e n None p other = plain-refl d p
 plain-acknowledge s d i r e n (Some h) p other =
     let new : Process = with_head e (Some (acknowledged i n h)) p in
-    let first : Plain d p new = record { name = refl; known = refl; head = at-put-other None p.heads e d (Some (acknowledged i n h)) (λ is. other (sym is)); rank = refl; last = refl; applied = omega arith } in
+    let first : Plain d p new =
+    record {
+      name = refl;
+      known = refl;
+      head = at-put-other None p.heads e d (Some (acknowledged i n h))
+          (λ is. other (sym is));
+      rank = refl;
+      last = refl;
+      applied = omega arith;
+    } in
     plain-when d (r == h.rank) p (judge s e new) (plain-trans first (plain-judge s d e new))
 
-plain-ack : (s : Dimensions) (d : ℕ) (x : ProcessId) (r : Rank) (e : Partition) (n : ℕ) (p : Process) → e.0 ≢ d → Plain d p (receive s x (tells.Ack r e n) p).process
+plain-ack : (s : Dimensions) (d : ℕ) (x : ProcessId) (r : Rank) (e : Partition) (n : ℕ) (p : Process) → e.0 ≢ d
+    → Plain d p (receive s x (tells.Ack r e n) p).process
 plain-ack s d (DataNode z) r e n p other = plain-refl d p
 plain-ack s d (ParityNode i) r e n p other = plain-acknowledge s d i r.0 e.0 n (head_at p e.0) p other
 
 module _ (s : Dimensions) (shaped : IsShape s) (v u w : State) (x p : ProcessId) (xin : IsProcess s x) (pin : IsProcess s p) (apart : x ≢ p) (up : IsUp s v)
     (lives : v.dead p ≡ false) (reached : Reached s v) (told : Told s v) where
   abbrev Comes : Message → ℕ → Type 0
-  Comes m d = (pops : Popped s v u x p m) (acts : Acted s u w p (receive s x m (v.process p))) → All s shaped v u w x p m xin pin apart up lives reached told pops acts d
+  Comes m d = (pops : Popped s v u x p m) (acts : Acted s u w p (receive s x m (v.process p)))
+      → All s shaped v u w x p m xin pin apart up lives reached told pops acts d
 
   abbrev proc0 : Process
   proc0 = v.process p
@@ -283,18 +311,21 @@ module _ (s : Dimensions) (shaped : IsShape s) (v u w : State) (x p : ProcessId)
 
     by : (e.0 ≡ d) ⊎ (e.0 ≢ d) → (b : Bool) → nat_le (at 0 proc0.ranks e.0) r.0 ≡ b → All s shaped v u w x p m xin pin apart up lives reached told pops acts d
     by (inr other) b test = plainly s shaped v u w x p m xin pin apart up lives reached told pops acts d below
-        (plain-when d (nat_le (at 0 proc0.ranks e.0) r.0) proc0 (ack_to x r.0 e.0 y.number (update_taken s e.0 y stable proc0)) (plain-taken s d e.0 y stable proc0 other))
+        (plain-when d (nat_le (at 0 proc0.ranks e.0) r.0) proc0
+        (ack_to x r.0 e.0 y.number (update_taken s e.0 y stable proc0)) (plain-taken s d e.0 y stable proc0 other))
         (silent-by s shaped v u w x p m xin pin apart up lives reached told pops acts d refl (λ to q k due same. other (sym due.2 ∙ same))) tt
     by (inl same) false test =
         let is : receive s x m proc0 ≡ quiet proc0 = ap (λ (b : Bool). when b proc0 (ack_to x r.0 e.0 y.number (update_taken s e.0 y stable proc0))) test in
         plainly s shaped v u w x p m xin pin apart up lives reached told pops acts d below
         (subst (λ (t : ProcessStep). Plain d proc0 t.process) (sym is) (plain-refl d proc0)) (subst (λ (t : ProcessStep). Silent d t.sent) (sym is) tt) tt
     by (inl same) true test = hears s shaped v u w x p m xin pin apart up lives reached told pops acts d below r.0 y.number from low
-        (ap (λ (t : ProcessStep). head_at t.process d) is) (ap (λ (t : ProcessStep). t.sent) is) (ap (λ (t : ProcessStep). at 0 t.process.ranks d) is ∙ sym (goes_at at_i.0 at_i.1).rank)
+        (ap (λ (t : ProcessStep). head_at t.process d) is) (ap (λ (t : ProcessStep). t.sent) is)
+        (ap (λ (t : ProcessStep). at 0 t.process.ranks d) is ∙ sym (goes_at at_i.0 at_i.1).rank)
         (λ i isp. ap (λ (t : ProcessStep). last_of (replica_of t.process d)) is ∙ number i isp)
       where
         is : receive s x m proc0 ≡ ack_to x r.0 d y.number (update_taken s d y stable proc0)
-        is = ap (λ (b : Bool). when b proc0 (ack_to x r.0 e.0 y.number (update_taken s e.0 y stable proc0))) test ∙ ap (λ (k : ℕ). ack_to x r.0 k y.number (update_taken s k y stable proc0)) same
+        is = ap (λ (b : Bool). when b proc0 (ack_to x r.0 e.0 y.number (update_taken s e.0 y stable proc0))) test
+            ∙ ap (λ (k : ℕ). ack_to x r.0 k y.number (update_taken s k y stable proc0)) same
 
         may : IsFrom s v x e.0 r.0 × IsParity p
         may = may-first s shaped v u w x p m xin pin apart up lives reached told pops acts
@@ -312,12 +343,14 @@ module _ (s : Dimensions) (shaped : IsShape s) (v u w : State) (x p : ProcessId)
         at_i = parity-is p may.1
 
         goes_at : (i : ℕ) → p ≡ ParityNode i → UpdateGoes Any d (v.settled d) (seen_at d (v.settled d) proc0) r.0 y stable
-        goes_at i isp = goes s shaped v u w x p m xin pin apart up lives reached told pops acts d below i isp (live-is d (seen_at d (v.settled d) proc0) e.0 r.0 same low)
+        goes_at i isp = goes s shaped v u w x p m xin pin apart up lives reached told pops acts d below i isp
+            (live-is d (seen_at d (v.settled d) proc0) e.0 r.0 same low)
 
         number : (i : ℕ) → p ≡ ParityNode i → last_of (replica_of (update_taken s d y stable proc0) d) ≡ y.number
         number i isp =
             let one = updated s shaped v u w x p m xin pin apart up lives reached told pops acts d below y stable in
-            let long = length-history (v.settled d) (replica_of proc0 d) (own s shaped v u w x p m xin pin apart up lives reached told pops acts d below i isp).applied in
+            let long = length-history (v.settled d) (replica_of proc0 d)
+            (own s shaped v u w x p m xin pin apart up lives reached told pops acts d below i isp).applied in
             let next_number = last-number (history (v.settled d) (replica_of proc0 d)) y (goes_at i isp).fine.0 in omega (arith, one, long, next_number)
 
   -- a new head's log
@@ -328,15 +361,21 @@ module _ (s : Dimensions) (shaped : IsShape s) (v u w : State) (x p : ProcessId)
 
     by : (e.0 ≡ d) ⊎ (e.0 ≢ d) → (b : Bool) → nat_le (at 0 proc0.ranks e.0) r.0 ≡ b → All s shaped v u w x p m xin pin apart up lives reached told pops acts d
     by (inr other) b test = plainly s shaped v u w x p m xin pin apart up lives reached told pops acts d below
-        (plain-when d (nat_le (at 0 proc0.ranks e.0) r.0) proc0 (ack_to x r.0 e.0 (base + length list) (log_adopted s r.0 e.0 base list proc0)) (plain-adopt s d r.0 e.0 base list proc0 other))
+        (plain-when d (nat_le (at 0 proc0.ranks e.0) r.0) proc0
+        (ack_to x r.0 e.0 (base + length list) (log_adopted s r.0 e.0 base list proc0))
+        (plain-adopt s d r.0 e.0 base list proc0 other))
         (silent-by s shaped v u w x p m xin pin apart up lives reached told pops acts d refl (λ to q k due same. other (sym due.2 ∙ same))) tt
     by (inl same) false test =
-        let is : receive s x m proc0 ≡ quiet proc0 = ap (λ (b : Bool). when b proc0 (ack_to x r.0 e.0 (base + length list) (log_adopted s r.0 e.0 base list proc0))) test in
+        let is : receive s x m proc0 ≡ quiet proc0 =
+        ap (λ (b : Bool).
+        when b proc0 (ack_to x r.0 e.0 (base + length list) (log_adopted s r.0 e.0 base list proc0))) test in
         plainly s shaped v u w x p m xin pin apart up lives reached told pops acts d below
         (subst (λ (t : ProcessStep). Plain d proc0 t.process) (sym is) (plain-refl d proc0)) (subst (λ (t : ProcessStep). Silent d t.sent) (sym is) tt) tt
     by (inl same) true test = hears s shaped v u w x p m xin pin apart up lives reached told pops acts d below r.0 (base + length list) from low
-        (ap (λ (t : ProcessStep). head_at t.process d) is) (ap (λ (t : ProcessStep). t.sent) is) (ap (λ (t : ProcessStep). at 0 t.process.ranks d) is ∙ at-put 0 0 proc0.ranks d r.0)
-        (λ i isp. ap (λ (t : ProcessStep). last_of (replica_of t.process d)) is ∙ adopted s shaped v u w x p m xin pin apart up lives reached told pops acts d below r.0 base list i isp (goes_at i isp))
+        (ap (λ (t : ProcessStep). head_at t.process d) is) (ap (λ (t : ProcessStep). t.sent) is)
+        (ap (λ (t : ProcessStep). at 0 t.process.ranks d) is ∙ at-put 0 0 proc0.ranks d r.0)
+        (λ i isp. ap (λ (t : ProcessStep). last_of (replica_of t.process d)) is ∙ adopted s shaped v u w x p m xin pin
+        apart up lives reached told pops acts d below r.0 base list i isp (goes_at i isp))
       where
         is : receive s x m proc0 ≡ ack_to x r.0 d (base + length list) (log_adopted s r.0 d base list proc0)
         is =
@@ -356,7 +395,8 @@ module _ (s : Dimensions) (shaped : IsShape s) (v u w : State) (x p : ProcessId)
         low = subst (λ (k : ℕ). at 0 proc0.ranks k ≤ r.0) same low_e
 
         goes_at : (i : ℕ) → p ≡ ParityNode i → AdoptGoes Any d (v.settled d) (seen_at d (v.settled d) proc0) r.0 base list
-        goes_at i isp = goes s shaped v u w x p m xin pin apart up lives reached told pops acts d below i isp (live-is d (seen_at d (v.settled d) proc0) e.0 r.0 same low)
+        goes_at i isp = goes s shaped v u w x p m xin pin apart up lives reached told pops acts d below i isp
+            (live-is d (seen_at d (v.settled d) proc0) e.0 r.0 same low)
 
   -- an acknowledgement
   comes-ack : (r : Rank) (e : Partition) (n d : ℕ) → d < s.k → Comes (tells.Ack r e n) d
@@ -392,52 +432,60 @@ module _ (s : Dimensions) (shaped : IsShape s) (v u w : State) (x p : ProcessId)
       takes = subst (λ (t : ProcessStep). TakesAck s d j r.0 n proc0 t.process) (sym step_is) (takes-ack s d j r.0 n proc0 (head_at proc0 d) refl)
 
       heads : (i : ℕ) → i < s.m → ParityNode i ≢ p → v.dead (ParityNode i) ≡ false
-          → Acks d i (head_at (w.process p) d) (at 0 (v.process (ParityNode i)).ranks d) (last_of (replica_of (v.process (ParityNode i)) d)) (w.link (ParityNode i) p)
-      heads i iin other living h heads_w ranked = which (takes.heads h (ap (λ (y : Process). head_at y d) (sym acts.process) ∙ heads_w)) (same-cases (ParityNode i) x) where
-        last : ℕ
-        last = last_of (replica_of (v.process (ParityNode i)) d)
+          → Acks d i (head_at (w.process p) d) (at 0 (v.process (ParityNode i)).ranks d)
+          (last_of (replica_of (v.process (ParityNode i)) d)) (w.link (ParityNode i) p)
+      heads i iin other living h heads_w ranked =
+          which (takes.heads h (ap (λ (y : Process). head_at y d) (sym acts.process) ∙ heads_w))
+          (same-cases (ParityNode i) x) where
+            last : ℕ
+            last = last_of (replica_of (v.process (ParityNode i)) d)
 
-        old : (g : Head) → head_at proc0 d ≡ Some g → at 0 (v.process (ParityNode i)).ranks d ≡ g.rank → IsTold g.rank (newest d (at None g.acks i) (v.link (ParityNode i) p)) last
-        old g = told.acks p i d pin iin (λ k. other (sym k)) lives living below g
+            old : (g : Head) → head_at proc0 d ≡ Some g → at 0 (v.process (ParityNode i)).ranks d ≡ g.rank
+                → IsTold g.rank (newest d (at None g.acks i) (v.link (ParityNode i) p)) last
+            old g = told.acks p i d pin iin (λ k. other (sym k)) lives living below g
 
-        link_x : v.link (ParityNode i) p ≡ v.link x p → ParityNode i ≡ x → v.link (ParityNode i) p ≡ m ∷ u.link x p
-        link_x e1 k = e1 ∙ pops.first
+            link_x : v.link (ParityNode i) p ≡ v.link x p → ParityNode i ≡ x → v.link (ParityNode i) p ≡ m ∷ u.link x p
+            link_x e1 k = e1 ∙ pops.first
 
-        first : ParityNode i ≡ x → v.link (ParityNode i) p ≡ m ∷ u.link x p
-        first k = ap (λ (y : ProcessId). v.link y p) k ∙ pops.first
+            first : ParityNode i ≡ x → v.link (ParityNode i) p ≡ m ∷ u.link x p
+            first k = ap (λ (y : ProcessId). v.link y p) k ∙ pops.first
 
-        left_link : ParityNode i ≡ x → w.link (ParityNode i) p ≡ u.link x p
-        left_link k = acts.links (ParityNode i) p iin pin other ∙ ap (λ (y : ProcessId). u.link y p) k
+            left_link : ParityNode i ≡ x → w.link (ParityNode i) p ≡ u.link x p
+            left_link k = acts.links (ParityNode i) p iin pin other ∙ ap (λ (y : ProcessId). u.link y p) k
 
-        same_link : ParityNode i ≢ x → w.link (ParityNode i) p ≡ v.link (ParityNode i) p
-        same_link k = link-same s shaped v u w x p m xin pin apart up lives reached told pops acts i iin other k
+            same_link : ParityNode i ≢ x → w.link (ParityNode i) p ≡ v.link (ParityNode i) p
+            same_link k = link-same s shaped v u w x p m xin pin apart up lives reached told pops acts i iin other k
 
-        fits : ParityNode i ≡ x → AckGoes d p (seen_at d (v.settled d) (v.process (ParityNode i))) r.0 n
-        fits k = (subst (Each (AckFits d p (seen_at d (v.settled d) (v.process (ParityNode i))))) (first k) (((reached.1 d below).lanes p i pin iin (λ z. other (sym z)) living).acks lives)).0 same
+            fits : ParityNode i ≡ x → AckGoes d p (seen_at d (v.settled d) (v.process (ParityNode i))) r.0 n
+            fits k = (subst (Each (AckFits d p (seen_at d (v.settled d) (v.process (ParityNode i))))) (first k)
+                (((reached.1 d below).lanes p i pin iin (λ z. other (sym z)) living).acks lives)).0 same
 
-        which : ((head_at proc0 d ≡ Some h) × (r.0 ≢ h.rank)) ⊎ ((g : Head) × (head_at proc0 d ≡ Some g) × (h ≡ acknowledged j n g))
-            → (ParityNode i ≡ x) ⊎ (ParityNode i ≢ x) → IsTold h.rank (newest d (at None h.acks i) (w.link (ParityNode i) p)) last
-        which (inl was) (inl k) = absurd (was.1 (sym (fits k).rank ∙ ranked))
-        which (inl was) (inr k) = subst (λ (ms : List Message). IsTold h.rank (newest d (at None h.acks i) ms) last) (sym (same_link k)) (old h was.0 ranked)
-        which (inr new) (inl k) =
-            let own_number : i ≡ j = cc (k, is) in
-            let g : Head = new.0 in
-            let before : IsTold g.rank (newest d (at None g.acks i) (m ∷ u.link x p)) last = subst
-            (λ (ms : List Message). IsTold g.rank (newest d (at None g.acks i) ms) last) (first k)
-            (old g new.1 (ranked ∙ ap (λ (y : Head). y.rank) new.2)) in
-            let here : newest d (at None g.acks i) (m ∷ u.link x p) ≡ newest d (Some n) (u.link x p) = ap (λ (o : Option ℕ). newest d o (u.link x p)) (told-here d (at None g.acks i) e.0 n same) in
-            let put_here : at None (put None g.acks j (Some n)) i ≡ Some n = ap (at None (put None g.acks j (Some n))) own_number ∙ at-put None None g.acks j (Some n) in
-            subst (λ (y : Head). IsTold y.rank (newest d (at None y.acks i) (w.link (ParityNode i) p)) last) (sym new.2)
-            (subst (λ (ms : List Message). IsTold g.rank (newest d (at None (put None g.acks j (Some n)) i) ms) last) (sym (left_link k))
-            (subst (λ (o : Option ℕ). IsTold g.rank (newest d o (u.link x p)) last) (sym put_here)
-            (subst (λ (o : Option ℕ). IsTold g.rank o last) here before)))
-        which (inr new) (inr k) =
-            let g : Head = new.0 in
-            let other_number : i ≢ j = λ equal. k (ap ParityNode equal ∙ sym is) in
-            subst (λ (y : Head). IsTold y.rank (newest d (at None y.acks i) (w.link (ParityNode i) p)) last) (sym new.2)
-            (subst (λ (ms : List Message). IsTold g.rank (newest d (at None (put None g.acks j (Some n)) i) ms) last) (sym (same_link k))
-            (subst (λ (o : Option ℕ). IsTold g.rank (newest d o (v.link (ParityNode i) p)) last) (sym (at-put-other None g.acks j i (Some n) other_number))
-            (old g new.1 (ranked ∙ ap (λ (y : Head). y.rank) new.2))))
+            which : ((head_at proc0 d ≡ Some h) × (r.0 ≢ h.rank)) ⊎ ((g : Head) × (head_at proc0 d ≡ Some g) × (h ≡ acknowledged j n g))
+                → (ParityNode i ≡ x) ⊎ (ParityNode i ≢ x) → IsTold h.rank (newest d (at None h.acks i) (w.link (ParityNode i) p)) last
+            which (inl was) (inl k) = absurd (was.1 (sym (fits k).rank ∙ ranked))
+            which (inl was) (inr k) = subst (λ (ms : List Message). IsTold h.rank (newest d (at None h.acks i) ms) last)
+                (sym (same_link k)) (old h was.0 ranked)
+            which (inr new) (inl k) =
+                let own_number : i ≡ j = cc (k, is) in
+                let g : Head = new.0 in
+                let before : IsTold g.rank (newest d (at None g.acks i) (m ∷ u.link x p)) last = subst
+                (λ (ms : List Message). IsTold g.rank (newest d (at None g.acks i) ms) last) (first k)
+                (old g new.1 (ranked ∙ ap (λ (y : Head). y.rank) new.2)) in
+                let here : newest d (at None g.acks i) (m ∷ u.link x p) ≡ newest d (Some n) (u.link x p) =
+                ap (λ (o : Option ℕ). newest d o (u.link x p)) (told-here d (at None g.acks i) e.0 n same) in
+                let put_here : at None (put None g.acks j (Some n)) i ≡ Some n = ap (at None (put None g.acks j (Some n)))
+                own_number ∙ at-put None None g.acks j (Some n) in
+                subst (λ (y : Head). IsTold y.rank (newest d (at None y.acks i) (w.link (ParityNode i) p)) last) (sym new.2)
+                (subst (λ (ms : List Message). IsTold g.rank (newest d (at None (put None g.acks j (Some n)) i) ms) last) (sym (left_link k))
+                (subst (λ (o : Option ℕ). IsTold g.rank (newest d o (u.link x p)) last) (sym put_here)
+                (subst (λ (o : Option ℕ). IsTold g.rank o last) here before)))
+            which (inr new) (inr k) =
+                let g : Head = new.0 in
+                let other_number : i ≢ j = λ equal. k (ap ParityNode equal ∙ sym is) in
+                subst (λ (y : Head). IsTold y.rank (newest d (at None y.acks i) (w.link (ParityNode i) p)) last) (sym new.2)
+                (subst (λ (ms : List Message). IsTold g.rank (newest d (at None (put None g.acks j (Some n)) i) ms) last) (sym (same_link k))
+                (subst (λ (o : Option ℕ). IsTold g.rank (newest d o (v.link (ParityNode i) p)) last) (sym (at-put-other None g.acks j i (Some n) other_number))
+                (old g new.1 (ranked ∙ ap (λ (y : Head). y.rank) new.2))))
 
     by : (e.0 ≡ d) ⊎ (e.0 ≢ d) → All s shaped v u w x p m xin pin apart up lives reached told pops acts d
     by (inr away) = plainly s shaped v u w x p m xin pin apart up lives reached told pops acts d below (plain-ack s d x r e n proc0 away) silent away
@@ -459,25 +507,31 @@ module _ (s : Dimensions) (shaped : IsShape s) (v u w : State) (x p : ProcessId)
     lives_w = dead s shaped v u w x p m xin pin apart up lives reached told pops acts p pin ∙ lives
 
     by : (o : Option Head) → head_at proc0 d ≡ o → (i : ℕ) → i < s.m → ParityNode i ≢ p → v.dead (ParityNode i) ≡ false
-        → Acks d i (head_at (w.process p) d) (at 0 (v.process (ParityNode i)).ranks d) (last_of (replica_of (v.process (ParityNode i)) d)) (w.link (ParityNode i) p)
-    by (Some g) was i iin other living = heads-same s shaped v u w x p m xin pin apart up lives reached told pops acts d below ((onward-notice s d y proc0).heads g was ∙ sym was) tt i iin other living
+        → Acks d i (head_at (w.process p) d) (at 0 (v.process (ParityNode i)).ranks d)
+        (last_of (replica_of (v.process (ParityNode i)) d)) (w.link (ParityNode i) p)
+    by (Some g) was i iin other living = heads-same s shaped v u w x p m xin pin apart up lives reached told pops acts d
+        below ((onward-notice s d y proc0).heads g was ∙ sym was) tt i iin other living
     by None was i iin other living = λ h heads ranked.
         let from : Used s w d p h.rank = head-from s w d members_w below p h pin lives_w heads in
         let reigns : Reigns s v d (at 0 (v.process (ParityNode i)).ranks d) = reached.0.ranks (ParityNode i) d iin living below in
         let is : of_rank d (at 0 (v.process (ParityNode i)).ranks d) ≡ p = ap (of_rank d) ranked ∙ sym from.0 in
-        let seat : seat_of proc0 d ≡ Some (at 0 (v.process (ParityNode i)).ranks d) = ap (λ (z : ProcessId). seat_of (v.process z) d) (sym is) ∙ reigns.leads (ap v.dead is ∙ lives) in
+        let seat : seat_of proc0 d ≡ Some (at 0 (v.process (ParityNode i)).ranks d) =
+        ap (λ (z : ProcessId). seat_of (v.process z) d) (sym is) ∙ reigns.leads (ap v.dead is ∙ lives) in
         absurd (cc (seat, ap (option_map (λ (z : Head). z.rank)) was))
 
     sends : (z : ProcessId) (i : ℕ) → IsProcess s z → z ≢ p → v.dead z ≡ false → p ≡ ParityNode i
         → Acks d i (head_at (v.process z) d) (at 0 (w.process p).ranks d) (last_of (replica_of (w.process p) d)) (w.link p z)
     sends z i zin other living isp = which (got.ranks d below) where
-      which : (at 0 (notice_comes s y proc0).process.ranks d ≡ at 0 proc0.ranks d) ⊎ (seat_of (notice_comes s y proc0).process d ≡ Some (at 0 (notice_comes s y proc0).process.ranks d))
+      which : (at 0 (notice_comes s y proc0).process.ranks d ≡ at 0 proc0.ranks d)
+          ⊎ (seat_of (notice_comes s y proc0).process d ≡ Some (at 0 (notice_comes s y proc0).process.ranks d))
           → Acks d i (head_at (v.process z) d) (at 0 (w.process p).ranks d) (last_of (replica_of (w.process p) d)) (w.link p z)
       which (inl same) = sends-same s shaped v u w x p m xin pin apart up lives reached told pops acts d below same (onward-notice s d y proc0).last
           (silent-well d Owes s.k (notice_comes s y proc0).process (λ to q k owes. absurd owes) (notice_comes s y proc0).sent got.sent) z i zin other living isp
       which (inr seat) = λ h heads ranked.
-          let seat_w : seat_of (w.process p) d ≡ Some (at 0 (w.process p).ranks d) = subst (λ (q : Process). seat_of q d ≡ Some (at 0 q.ranks d)) (sym acts.process) seat in
-          let is_p : p ≡ of_rank d (at 0 (w.process p).ranks d) = (seat-from s w (ground_of s w members_w) p d (at 0 (w.process p).ranks d) pin lives_w below seat_w).0 in
+          let seat_w : seat_of (w.process p) d ≡ Some (at 0 (w.process p).ranks d) =
+          subst (λ (q : Process). seat_of q d ≡ Some (at 0 q.ranks d)) (sym acts.process) seat in
+          let is_p : p ≡ of_rank d (at 0 (w.process p).ranks d) =
+          (seat-from s w (ground_of s w members_w) p d (at 0 (w.process p).ranks d) pin lives_w below seat_w).0 in
           let is_z : z ≡ of_rank d h.rank = (head-from s v d reached.0 below z h zin living heads).0 in
           absurd (other (is_z ∙ ap (of_rank d) (sym ranked) ∙ sym is_p))
 
@@ -489,16 +543,21 @@ module _ (s : Dimensions) (shaped : IsShape s) (v u w : State) (x p : ProcessId)
   comes (tells.Stable r e n) d below pops acts = plainly s shaped v u w x p (tells.Stable r e n) xin pin apart up lives reached told pops acts d below
       (plain-when d (nat_le (at 0 proc0.ranks e.0) r.0) proc0 (quiet (apply_to s e.0 n proc0)) (plain-apply s d e.0 n proc0))
       (silent-by s shaped v u w x p (tells.Stable r e n) xin pin apart up lives reached told pops acts d refl (λ to q k due. absurd due)) tt
-  comes (tells.ReadBlock session block rows) d below pops acts = plainly s shaped v u w x p (tells.ReadBlock session block rows) xin pin apart up lives reached told pops acts d below
+  comes (tells.ReadBlock session block rows) d below pops acts =
+      plainly s shaped v u w x p (tells.ReadBlock session block rows) xin pin apart up lives reached told pops acts d
+      below
       (plain-read s d session block rows proc0 proc0.name)
       (silent-by s shaped v u w x p (tells.ReadBlock session block rows) xin pin apart up lives reached told pops acts d refl (λ to q k due. absurd due)) tt
-  comes (tells.Block session bytes n) d below pops acts = plainly s shaped v u w x p (tells.Block session bytes n) xin pin apart up lives reached told pops acts d below
+  comes (tells.Block session bytes n) d below pops acts = plainly s shaped v u w x p (tells.Block session bytes n) xin
+      pin apart up lives reached told pops acts d below
       (plain-block s d x session bytes n proc0)
       (silent-by s shaped v u w x p (tells.Block session bytes n) xin pin apart up lives reached told pops acts d refl (λ to q k due. absurd due)) tt
-  comes (tells.Mark session r block e n) d below pops acts = plainly s shaped v u w x p (tells.Mark session r block e n) xin pin apart up lives reached told pops acts d below
+  comes (tells.Mark session r block e n) d below pops acts = plainly s shaped v u w x p (tells.Mark session r block e n)
+      xin pin apart up lives reached told pops acts d below
       (plain-mark s d (parity_number session.leader) session.number r.0 block e.0 n proc0)
       (silent-by s shaped v u w x p (tells.Mark session r block e n) xin pin apart up lives reached told pops acts d refl (λ to q k due. absurd due)) tt
-  comes (tells.Row session bytes stamp) d below pops acts = plainly s shaped v u w x p (tells.Row session bytes stamp) xin pin apart up lives reached told pops acts d below
+  comes (tells.Row session bytes stamp) d below pops acts = plainly s shaped v u w x p (tells.Row session bytes stamp)
+      xin pin apart up lives reached told pops acts d below
       (plain-row s d x session bytes stamp proc0)
       (silent-by s shaped v u w x p (tells.Row session bytes stamp) xin pin apart up lives reached told pops acts d refl (λ to q k due. absurd due)) tt
   comes (tells.Cease upto) d below pops acts = plainly s shaped v u w x p (tells.Cease upto) xin pin apart up lives reached told pops acts d below
@@ -508,5 +567,6 @@ module _ (s : Dimensions) (shaped : IsShape s) (v u w : State) (x p : ProcessId)
 
   pub told-receives : (m : Message) → Popped s v u x p m → Acted s u w p (receive s x m (v.process p)) → Told s w
   told-receives m pops acts =
-      told-left s v w p pin (others s shaped v u w x p m xin pin apart up lives reached told pops acts) (dead s shaped v u w x p m xin pin apart up lives reached told pops acts)
+      told-left s v w p pin (others s shaped v u w x p m xin pin apart up lives reached told pops acts)
+      (dead s shaped v u w x p m xin pin apart up lives reached told pops acts)
       (between s shaped v u w x p m xin pin apart up lives reached told pops acts) told (λ d below. comes m d below pops acts)

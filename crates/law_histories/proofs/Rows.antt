@@ -1,5 +1,7 @@
 -- Steps of rows and leaders, told of one partition: a mark applies it, and all else leaves it as it is.
-use Rattle.std.proofs.Common.{ℕ, zero, suc, ◌≡◌, ◌≢◌, ◌<◌, ◌≤◌, ◌+◌, ◌-◌, ◌==◌, nat_lt, Bool, true, false, not, List, [], ◌∷◌, length, drop, take, Option, Some, None, ◌⊎◌, inl, inr, refl, sym, ap, subst, ◌∙◌, if◌then◌else◌, arith}
+use Rattle.std.proofs.Common.{ℕ, zero, suc, ◌≡◌, ◌≢◌, ◌<◌, ◌≤◌, ◌+◌, ◌-◌, ◌==◌, nat_lt, Bool, true, false, not, List}
+use Rattle.std.proofs.Common.{[], ◌∷◌, length, drop, take, Option, Some, None, ◌⊎◌, inl, inr, refl, sym, ap, subst, ◌∙◌}
+use Rattle.std.proofs.Common.{if◌then◌else◌, arith}
 use Rattle.std.proofs.lemmas.Bool.{cases_eq}
 use Rattle.std.proofs.lemmas.Grind.{common_steps}
 use Rattle.std.specs.Prelude.{filter, flat_map, is_some, map}
@@ -14,7 +16,9 @@ use Rattle.group_message.specs.declared.message.Message.TheVariants as tells
 use Rattle.group_run.specs.Applying.{Sent, apply_to, for_each, head_at, replica_of, sending}
 use Rattle.group_run.specs.Asking.{Oldest, inherited_or, oldest_inherited, retry_block}
 use Rattle.group_run.specs.Heading.{partition, rank}
-use Rattle.group_run.specs.Leaders.{close_sessions, copy_kept, copy_marked, leader_marks, left_of, lost_of, mark_comes, mark_taken, own_mark, row_finished, rows_of, session_of, session_opened, session_starts, start_session}
+use Rattle.group_run.specs.Leaders.{close_sessions, copy_kept, copy_marked, leader_marks, left_of, lost_of, mark_comes}
+use Rattle.group_run.specs.Leaders.{mark_taken, own_mark, row_finished, rows_of, session_of, session_opened}
+use Rattle.group_run.specs.Leaders.{session_starts, start_session}
 use Rattle.group_run.specs.Process.{Copy, Gathering, Head, Process}
 use Rattle.group_run.specs.Replica.{Replica, applied_to, items_after, kept_after}
 use Rattle.group_run.specs.Rows.{accepts_mark, begin_copy, copy_begun, copy_in, is_marked, marked, parity_number, with_copies, without_copy}
@@ -22,7 +26,8 @@ use Rattle.membership.specs.Members.{knows_dead}
 use Rattle.law_moves.proofs.Calls.{each-below, each-filter}
 use Rattle.law_histories.proofs.Acts.{Tells}
 use Rattle.law_histories.proofs.Heads.{replica-apply_to}
-use Rattle.law_histories.proofs.Steps.{SameIn, Still, same-apply, same-in-refl, same-in-trans, still-each, still-from, still-quiet, still-then, still-when, tells-same, told-others}
+use Rattle.law_histories.proofs.Steps.{SameIn, Still, same-apply, same-in-refl, same-in-trans, still-each, still-from}
+use Rattle.law_histories.proofs.Steps.{still-quiet, still-then, still-when, tells-same, told-others}
 
 pub each-flat_map : {X Y : Type 0} (P : Y → Type 0) (f : X → List Y) (xs : List X) → Each (λ x. Each P (f x)) xs → Each P (flat_map f xs)
 each-flat_map P f [] all = tt
@@ -33,15 +38,19 @@ abbrev pub LeadsLost : Dimensions → Process → Type 0
 LeadsLost s p = (l : ℕ) → l < s.k → knows_dead p.known (DataNode l) ≡ true → (h : Head) × (head_at p l ≡ Some h) × (at 0 p.ranks l ≡ h.rank)
 
 -- nothing inherited is unfinished where no oldest is found
-waits-not : (p : Process) (e : ℕ) (h : Option Head) (other : Option Oldest) → inherited_or p e h other ≡ None → (other ≡ None) × ((g : Head) → h ≡ Some g → g.inherited ≤ (replica_of p e).applied)
+waits-not : (p : Process) (e : ℕ) (h : Option Head) (other : Option Oldest) → inherited_or p e h other ≡ None
+    → (other ≡ None) × ((g : Head) → h ≡ Some g → g.inherited ≤ (replica_of p e).applied)
 waits-not p e None other none = (none, λ g is. absurd (cc is))
 waits-not p e (Some h) other none = by (nat_lt (replica_of p e).applied h.inherited) refl none where
   by : (b : Bool) → nat_lt (replica_of p e).applied h.inherited ≡ b
       → (if b then Some (record { partition = e; number = suc (replica_of p e).applied }) else other) ≡ None
       → (other ≡ None) × ((g : Head) → Some h ≡ Some g → g.inherited ≤ (replica_of p e).applied)
   by true is nothing = absurd (cc nothing)
-  by false is nothing =
-      (nothing, λ g same. let low : h.inherited ≤ (replica_of p e).applied = grind (arith, common_steps) in let one : h.inherited ≡ g.inherited = inherits h g same in omega (arith, low, one))
+  by false is nothing = (
+    nothing,
+    λ g same. let low : h.inherited ≤ (replica_of p e).applied = grind (arith, common_steps) in
+        let one : h.inherited ≡ g.inherited = inherits h g same in omega (arith, low, one),
+  )
     where
       inherits : (a b : Head) → Some a ≡ Some b → a.inherited ≡ b.inherited
       inherits a b e = ap (λ (o : Option Head). in_some o) e where
@@ -49,11 +58,14 @@ waits-not p e (Some h) other none = by (nat_lt (replica_of p e).applied h.inheri
         in_some None = 0
         in_some (Some x) = x.inherited
 
-none-waits : (p : Process) (l n a : ℕ) → oldest_inherited p (range_with_len a n) ≡ None → a ≤ l → l < a + n → (h : Head) → head_at p l ≡ Some h → h.inherited ≤ (replica_of p l).applied
+none-waits : (p : Process) (l n a : ℕ) → oldest_inherited p (range_with_len a n) ≡ None → a ≤ l → l < a + n → (h : Head)
+    → head_at p l ≡ Some h → h.inherited ≤ (replica_of p l).applied
 none-waits p l zero a none low high h heads = absurd (omega (arith, low, high))
 none-waits p l (suc n) a none low high h heads =
-    by (cases_eq l a) (waits-not p a (head_at p a) (oldest_inherited p (range_with_len (a + 1) n)) none) (λ rest above. none-waits p l n (a + 1) rest above (omega (arith, high)) h heads) where
-      by : (l ≡ a) ⊎ (l ≢ a) → (oldest_inherited p (range_with_len (a + 1) n) ≡ None) × ((g : Head) → head_at p a ≡ Some g → g.inherited ≤ (replica_of p a).applied)
+    by (cases_eq l a) (waits-not p a (head_at p a) (oldest_inherited p (range_with_len (a + 1) n)) none)
+    (λ rest above. none-waits p l n (a + 1) rest above (omega (arith, high)) h heads) where
+      by : (l ≡ a) ⊎ (l ≢ a) → (oldest_inherited p (range_with_len (a + 1) n) ≡ None)
+          × ((g : Head) → head_at p a ≡ Some g → g.inherited ≤ (replica_of p a).applied)
           → (oldest_inherited p (range_with_len (a + 1) n) ≡ None → a + 1 ≤ l → h.inherited ≤ (replica_of p l).applied) → h.inherited ≤ (replica_of p l).applied
       by (inl same) parts rest =
           let here = parts.1 h (ap (head_at p) (sym same) ∙ heads) in
@@ -95,12 +107,18 @@ module _ (s : Dimensions) (d : ℕ) where
 
   pub still-mark : (leader number r block e n : ℕ) (p : Process) → e ≢ d → Still d p (mark_comes s leader number r block e n p)
   still-mark leader number r block e n p other =
-      still-when d (accepts_mark p leader number r e) p (mark_taken s leader number block e n p) (still-taken leader number block e n p (same-apply s d e n (begin_copy s leader number block p) other))
+      still-when d (accepts_mark p leader number r e) p (mark_taken s leader number block e n p)
+      (still-taken leader number block e n p (same-apply s d e n (begin_copy s leader number block p) other))
 
   -- to apply up to the applied number is to apply nothing
   applied-self : (r : Replica) → applied_to r.applied r ≡ r
   applied-self r =
-      ap (λ (z : ℕ). record { items = items_after r.items (take z r.log); applied = r.applied + length (take z r.log); log = drop z r.log; kept = kept_after r.kept (take z r.log) }) none
+      ap (λ (z : ℕ). record {
+        items = items_after r.items (take z r.log);
+        applied = r.applied + length (take z r.log);
+        log = drop z r.log;
+        kept = kept_after r.kept (take z r.log);
+      }) none
       ∙ ap (λ (z : ℕ). record { items = r.items; applied = z; log = r.log; kept = r.kept }) same
     where
       none : r.applied - r.applied ≡ 0
@@ -126,7 +144,14 @@ module _ (s : Dimensions) (d : ℕ) where
         begun = (same-begin leader number block p).replica
 
         here : SameIn d q (apply_to s d (replica_of p d).applied q)
-        here = record { name = refl; known = refl; head = refl; rank = refl; replica = replica-apply_to s d (replica_of p d).applied q ∙ ap (λ (x : Replica). applied_to x.applied (replica_of q d)) (sym begun) ∙ applied-self (replica_of q d) }
+        here = record {
+          name = refl;
+          known = refl;
+          head = refl;
+          rank = refl;
+          replica = replica-apply_to s d (replica_of p d).applied q
+              ∙ ap (λ (x : Replica). applied_to x.applied (replica_of q d)) (sym begun) ∙ applied-self (replica_of q d);
+        }
 
   -- what a leader sends to start a session: marks of partitions that it heads
   module _ (p : Process) (i number block : ℕ) (leads : LeadsLost s p) (none : oldest_inherited p (range_with_len 0 s.k) ≡ None) where
@@ -137,13 +162,23 @@ module _ (s : Dimensions) (d : ℕ) where
         (λ j. record { to = ParityNode j; message = tells.Mark (session_of i number) (rank (at 0 p.ranks l)) block (partition l) (replica_of p l).applied })
         (filter (λ j. not (j == i)) (rows_of s p))
         (each-all (λ j. Tells d p (ParityNode j) (tells.Mark (session_of i number) (rank (at 0 p.ranks l)) block (partition l) (replica_of p l).applied))
-        (λ j here. (head.0, ap (head_at p) (sym here) ∙ head.1, head.2, let same : (replica_of p l).applied ≡ (replica_of p d).applied = ap (λ (e : ℕ). (replica_of p e).applied) here in omega (arith, same), let same : (replica_of p l).applied ≡ (replica_of p d).applied = ap (λ (e : ℕ). (replica_of p e).applied) here in let most = none-waits p l s.k 0 none (omega arith) (let in_group = at_l.0 in omega (arith, in_group)) head.0 head.1 in omega (arith, same, most))) (filter (λ j. not (j == i)) (rows_of s p)))
+        (λ j here. (
+          head.0,
+          ap (head_at p) (sym here) ∙ head.1,
+          head.2,
+          let same : (replica_of p l).applied
+              ≡ (replica_of p d).applied = ap (λ (e : ℕ). (replica_of p e).applied) here in omega (arith, same),
+          let same : (replica_of p l).applied ≡ (replica_of p d).applied = ap (λ (e : ℕ). (replica_of p e).applied) here
+              in let most = none-waits p l s.k 0 none (omega arith) (let in_group = at_l.0 in omega (arith, in_group))
+              head.0 head.1 in omega (arith, same, most),
+        )) (filter (λ j. not (j == i)) (rows_of s p)))
 
     starts-told : Each (λ z. Tells d p z.to z.message) (session_starts s i number block p)
     starts-told = each-append (λ z. Tells d p z.to z.message) (map reads (left_of s p)) (flat_map (leader_marks s i number block p) (lost_of s p))
         (each-map (λ z. Tells d p z.to z.message) reads (left_of s p) (each-all (λ e. Tells d p (reads e).to (reads e).message) (λ e. tt) (left_of s p)))
         (each-flat_map (λ z. Tells d p z.to z.message) (leader_marks s i number block p) (lost_of s p)
-        (each-weaker (λ l. (l < s.k) × (knows_dead p.known (DataNode l) ≡ true)) (λ l. Each (λ z. Tells d p z.to z.message) (leader_marks s i number block p l)) marks-told (lost_of s p)
+        (each-weaker (λ l. (l < s.k) × (knows_dead p.known (DataNode l) ≡ true))
+        (λ l. Each (λ z. Tells d p z.to z.message) (leader_marks s i number block p l)) marks-told (lost_of s p)
         (each-filter (λ l. knows_dead p.known (DataNode l)) (range_with_len 0 s.k) (λ l. l < s.k) (each-below s.k))))
       where
         reads : ℕ → Sent
@@ -156,13 +191,22 @@ module _ (s : Dimensions) (d : ℕ) where
       let opened : Process = session_opened s number block p in
       let same : SameIn d p opened = record { name = refl; known = refl; head = refl; rank = refl; replica = refl } in
       still-then d p (sending (session_starts s leader number block p) opened) (for_each (lost_of s p) (own_mark s leader number block))
-      (record { same = same; sent = each-weaker (λ z. Tells d p z.to z.message) (λ z. Tells d opened z.to z.message) (λ z may. tells-same d p opened same z.to z.message may) (session_starts s leader number block p) (starts-told p leader number block leads none); quiet = refl })
+      (record {
+        same = same;
+        sent = each-weaker (λ z. Tells d p z.to z.message) (λ z. Tells d opened z.to z.message)
+            (λ z may. tells-same d p opened same z.to z.message may) (session_starts s leader number block p)
+            (starts-told p leader number block leads none);
+        quiet = refl;
+      })
       (still-each d (lost_of s p) (own_mark s leader number block) opened
-      (each-all (λ l. (q : Process) → SameIn d opened q → Still d q (own_mark s leader number block l q)) (λ l q same. still-own leader number block l q) (lost_of s p)))
+      (each-all (λ l. (q : Process) → SameIn d opened q → Still d q (own_mark s leader number block l q))
+      (λ l q same. still-own leader number block l q) (lost_of s p)))
 
-  pub still-retry : (p : Process) (block : ℕ) (o : Option Oldest) → oldest_inherited p (range_with_len 0 s.k) ≡ o → LeadsLost s p → Still d p (retry_block s block o p).step
+  pub still-retry : (p : Process) (block : ℕ) (o : Option Oldest) → oldest_inherited p (range_with_len 0 s.k) ≡ o
+      → LeadsLost s p → Still d p (retry_block s block o p).step
   still-retry p block (Some o) is leads = still-quiet d p p (same-in-refl d p)
-  still-retry p block None is leads = still-when d (not (list_any (λ g. g.block == block) p.as_leader.sessions)) p (start_session s block p) (still-session p block leads is)
+  still-retry p block None is leads = still-when d (not (list_any (λ g. g.block == block) p.as_leader.sessions)) p
+      (start_session s block p) (still-session p block leads is)
 
   -- sessions are closed
   pub still-close : (gs : List Gathering) (p : Process) → Still d p (close_sessions s gs p)

@@ -1,6 +1,7 @@
 -- Steps of a process, told around it: steps that leave a partition as it is, steps one after the other, and
 -- judging acknowledgements.
-use Rattle.std.proofs.Common.{ℕ, zero, suc, ◌≡◌, ◌≢◌, ◌<◌, ◌≤◌, ◌+◌, max, Bool, true, false, List, [], ◌∷◌, ◌++◌, length, Option, Some, None, ◌⊎◌, inl, inr, refl, sym, ap, subst, ◌∙◌, append_assoc, arith}
+use Rattle.std.proofs.Common.{ℕ, zero, suc, ◌≡◌, ◌≢◌, ◌<◌, ◌≤◌, ◌+◌, max, Bool, true, false, List, [], ◌∷◌, ◌++◌}
+use Rattle.std.proofs.Common.{length, Option, Some, None, ◌⊎◌, inl, inr, refl, sym, ap, subst, ◌∙◌, append_assoc, arith}
 use Rattle.std.proofs.lemmas.Bool.{cases_eq}
 use Rattle.std.proofs.lemmas.List.{append-nil}
 use Rattle.std.specs.List.{range_with_len}
@@ -43,19 +44,33 @@ pub same-in-refl : (d : ℕ) (p : Process) → SameIn d p p
 same-in-refl d p = record { name = refl; known = refl; head = refl; rank = refl; replica = refl }
 
 pub same-in-trans : {d : ℕ} {p q r : Process} → SameIn d p q → SameIn d q r → SameIn d p r
-same-in-trans a b = record { name = b.name ∙ a.name; known = b.known ∙ a.known; head = b.head ∙ a.head; rank = b.rank ∙ a.rank; replica = b.replica ∙ a.replica }
+same-in-trans a b = record {
+  name = b.name ∙ a.name;
+  known = b.known ∙ a.known;
+  head = b.head ∙ a.head;
+  rank = b.rank
+      ∙ a.rank;
+  replica = b.replica ∙ a.replica;
+}
 
 -- what is told by a process may be told by one that is the same in the partition
 pub tells-same : (d : ℕ) (p q : Process) → SameIn d p q → (to : ProcessId) (m : Message) → Tells d p to m → Tells d q to m
 tells-same d p q same to (tells.Update r e u stable) may = may
 tells-same d p q same to (tells.Adopt r e base list) may = may
-tells-same d p q same to (tells.Ack r e n) may = λ here. let old = may here in (old.0, same.rank ∙ old.1, subst (λ (x : Replica). n ≤ last_of x) (sym same.replica) old.2)
-tells-same d p q same to (tells.Stable r e n) may = λ here. let old = may here in (old.0, same.head ∙ old.1, old.2, subst (λ (x : Replica). n ≤ x.applied) (sym same.replica) old.3)
+tells-same d p q same to (tells.Ack r e n) may = λ here. let old = may here in
+    (old.0, same.rank ∙ old.1, subst (λ (x : Replica). n ≤ last_of x) (sym same.replica) old.2)
+tells-same d p q same to (tells.Stable r e n) may = λ here. let old = may here in
+    (old.0, same.head ∙ old.1, old.2, subst (λ (x : Replica). n ≤ x.applied) (sym same.replica) old.3)
 tells-same d p q same to (tells.ReadBlock session block rows) may = tt
 tells-same d p q same to (tells.Block session bytes n) may = tt
 tells-same d p q same to (tells.Mark session r block e n) may =
-    λ here. let old = may here in
-    (old.0, same.head ∙ old.1, old.2, subst (λ (x : Replica). n ≤ x.applied) (sym same.replica) old.3, subst (λ (x : Replica). max x.applied old.0.inherited ≤ n) (sym same.replica) old.4)
+    λ here. let old = may here in (
+      old.0,
+      same.head ∙ old.1,
+      old.2,
+      subst (λ (x : Replica). n ≤ x.applied) (sym same.replica) old.3,
+      subst (λ (x : Replica). max x.applied old.0.inherited ≤ n) (sym same.replica) old.4,
+    )
 tells-same d p q same to (tells.Row session bytes stamp) may = tt
 tells-same d p q same to (tells.Cease upto) may = tt
 tells-same d p q same to (tells.Notice dead) may = tt
@@ -73,7 +88,9 @@ pub still-then : (d : ℕ) (p : Process) (a : ProcessStep) (f : Process → Proc
 still-then d p a f first later = record {
   same = same-in-trans first.same later.same;
   sent = each-append (λ z. Tells d (f a.process).process z.to z.message) a.sent (f a.process).sent
-      (each-weaker (λ z. Tells d a.process z.to z.message) (λ z. Tells d (f a.process).process z.to z.message) (λ z may. tells-same d a.process (f a.process).process later.same z.to z.message may) a.sent first.sent) later.sent;
+      (each-weaker (λ z. Tells d a.process z.to z.message) (λ z. Tells d (f a.process).process z.to z.message)
+      (λ z may. tells-same d a.process (f a.process).process later.same z.to z.message may) a.sent first.sent)
+      later.sent;
   quiet = settled-in-append d a.settled (f a.process).settled ∙ ap (λ (us : List Update). us ++ settled_in d (f a.process).settled) first.quiet ∙ later.quiet;
 }
 
@@ -84,12 +101,14 @@ pub still-when : (d : ℕ) (b : Bool) (p : Process) (t : ProcessStep) → Still 
 still-when d true p t still = still
 still-when d false p t still = still-quiet d p p (same-in-refl d p)
 
-pub still-each : (d : ℕ) (xs : List ℕ) (f : ℕ → Process → ProcessStep) (p : Process) → Each (λ x. (q : Process) → SameIn d p q → Still d q (f x q)) xs → Still d p (for_each xs f p)
+pub still-each : (d : ℕ) (xs : List ℕ) (f : ℕ → Process → ProcessStep) (p : Process)
+    → Each (λ x. (q : Process) → SameIn d p q → Still d q (f x q)) xs → Still d p (for_each xs f p)
 still-each d [] f p each = still-quiet d p p (same-in-refl d p)
 still-each d (x ∷ xs) f p each =
     let here : Still d p (f x p) = each.0 p (same-in-refl d p) in
     still-then d p (f x p) (for_each xs f) here
-    (still-each d xs f (f x p).process (each-weaker (λ y. (q : Process) → SameIn d p q → Still d q (f y q)) (λ y. (q : Process) → SameIn d (f x p).process q → Still d q (f y q))
+    (still-each d xs f (f x p).process (each-weaker (λ y. (q : Process) → SameIn d p q → Still d q (f y q))
+    (λ y. (q : Process) → SameIn d (f x p).process q → Still d q (f y q))
     (λ y steps q same. steps q (same-in-trans here.same same)) xs each.1))
 
 -- partitions of a range but one
@@ -107,7 +126,14 @@ each-other d (suc n) a outside = (first outside, each-other d n (a + 1) (rest ou
 -- applying another partition
 pub same-apply : (s : Dimensions) (d e n : ℕ) (p : Process) → e ≢ d → SameIn d p (apply_to s e n p)
 same-apply s d e n p other =
-    record { name = refl; known = refl; head = refl; rank = refl; replica = at-put-other empty_replica p.replicas e d (applied_to n (replica_of p e)) (λ same. other (sym same)) }
+    record {
+      name = refl;
+      known = refl;
+      head = refl;
+      rank = refl;
+      replica = at-put-other empty_replica p.replicas e d
+          (applied_to n (replica_of p e)) (λ same. other (sym same));
+    }
 
 still-judge_head : (s : Dimensions) (d e : ℕ) (p : Process) (h : Option Head) → e ≢ d → Still d p (judge_head s e p h)
 still-judge_head s d e p None other = still-quiet d p p (same-in-refl d p)
@@ -119,14 +145,16 @@ pub still-judge : (s : Dimensions) (d e : ℕ) (p : Process) → e ≢ d → Sti
 still-judge s d e p other = still-judge_head s d e p (head_at p e) other
 
 -- a message to the other parity processes
-pub told-others : (s : Dimensions) (d : ℕ) (p q : Process) (m : Message) → ((i : ℕ) → Tells d q (ParityNode i) m) → Each (λ z. Tells d q z.to z.message) (to_others s p m)
+pub told-others : (s : Dimensions) (d : ℕ) (p q : Process) (m : Message) → ((i : ℕ) → Tells d q (ParityNode i) m)
+    → Each (λ z. Tells d q z.to z.message) (to_others s p m)
 told-others s d p q m may = each-map (λ z. Tells d q z.to z.message) (λ i. record { to = ParityNode i; message = m }) (other_parities s.m p.name p.known)
     (each-all (λ i. Tells d q (ParityNode i) m) may (other_parities s.m p.name p.known))
 
 pub sent_to-append : (q : ProcessId) (a b : List Sent) → sent_to q (a ++ b) ≡ sent_to q a ++ sent_to q b
 sent_to-append q [] b = refl
 sent_to-append q (x ∷ xs) b = by (same_process x.to q) (sent_to-append q xs b) where
-  by : (t : Bool) → sent_to q (xs ++ b) ≡ sent_to q xs ++ sent_to q b → front_if t x.message (sent_to q (xs ++ b)) ≡ front_if t x.message (sent_to q xs) ++ sent_to q b
+  by : (t : Bool) → sent_to q (xs ++ b) ≡ sent_to q xs ++ sent_to q b → front_if t x.message (sent_to q (xs ++ b))
+      ≡ front_if t x.message (sent_to q xs) ++ sent_to q b
   by true rest = ap (λ (ms : List Message). x.message ∷ ms) rest
   by false rest = rest
 
@@ -147,7 +175,8 @@ module _ (F : ℕ → ℕ → List Update → Type 0) (laws : HistoryLaws F) (s 
   Turns proc new = (out : ProcessId → List Message) (settled : List Update) → Around F s v d p proc out inn settled → Around F s v d p new out inn settled
 
   pub turn-same : (proc new : Process) → SameIn d proc new → Turns proc new
-  turn-same proc new same out settled around = act-same F s v members d below p pin lives proc new out inn settled (record { head = same.head; rank = same.rank; replica = same.replica }) around
+  turn-same proc new same out settled around = act-same F s v members d below p pin lives proc new out inn settled
+      (record { head = same.head; rank = same.rank; replica = same.replica }) around
 
   pub turn-leads : (proc new : Process) (t : ProcessStep) → Turns proc new → Leads new t → Leads proc t
   turn-leads proc new t turns leads out settled around = leads out settled (turns out settled around)
@@ -155,13 +184,15 @@ module _ (F : ℕ → ℕ → List Update → Type 0) (laws : HistoryLaws F) (s 
   pub still-leads : (proc : Process) (t : ProcessStep) → Still d proc t → Leads proc t
   still-leads proc t still out settled around =
       subst (Around F s v d p t.process (λ q. out q ++ sent_to q t.sent) inn) (sym (settled-none d t.settled settled still.quiet))
-      (act-send F s v members d below p pin lives t.process out inn (λ q. sent_to q t.sent) settled (λ q. each-sent_to (λ to m. Tells d t.process to m) q t.sent still.sent)
+      (act-send F s v members d below p pin lives t.process out inn (λ q. sent_to q t.sent) settled
+      (λ q. each-sent_to (λ to m. Tells d t.process to m) q t.sent still.sent)
       (turn-same proc t.process still.same out settled around))
 
   -- from one list of settled updates
   abbrev pub LeadsFrom : List Update → Process → ProcessStep → Type 0
   LeadsFrom settled proc t =
-      (out : ProcessId → List Message) → Around F s v d p proc out inn settled → Around F s v d p t.process (λ q. out q ++ sent_to q t.sent) inn (settled_with t.settled d settled)
+      (out : ProcessId → List Message) → Around F s v d p proc out inn settled
+      → Around F s v d p t.process (λ q. out q ++ sent_to q t.sent) inn (settled_with t.settled d settled)
 
   -- one step, and then another, of which one settles nothing of the partition
   pub then-from : (settled : List Update) (proc : Process) (a : ProcessStep) (f : Process → ProcessStep) → LeadsFrom settled proc a
@@ -177,13 +208,18 @@ module _ (F : ℕ → ℕ → List Update → Type 0) (laws : HistoryLaws F) (s 
       outs : (q : ProcessId) → (out q ++ sent_to q a.sent) ++ sent_to q b.sent ≡ out q ++ sent_to q (a.sent ++ b.sent)
       outs q = append_assoc (out q) (sent_to q a.sent) (sent_to q b.sent) ∙ ap (λ (ms : List Message). out q ++ ms) (sym (sent_to-append q a.sent b.sent))
 
-      settles : (settled_in d a.settled ≡ []) ⊎ (settled_in d b.settled ≡ []) → settled_with b.settled d (settled_with a.settled d settled) ≡ settled_with (a.settled ++ b.settled) d settled
+      settles : (settled_in d a.settled ≡ []) ⊎ (settled_in d b.settled ≡ [])
+          → settled_with b.settled d (settled_with a.settled d settled) ≡ settled_with (a.settled ++ b.settled) d
+          settled
       settles (inl none) =
           ap (settled_with b.settled d) (settled-none d a.settled settled none)
-          ∙ sym (ap (λ (us : List Update). settled ++ new_ones (length settled) us) (settled-in-append d a.settled b.settled ∙ ap (λ (us : List Update). us ++ settled_in d b.settled) none))
+          ∙ sym (ap (λ (us : List Update). settled ++ new_ones (length settled) us)
+          (settled-in-append d a.settled b.settled ∙ ap (λ (us : List Update). us ++ settled_in d b.settled) none))
       settles (inr none) =
           settled-none d b.settled (settled_with a.settled d settled) none
-          ∙ sym (ap (λ (us : List Update). settled ++ new_ones (length settled) us) (settled-in-append d a.settled b.settled ∙ ap (λ (us : List Update). settled_in d a.settled ++ us) none ∙ append-nil (settled_in d a.settled)))
+          ∙ sym (ap (λ (us : List Update). settled ++ new_ones (length settled) us)
+          (settled-in-append d a.settled b.settled ∙ ap (λ (us : List Update). settled_in d a.settled ++ us) none
+          ∙ append-nil (settled_in d a.settled)))
 
   pub then-leads : (proc : Process) (a : ProcessStep) (f : Process → ProcessStep) → Leads proc a → Leads a.process (f a.process)
       → (settled_in d a.settled ≡ []) ⊎ (settled_in d (f a.process).settled ≡ []) → Leads proc (and_then a f)
@@ -197,7 +233,8 @@ module _ (F : ℕ → ℕ → List Update → Type 0) (laws : HistoryLaws F) (s 
   judged_head proc None heads name spares out settled around = still-leads proc (quiet proc) (still-quiet d proc proc (same-in-refl d proc)) out settled around
   judged_head proc (Some h) heads name spares out settled around =
       subst
-      (λ (o : ProcessId → List Message). Around F s v d p (judge_head s d proc (Some h)).process o inn (settled_with (judge_head s d proc (Some h)).settled d settled))
+      (λ (o : ProcessId → List Message). Around F s v d p (judge_head s d proc (Some h)).process o inn
+      (settled_with (judge_head s d proc (Some h)).settled d settled))
       (λ i. λ q. sym (append-nil (out q)) i)
       (act-settle F laws s v members d below p pin lives proc out inn settled h heads name spares around)
 
@@ -222,6 +259,8 @@ module _ (F : ℕ → ℕ → List Update → Type 0) (laws : HistoryLaws F) (s 
         by (inl same) rest =
             let t : ProcessStep = f a proc in
             let behind : Still d t.process (for_each (range_with_len (a + 1) n) f t.process) = still-each d (range_with_len (a + 1) n) f t.process
-            (each-weaker (λ e. e ≢ d) (λ e. (q : Process) → SameIn d t.process q → Still d q (f e q)) (λ e other q sames. others e q other) (range_with_len (a + 1) n) (each-other d n (a + 1) (inl (omega (arith, same))))) in
+            (each-weaker (λ e. e ≢ d) (λ e. (q : Process) → SameIn d t.process q → Still d q (f e q))
+            (λ e other q sames. others e q other) (range_with_len (a + 1) n)
+            (each-other d n (a + 1) (inl (omega (arith, same))))) in
             then-leads proc t (for_each (range_with_len (a + 1) n) f) (subst (λ (e : ℕ). Leads proc (f e proc)) (sym same) (here proc inv))
             (still-leads t.process (for_each (range_with_len (a + 1) n) f t.process) behind) (inr behind.quiet)

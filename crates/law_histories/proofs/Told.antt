@@ -48,7 +48,8 @@ Acks d i head rank last back = (h : Head) → head ≡ Some h → rank ≡ h.ran
 pub record Told (s : Dimensions) (v : State) : Type 0 where
   pub settles : (p : ProcessId) (d : ℕ) → IsProcess s p → v.dead p ≡ false → d < s.k → Settles s d (v.process p)
   pub acks : (x : ProcessId) (i d : ℕ) → IsProcess s x → i < s.m → x ≢ ParityNode i → v.dead x ≡ false → v.dead (ParityNode i) ≡ false → d < s.k
-      → Acks d i (head_at (v.process x) d) (at 0 (v.process (ParityNode i)).ranks d) (last_of (replica_of (v.process (ParityNode i)) d)) (v.link (ParityNode i) x)
+      → Acks d i (head_at (v.process x) d) (at 0 (v.process (ParityNode i)).ranks d)
+      (last_of (replica_of (v.process (ParityNode i)) d)) (v.link (ParityNode i) x)
 
 -- so it is along every run
 abbrev pub ToldAlways : Type 0

@@ -40,11 +40,13 @@ no-two s v members d below p x g h pin lives headed xin other living heads =
     no-other s v d members below p x g.rank h from.0 lives from.1.below xin other living heads
 
 -- the state that a process leaves, told by what it owes to others and others to it
-module _ (s : Dimensions) (v w : State) (p : ProcessId) (pin : IsProcess s p) (others : (q : ProcessId) → IsProcess s q → q ≢ p → w.process q ≡ v.process q) (dead : (q : ProcessId) → IsProcess s q → w.dead q ≡ v.dead q)
+module _ (s : Dimensions) (v w : State) (p : ProcessId) (pin : IsProcess s p) (others : (q : ProcessId) → IsProcess s q
+    → q ≢ p → w.process q ≡ v.process q) (dead : (q : ProcessId) → IsProcess s q → w.dead q ≡ v.dead q)
     (between : (x q : ProcessId) → IsProcess s x → IsProcess s q → x ≢ p → q ≢ p → w.link x q ≡ v.link x q) (told : Told s v) where
   abbrev pub HeadSide : ℕ → Type 0
   HeadSide d = (i : ℕ) → i < s.m → ParityNode i ≢ p → v.dead (ParityNode i) ≡ false
-      → Acks d i (head_at (w.process p) d) (at 0 (v.process (ParityNode i)).ranks d) (last_of (replica_of (v.process (ParityNode i)) d)) (w.link (ParityNode i) p)
+      → Acks d i (head_at (w.process p) d) (at 0 (v.process (ParityNode i)).ranks d)
+      (last_of (replica_of (v.process (ParityNode i)) d)) (w.link (ParityNode i) p)
 
   abbrev pub SenderSide : ℕ → Type 0
   SenderSide d = (x : ProcessId) (i : ℕ) → IsProcess s x → x ≢ p → v.dead x ≡ false → p ≡ ParityNode i
@@ -61,21 +63,26 @@ module _ (s : Dimensions) (v w : State) (p : ProcessId) (pin : IsProcess s p) (o
 
     acks_by : (x : ProcessId) (i d : ℕ) → IsProcess s x → i < s.m → x ≢ ParityNode i → w.dead x ≡ false → w.dead (ParityNode i) ≡ false → d < s.k
         → (x ≡ p) ⊎ (x ≢ p) → (ParityNode i ≡ p) ⊎ (ParityNode i ≢ p)
-        → Acks d i (head_at (w.process x) d) (at 0 (w.process (ParityNode i)).ranks d) (last_of (replica_of (w.process (ParityNode i)) d)) (w.link (ParityNode i) x)
+        → Acks d i (head_at (w.process x) d) (at 0 (w.process (ParityNode i)).ranks d)
+        (last_of (replica_of (w.process (ParityNode i)) d)) (w.link (ParityNode i) x)
     acks_by x i d xin iin apart xliving iliving below (inl xp) (inl ip) = absurd (apart (xp ∙ sym ip))
     acks_by x i d xin iin apart xliving iliving below (inl xp) (inr iother) =
-        subst (λ (y : Process). Acks d i (head_at (w.process x) d) (at 0 y.ranks d) (last_of (replica_of y d)) (w.link (ParityNode i) x)) (sym (others (ParityNode i) iin iother))
-        (subst (λ (y : ProcessId). Acks d i (head_at (w.process y) d) (at 0 (v.process (ParityNode i)).ranks d) (last_of (replica_of (v.process (ParityNode i)) d)) (w.link (ParityNode i) y)) (sym xp)
+        subst (λ (y : Process). Acks d i (head_at (w.process x) d) (at 0 y.ranks d) (last_of (replica_of y d))
+        (w.link (ParityNode i) x)) (sym (others (ParityNode i) iin iother))
+        (subst (λ (y : ProcessId). Acks d i (head_at (w.process y) d) (at 0 (v.process (ParityNode i)).ranks d)
+        (last_of (replica_of (v.process (ParityNode i)) d)) (w.link (ParityNode i) y)) (sym xp)
         ((all d below).1 i iin iother (sym (dead (ParityNode i) iin) ∙ iliving)))
     acks_by x i d xin iin apart xliving iliving below (inr xother) (inl ip) =
         subst
-        (λ (y : Process). Acks d i (head_at y d) (at 0 (w.process (ParityNode i)).ranks d) (last_of (replica_of (w.process (ParityNode i)) d)) (w.link (ParityNode i) x))
+        (λ (y : Process). Acks d i (head_at y d) (at 0 (w.process (ParityNode i)).ranks d)
+        (last_of (replica_of (w.process (ParityNode i)) d)) (w.link (ParityNode i) x))
         (sym (others x xin xother))
         (subst (λ (y : ProcessId). Acks d i (head_at (v.process x) d) (at 0 (w.process y).ranks d) (last_of (replica_of (w.process y) d)) (w.link y x)) (sym ip)
         ((all d below).2 x i xin xother (sym (dead x xin) ∙ xliving) (sym ip)))
     acks_by x i d xin iin apart xliving iliving below (inr xother) (inr iother) =
         acks-is d i (head_at (v.process x) d) (head_at (w.process x) d) (at 0 (v.process (ParityNode i)).ranks d) (at 0 (w.process (ParityNode i)).ranks d)
-        (last_of (replica_of (v.process (ParityNode i)) d)) (last_of (replica_of (w.process (ParityNode i)) d)) (v.link (ParityNode i) x) (w.link (ParityNode i) x)
+        (last_of (replica_of (v.process (ParityNode i)) d)) (last_of (replica_of (w.process (ParityNode i)) d))
+        (v.link (ParityNode i) x) (w.link (ParityNode i) x)
         (ap (λ (y : Process). head_at y d) (others x xin xother)) (ap (λ (y : Process). at 0 y.ranks d) (others (ParityNode i) iin iother))
         (ap (λ (y : Process). last_of (replica_of y d)) (others (ParityNode i) iin iother))
         (λ o. ap (newest d o) (between (ParityNode i) x iin xin iother xother))
@@ -86,7 +93,8 @@ module _ (s : Dimensions) (v w : State) (p : ProcessId) (pin : IsProcess s p) (o
       → ((i : ℕ) → i < s.m → ParityNode i ≢ p → (o : Option ℕ) → newest d o (w.link (ParityNode i) p) ≡ newest d o (v.link (ParityNode i) p)) → HeadSide d
   head-same d below lives same back i iin other living =
       acks-is d i (head_at (v.process p) d) (head_at (w.process p) d) (at 0 (v.process (ParityNode i)).ranks d) (at 0 (v.process (ParityNode i)).ranks d)
-      (last_of (replica_of (v.process (ParityNode i)) d)) (last_of (replica_of (v.process (ParityNode i)) d)) (v.link (ParityNode i) p) (w.link (ParityNode i) p)
+      (last_of (replica_of (v.process (ParityNode i)) d)) (last_of (replica_of (v.process (ParityNode i)) d))
+      (v.link (ParityNode i) p) (w.link (ParityNode i) p)
       same refl refl (back i iin other) (told.acks p i d pin iin (λ is. other (sym is)) lives living below)
 
   -- rank and number of updates stay, and nothing is acknowledged
@@ -109,7 +117,8 @@ module _ (s : Dimensions) (shaped : IsShape s) where
   seated-at v members p pin lives = record { name = members.named p pin; some = some-partition; sits = λ d below. members.sits p d pin lives below }
 
   -- a call, a collect or a flush
-  pub told-treats : (v w : State) (p : ProcessId) (t : ProcessStep) → IsProcess s p → IsUp s v → v.dead p ≡ false → Treats s (v.process p) t → Reached s v → Told s v → Acted s v w p t → Told s w
+  pub told-treats : (v w : State) (p : ProcessId) (t : ProcessStep) → IsProcess s p → IsUp s v → v.dead p ≡ false
+      → Treats s (v.process p) t → Reached s v → Told s v → Acted s v w p t → Told s w
   told-treats v w p t pin up lives treated reached told acts =
       told-left s v w p pin acts.others acts.dead (λ x q xin qin other qother. acts.links x q xin qin other) told
       (λ d below. (settles d below, head-side d below, λ x i xin other living is. sender-side d below x i xin other living is))
@@ -136,9 +145,12 @@ module _ (s : Dimensions) (shaped : IsShape s) where
         by : (last_of (replica_of t.process d) ≡ last_of (replica_of (v.process p) d)) ⊎ ((g : Head) × (head_at (v.process p) d ≡ Some g))
             → Acks d i (head_at (v.process x) d) (at 0 (w.process p).ranks d) (last_of (replica_of (w.process p) d)) (w.link p x)
         by (inr head) = λ h heads same. absurd (no-two s v reached.0 d below p x head.0 h pin lives head.1 xin other living heads)
-        by (inl same) = sender-one s v w p pin acts.others acts.dead (λ x q xin qin other qother. acts.links x q xin qin other) told d below lives x i xin other living is
+        by (inl same) = sender-one s v w p pin acts.others acts.dead
+            (λ x q xin qin other qother. acts.links x q xin qin other) told d below lives x i xin other living is
             (ap (λ (y : Process). at 0 y.ranks d) acts.process ∙ (handles d).rank) (ap (λ (y : Process). last_of (replica_of y d)) acts.process ∙ same)
-            (λ o. ap (newest d o) (acts.sends x xin (ap (λ (y : Process). knows_dead y.known x) (sym acts.process) ∙ unknown s w after p pin (acts.dead p pin ∙ lives) x xin other (acts.dead x xin ∙ living)))
+            (λ o. ap (newest d o)
+            (acts.sends x xin (ap (λ (y : Process). knows_dead y.known x) (sym acts.process)
+            ∙ unknown s w after p pin (acts.dead p pin ∙ lives) x xin other (acts.dead x xin ∙ living)))
             ∙ newest-sent d x t.sent (silent-well d Owes s.k t.process (λ to r e owes. absurd owes) t.sent step.sent) (v.link p x) o)
 
   -- a process dies
@@ -147,7 +159,8 @@ module _ (s : Dimensions) (shaped : IsShape s) where
     settles = λ q d qin living below. subst (Settles s d) (sym (died.processes q qin)) (told.settles q d qin (lived q qin living) below);
     acks = λ x i d xin iin apart xliving iliving below.
         acks-is d i (head_at (v.process x) d) (head_at (w.process x) d) (at 0 (v.process (ParityNode i)).ranks d) (at 0 (w.process (ParityNode i)).ranks d)
-        (last_of (replica_of (v.process (ParityNode i)) d)) (last_of (replica_of (w.process (ParityNode i)) d)) (v.link (ParityNode i) x) (w.link (ParityNode i) x)
+        (last_of (replica_of (v.process (ParityNode i)) d)) (last_of (replica_of (w.process (ParityNode i)) d))
+        (v.link (ParityNode i) x) (w.link (ParityNode i) x)
         (ap (λ (y : Process). head_at y d) (died.processes x xin)) (ap (λ (y : Process). at 0 y.ranks d) (died.processes (ParityNode i) iin))
         (ap (λ (y : Process). last_of (replica_of y d)) (died.processes (ParityNode i) iin))
         (λ o. ap (newest d o) (died.links (ParityNode i) x iin xin (other_than (ParityNode i) iliving)))
@@ -168,14 +181,16 @@ module _ (s : Dimensions) (shaped : IsShape s) where
     in_some (Some g) = g
 
     by : (d ≡ e) ⊎ (d ≢ e) → h ≡ new_head s 0 0
-    by (inl same) = ap in_some (sym heads ∙ ap (head_at (opening_process s (DataNode e))) same ∙ at-put None None (replicate s.k None) e (Some (new_head s 0 0)))
+    by (inl same) = ap in_some (sym heads ∙ ap (head_at (opening_process s (DataNode e))) same
+        ∙ at-put None None (replicate s.k None) e (Some (new_head s 0 0)))
     by (inr other) = absurd (cc (heads, at-put-other None (replicate s.k None) e d (Some (new_head s 0 0)) other ∙ at-replicate None s.k d))
 
   pub told-opens : (v : State) → Opens s v → Told s v
   told-opens v starts = record {
     settles = λ p d pin living below. subst (Settles s d) (sym (starts.process p pin)) (settled p d);
     acks = λ x i d xin iin apart xliving iliving below.
-        acks-is d i (head_at (opening_process s x) d) (head_at (v.process x) d) (at 0 (opening_process s (ParityNode i)).ranks d) (at 0 (v.process (ParityNode i)).ranks d)
+        acks-is d i (head_at (opening_process s x) d) (head_at (v.process x) d)
+        (at 0 (opening_process s (ParityNode i)).ranks d) (at 0 (v.process (ParityNode i)).ranks d)
         (last_of (replica_of (opening_process s (ParityNode i)) d)) (last_of (replica_of (v.process (ParityNode i)) d)) [] (v.link (ParityNode i) x)
         (ap (λ (y : Process). head_at y d) (starts.process x xin)) (ap (λ (y : Process). at 0 y.ranks d) (starts.process (ParityNode i) iin))
         (ap (λ (y : Process). last_of (replica_of y d)) (starts.process (ParityNode i) iin))
@@ -190,5 +205,12 @@ module _ (s : Dimensions) (shaped : IsShape s) where
         let none = empty p d in
         omega (arith, low, none)
 
-    none_told : (x : ProcessId) (i d : ℕ) → Acks d i (head_at (opening_process s x) d) (at 0 (opening_process s (ParityNode i)).ranks d) (last_of (replica_of (opening_process s (ParityNode i)) d)) []
-    none_told x i d h heads same = let new = none-acked x d h heads in inr (ap (λ (g : Head). g.rank) new, ap (λ (g : Head). at None g.acks i) new ∙ at-replicate None s.m i, empty (ParityNode i) d)
+    none_told : (x : ProcessId) (i d : ℕ)
+        → Acks d i (head_at (opening_process s x) d) (at 0 (opening_process s (ParityNode i)).ranks d)
+        (last_of (replica_of (opening_process s (ParityNode i)) d)) []
+    none_told x i d h heads same = let new = none-acked x d h heads in
+        inr (
+          ap (λ (g : Head). g.rank) new,
+          ap (λ (g : Head). at None g.acks i) new ∙ at-replicate None s.m i,
+          empty (ParityNode i) d,
+        )

@@ -14,9 +14,20 @@ use Rattle.law_histories.proofs.Folds.{along-weaker}
 module _ (F G : ℕ → ℕ → List Update → Type 0) (weaker : (d a : ℕ) (history : List Update) → F d a history → G d a history) where
   goes-weaker : (d : ℕ) (settled : List Update) (seen : Seen) (m : Message) → Goes F d settled seen m → Goes G d settled seen m
   goes-weaker d settled seen (tells.Update r e u stable) goes =
-      λ live. let old = goes live in record { rank = old.rank; stable_settled = old.stable_settled; few = old.few; fine = (old.fine.0, weaker d stable _ old.fine.1) }
+      λ live. let old = goes live in record {
+        rank = old.rank;
+        stable_settled = old.stable_settled;
+        few = old.few;
+        fine = (old.fine.0, weaker d stable _ old.fine.1);
+      }
   goes-weaker d settled seen (tells.Adopt r e base list) goes =
-      λ live. let old = goes live in record { rank = old.rank; base_settled = old.base_settled; prolongs = old.prolongs; few = old.few; fine = (old.fine.0, weaker d base _ old.fine.1) }
+      λ live. let old = goes live in record {
+        rank = old.rank;
+        base_settled = old.base_settled;
+        prolongs = old.prolongs;
+        few = old.few;
+        fine = (old.fine.0, weaker d base _ old.fine.1);
+      }
   goes-weaker d settled seen (tells.Stable r e n) goes = goes
   goes-weaker d settled seen (tells.Mark session r block e n) goes = goes
   goes-weaker d settled seen (tells.Ack r e n) goes = tt
@@ -28,7 +39,14 @@ module _ (F G : ℕ → ℕ → List Update → Type 0) (weaker : (d a : ℕ) (h
 
   fits-weaker : (d : ℕ) (settled : List Update) (r : Replica) (head : Option Head) → ReplicaFits F d settled r head → ReplicaFits G d settled r head
   fits-weaker d settled r head fits =
-      record { applied = fits.applied; prolongs = fits.prolongs; short = fits.short; fine = (fits.fine.0, weaker d r.applied _ fits.fine.1); holds = fits.holds; heads = fits.heads }
+      record {
+        applied = fits.applied;
+        prolongs = fits.prolongs;
+        short = fits.short;
+        fine = (fits.fine.0, weaker d r.applied _ fits.fine.1);
+        holds = fits.holds;
+        heads = fits.heads;
+      }
 
   pub reach-weaker : (s : Dimensions) (v : State) → Reach F s v → Reach G s v
   reach-weaker s v reach d below = record {

@@ -33,7 +33,8 @@ pub book-framed : (s : Dimensions) (es : List Event) → IsRun s es → FramedHi
 book-framed s es run = subst FramedHistory (sym (book-history (no_book s) es)) (framed-from (no_history s) es (framed-opening s) run.1)
 
 -- events that come one after the other
-pub run-push : (w : World) (es : List Event) (e : Event) (rest : List Event) → IsRunFrom w (es ++ e ∷ rest) → IsRunFrom w es × MayCome (world_after w es) e × IsRunFrom w (es ++ e ∷ [])
+pub run-push : (w : World) (es : List Event) (e : Event) (rest : List Event) → IsRunFrom w (es ++ e ∷ rest)
+    → IsRunFrom w es × MayCome (world_after w es) e × IsRunFrom w (es ++ e ∷ [])
 run-push w [] e rest run = (tt, run.0, (run.0, tt))
 run-push w (x ∷ es) e rest run = let later = run-push (step w x).world es e rest run.1 in ((run.0, later.0), later.1, (run.0, later.2))
 
@@ -44,7 +45,8 @@ module _ (s : Dimensions) (P : Book → Type 0) (start : P (no_book s))
   along done [] run holds = subst (λ (xs : List Event). P (book_of s xs)) (sym (append-nil done)) holds
   along done (e ∷ es) run holds =
       let parts = run-push _ done e es run.1 in
-      let now : P (book_of s (done ++ e ∷ [])) = subst P (sym (book-append (no_book s) done (e ∷ []))) (next done e (run.0, parts.0) (run.0, parts.2) parts.1 holds) in
+      let now : P (book_of s (done ++ e ∷ [])) = subst P (sym (book-append (no_book s) done (e ∷ [])))
+      (next done e (run.0, parts.0) (run.0, parts.2) parts.1 holds) in
       let there : (done ++ e ∷ []) ++ es ≡ done ++ e ∷ es = append_assoc done (e ∷ []) es in
       subst (λ (xs : List Event). P (book_of s xs)) there (along (done ++ e ∷ []) es (subst (IsRun s) (sym there) run) now)
 

@@ -31,7 +31,8 @@ pub record IsNextCall (calls : List Call) (c : Call) : Type 0 where
 pub record KeepsCalls (s : Dimensions) (P : List Call → State → Type 0) : Type 0 where
   pub opens : (v : State) → Opens s v → P [] v
   pub asks : (calls : List Call) (v w : State) (p : ProcessId) (c : Call) → IsProcess s p → IsUp s v → v.dead p ≡ false → IsNextCall calls c
-      → P calls v → Acted s v w p (ask_process s c.name c.op (v.process p)).step → P (calls ++ call_if (is_issued (ask_process s c.name c.op (v.process p)).answer) c) w
+      → P calls v → Acted s v w p (ask_process s c.name c.op (v.process p)).step
+      → P (calls ++ call_if (is_issued (ask_process s c.name c.op (v.process p)).answer) c) w
   pub collects : (calls : List Call) (v w : State) (p : ProcessId) (caller call : ℕ) → IsProcess s p → IsUp s v → v.dead p ≡ false
       → P calls v → Acted s v w p (collect_from caller call (v.process p) (range_with_len 0 s.k)).step → P calls w
   pub flushes : (calls : List Call) (v w : State) (p : ProcessId) → IsProcess s p → IsUp s v → v.dead p ≡ false

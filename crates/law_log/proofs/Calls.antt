@@ -24,7 +24,9 @@ use Rattle.group_run.specs.Headline.{IsRun, MayCome}
 use Rattle.group_run.specs.History.{History, settled_after}
 use Rattle.group_run.specs.Process.{Node}
 use Rattle.group_run.specs.Receiving.{receive}
-use Rattle.group_run.specs.World.{Call, DeliveryStep, NodeStep, World, all_change, asked_after, delivered, flush_process, group_step, if_up, is_issued, link_emptied, next_name, node_after, node_failed, node_in, node_of, nodes_told, treated, unchanged, with_link, with_node}
+use Rattle.group_run.specs.World.{Call, DeliveryStep, NodeStep, World, all_change, asked_after, delivered}
+use Rattle.group_run.specs.World.{flush_process, group_step, if_up, is_issued, link_emptied, next_name, node_after}
+use Rattle.group_run.specs.World.{node_failed, node_in, node_of, nodes_told, treated, unchanged, with_link, with_node}
 use Rattle.law_moves.proofs.Moves.{Acted, Died, Popped}
 use Rattle.law_moves.specs.State.{IsUp, State, state_from, state_of}
 use Rattle.law_moves.proofs.Events.{Framed, FramedHistory, grows, up_from}
@@ -55,7 +57,8 @@ pub data Fails (s : Dimensions) (v w : State) (p : ProcessId) (keep : ℕ) : Typ
 module _ (s : Dimensions) (nodes : List Node) (settled : List (List Update)) (framed : Framed s nodes settled) where
   quiet-same : (new : List Node) → new ≡ nodes → state_from s new (settled_after [] (range_with_len 0 s.k) settled) ≡ state_from s nodes settled
   quiet-same new same =
-      let stays : settled_after [] (range_with_len 0 s.k) settled ≡ settled = settled-quiet s.k 0 settled (let many = framed.settled_many in omega (arith, many)) in
+      let stays : settled_after [] (range_with_len 0 s.k) settled ≡ settled =
+      settled-quiet s.k 0 settled (let many = framed.settled_many in omega (arith, many)) in
       λ i. state_from s (same i) (stays i)
 
   pub call-comes : (p : ProcessId) (call : CallStep) → IsProcess s p → (down dead : Bool) → (node_in s nodes p).down ≡ down → (node_in s nodes p).dead ≡ dead
@@ -66,16 +69,20 @@ module _ (s : Dimensions) (nodes : List Node) (settled : List (List Update)) (fr
   call-comes p call pin true dead isdown isdead = Idle (quiet-same _ (node-back s nodes p pin framed.nodes_many)) (inl refl)
   call-comes p call pin false true isdown isdead = Idle (quiet-same _ (node-back s nodes p pin framed.nodes_many)) (inr refl)
   call-comes p call pin false false isdown isdead = Acts (up_from s nodes settled framed p pin isdown) isdead
-      (acted s nodes framed.nodes_many settled (settled_after call.step.settled (range_with_len 0 s.k) settled) p (node_after s call.step (node_in s nodes p)) call.step pin
+      (acted s nodes framed.nodes_many settled (settled_after call.step.settled (range_with_len 0 s.k) settled) p
+      (node_after s call.step (node_in s nodes p)) call.step pin
       (node_acts s call.step (node_in s nodes p)) (grows s nodes settled framed call.step.settled)) refl
 
   back-two : (x p : ProcessId) → IsProcess s x → IsProcess s p → with_node s p (node_in s nodes p) (with_node s x (node_in s nodes x) nodes) ≡ nodes
   back-two x p xin pin = ap (with_node s p (node_in s nodes p)) (node-back s nodes x xin framed.nodes_many) ∙ node-back s nodes p pin framed.nodes_many
 
-  pub message-comes : (x p : ProcessId) → IsProcess s x → IsProcess s p → x ≢ p → (down dead : Bool) → (node_in s nodes p).down ≡ down → (node_in s nodes p).dead ≡ dead
+  pub message-comes : (x p : ProcessId) → IsProcess s x → IsProcess s p → x ≢ p → (down dead : Bool)
+      → (node_in s nodes p).down ≡ down → (node_in s nodes p).dead ≡ dead
       → (link : List Message) → at [] (node_in s nodes x).links (index_of s p) ≡ link
       → let b : DeliveryStep = delivered down dead s x p (node_in s nodes x) (node_in s nodes p) link in
-      Delivers s (state_from s nodes settled) (state_from s (with_node s p b.receiver.node (with_node s x b.sender nodes)) (settled_after b.receiver.settled (range_with_len 0 s.k) settled)) x p
+      Delivers s (state_from s nodes settled)
+      (state_from s (with_node s p b.receiver.node (with_node s x b.sender nodes))
+      (settled_after b.receiver.settled (range_with_len 0 s.k) settled)) x p
   message-comes x p xin pin other true dead isdown isdead link is = Nothing (quiet-same _ (back-two x p xin pin))
   message-comes x p xin pin other false true isdown isdead link is = Nothing (quiet-same _ (back-two x p xin pin))
   message-comes x p xin pin other false false isdown isdead [] is = Nothing (quiet-same _ (back-two x p xin pin))
@@ -83,28 +90,49 @@ module _ (s : Dimensions) (nodes : List Node) (settled : List (List Update)) (fr
       let taken : List Node = with_node s x (with_link s p rest (node_in s nodes x)) nodes in
       let step : ProcessStep = receive s x m (node_in s nodes p).process in
       let received : Node = link_emptied s m (node_after s step (node_in s nodes p)) in
-      let stays : node_in s taken p ≡ node_in s nodes p = node-other s nodes x p (with_link s p rest (node_in s nodes x)) xin pin (λ same. other (sym same)) framed.nodes_many in
+      let stays : node_in s taken p ≡ node_in s nodes p =
+      node-other s nodes x p (with_link s p rest (node_in s nodes x)) xin pin (λ same. other (sym same))
+      framed.nodes_many in
       Takes (state_from s taken settled) m (up_from s nodes settled framed p pin isdown) isdead
       (popped s nodes framed.nodes_many settled x p m rest xin pin is)
-      (acted s taken (size-with_node s nodes x (with_link s p rest (node_in s nodes x)) xin framed.nodes_many) settled (settled_after step.settled (range_with_len 0 s.k) settled) p received step pin
+      (acted s taken (size-with_node s nodes x (with_link s p rest (node_in s nodes x)) xin framed.nodes_many) settled
+      (settled_after step.settled (range_with_len 0 s.k) settled) p received step pin
       (subst (λ (n : Node). NodeActs s n received step) (sym stays) (node_receives s x m (node_in s nodes p))) (grows s nodes settled framed step.settled))
 
   pub failure-comes : (p : ProcessId) (keep : ℕ) → IsProcess s p → (dead : Bool) → (node_in s nodes p).dead ≡ dead
-      → Fails s (state_from s nodes settled) (state_from s (all_change dead s nodes p keep).nodes (settled_after (all_change dead s nodes p keep).settled (range_with_len 0 s.k) settled)) p keep
+      → Fails s (state_from s nodes settled)
+      (state_from s (all_change dead s nodes p keep).nodes
+      (settled_after (all_change dead s nodes p keep).settled (range_with_len 0 s.k) settled)) p keep
   failure-comes p keep pin true isdead = Was (quiet-same nodes refl)
   failure-comes p keep pin false isdead =
-      let stays : settled_after [] (range_with_len 0 s.k) settled ≡ settled = settled-quiet s.k 0 settled (let many = framed.settled_many in omega (arith, many)) in
+      let stays : settled_after [] (range_with_len 0 s.k) settled ≡ settled =
+      settled-quiet s.k 0 settled (let many = framed.settled_many in omega (arith, many)) in
       Dies (subst (λ (us : List (List Update)). Died s (state_from s nodes settled)
-      (state_from s (nodes_told s.m (with_node s p (node_failed s p keep (node_in s nodes p)) nodes)) us) p keep) (sym stays) (died s nodes framed.nodes_many settled p keep pin isdead))
+      (state_from s (nodes_told s.m (with_node s p (node_failed s p keep (node_in s nodes p)) nodes)) us) p keep)
+      (sym stays) (died s nodes framed.nodes_many settled p keep pin isdead))
 
 -- a trace leaves the state
 pub trace-stays : (h : History) (framed : FramedHistory h) (caller call d : ℕ) (p : ProcessId) → IsProcess h.world.shape p → (down dead : Bool)
     → let t : NodeStep = if_up down dead (node_of h.world p)
     (unchanged (fate_of h.world.shape caller call d (node_of h.world p).process (head_at (node_of h.world p).process d)) (node_of h.world p)) in
-    (t.settled ≡ []) × (state_from h.world.shape (with_node h.world.shape p t.node h.world.nodes) (settled_after t.settled (range_with_len 0 h.world.shape.k) h.settled) ≡ state_of h)
-trace-stays h framed caller call d p pin true dead = (refl, quiet-same h.world.shape h.world.nodes h.settled framed _ (node-back h.world.shape h.world.nodes p pin framed.nodes_many))
-trace-stays h framed caller call d p pin false true = (refl, quiet-same h.world.shape h.world.nodes h.settled framed _ (node-back h.world.shape h.world.nodes p pin framed.nodes_many))
-trace-stays h framed caller call d p pin false false = (refl, quiet-same h.world.shape h.world.nodes h.settled framed _ (node-back h.world.shape h.world.nodes p pin framed.nodes_many))
+    (t.settled ≡ [])
+    × (state_from h.world.shape (with_node h.world.shape p t.node h.world.nodes)
+    (settled_after t.settled (range_with_len 0 h.world.shape.k) h.settled) ≡ state_of h)
+trace-stays h framed caller call d p pin true dead = (
+  refl,
+  quiet-same h.world.shape h.world.nodes h.settled framed _
+      (node-back h.world.shape h.world.nodes p pin framed.nodes_many),
+)
+trace-stays h framed caller call d p pin false true = (
+  refl,
+  quiet-same h.world.shape h.world.nodes h.settled framed _
+      (node-back h.world.shape h.world.nodes p pin framed.nodes_many),
+)
+trace-stays h framed caller call d p pin false false = (
+  refl,
+  quiet-same h.world.shape h.world.nodes h.settled framed _
+      (node-back h.world.shape h.world.nodes p pin framed.nodes_many),
+)
 
 -- each issued call was asked
 abbrev pub AreAsked : List ℕ → List Call → Type 0
@@ -171,33 +199,46 @@ module _ (P : List Call → State → Type 0) where
   not-issued answer (inl down) = ap is_issued down
   not-issued answer (inr lost) = ap is_issued lost
 
-  event-kept : (b : Book) (e : Event) → FramedHistory b.history → KeepsCalls b.history.world.shape P → MayCome b.history.world e → AreAsked b.history.world.asked b.issued
+  event-kept : (b : Book) (e : Event) → FramedHistory b.history → KeepsCalls b.history.world.shape P
+      → MayCome b.history.world e → AreAsked b.history.world.asked b.issued
       → P b.issued (state_of b.history) → P (booked b e).issued (state_of (booked b e).history)
   event-kept b (Ask caller op p) framed keeps may all holds =
       let h : History = b.history in
       let c : Call = next_call h.world caller op in
-      by (call-comes h.world.shape h.world.nodes h.settled framed p (ask_process h.world.shape c.name op (node_of h.world p).process) may.1 (node_of h.world p).down (node_of h.world p).dead refl refl) where
+      by (call-comes h.world.shape h.world.nodes h.settled framed p
+      (ask_process h.world.shape c.name op (node_of h.world p).process) may.1 (node_of h.world p).down
+      (node_of h.world p).dead refl refl) where
         by : {w : State} {answer : Answer}
-            → Answers b.history.world.shape (state_of b.history) w p (ask_process b.history.world.shape (next_name b.history.world caller) op (node_of b.history.world p).process) answer
+            → Answers b.history.world.shape (state_of b.history) w p
+            (ask_process b.history.world.shape (next_name b.history.world caller) op
+            (node_of b.history.world p).process) answer
             → P (b.issued ++ call_if (is_issued answer) (next_call b.history.world caller op)) w
         by {w} {answer} (Idle same idle) =
-            subst (λ (t : Bool). P (b.issued ++ call_if t (next_call b.history.world caller op)) w) (sym (not-issued answer idle)) (stays b.issued (state_of b.history) w same holds)
+            subst (λ (t : Bool). P (b.issued ++ call_if t (next_call b.history.world caller op)) w)
+            (sym (not-issued answer idle)) (stays b.issued (state_of b.history) w same holds)
         by {w} {answer} (Acts up lives acts is) =
             subst (λ (a : Answer). P (b.issued ++ call_if (is_issued a) (next_call b.history.world caller op)) w) (sym is)
             (keeps.asks b.issued (state_of b.history) w p (next_call b.history.world caller op) may.1 up lives
             (record { caller = may.0; bytes = may.2; behind = next-behind b.history.world caller op b.issued all }) holds acts)
   event-kept b (Collect caller call p) framed keeps may all holds =
       let h : History = b.history in
-      by (call-comes h.world.shape h.world.nodes h.settled framed p (collect_from caller call (node_of h.world p).process (range_with_len 0 h.world.shape.k)) may.1 (node_of h.world p).down (node_of h.world p).dead refl refl) where
+      by (call-comes h.world.shape h.world.nodes h.settled framed p
+      (collect_from caller call (node_of h.world p).process (range_with_len 0 h.world.shape.k)) may.1
+      (node_of h.world p).down (node_of h.world p).dead refl refl) where
         by : {w : State} {answer : Answer}
-            → Answers b.history.world.shape (state_of b.history) w p (collect_from caller call (node_of b.history.world p).process (range_with_len 0 b.history.world.shape.k)) answer
+            → Answers b.history.world.shape (state_of b.history) w p
+            (collect_from caller call (node_of b.history.world p).process (range_with_len 0 b.history.world.shape.k))
+            answer
             → P (b.issued ++ []) w
         by {w} {answer} (Idle same idle) = stays b.issued (state_of b.history) w same holds
         by {w} {answer} (Acts up lives acts is) =
-            subst (λ (cs : List Call). P cs w) (sym (append-nil b.issued)) (keeps.collects b.issued (state_of b.history) w p caller call may.1 up lives holds acts)
+            subst (λ (cs : List Call). P cs w) (sym (append-nil b.issued))
+            (keeps.collects b.issued (state_of b.history) w p caller call may.1 up lives holds acts)
   event-kept b (Flush p) framed keeps may all holds =
       let h : History = b.history in
-      by (call-comes h.world.shape h.world.nodes h.settled framed p (flush_process h.world.shape (node_of h.world p).process) may (node_of h.world p).down (node_of h.world p).dead refl refl) where
+      by (call-comes h.world.shape h.world.nodes h.settled framed p
+      (flush_process h.world.shape (node_of h.world p).process) may (node_of h.world p).down (node_of h.world p).dead
+      refl refl) where
         by : {w : State} {answer : Answer}
             → Answers b.history.world.shape (state_of b.history) w p (flush_process b.history.world.shape (node_of b.history.world p).process) answer
             → P (b.issued ++ []) w
@@ -206,14 +247,17 @@ module _ (P : List Call → State → Type 0) where
             subst (λ (cs : List Call). P cs w) (sym (append-nil b.issued)) (keeps.flushes b.issued (state_of b.history) w p may up lives holds acts)
   event-kept b (Trace caller call d p) framed keeps may all holds =
       let h : History = b.history in
-      stays b.issued (state_of h) (state_of (booked b (Trace caller call d p)).history) (trace-stays h framed caller call d.0 p may.3 (node_of h.world p).down (node_of h.world p).dead).1 holds
+      stays b.issued (state_of h) (state_of (booked b (Trace caller call d p)).history)
+      (trace-stays h framed caller call d.0 p may.3 (node_of h.world p).down (node_of h.world p).dead).1 holds
   event-kept b (Deliver from to) framed keeps may all holds =
       let h : History = b.history in
-      by (message-comes h.world.shape h.world.nodes h.settled framed from to may.0 may.1 may.2 (node_of h.world to).down (node_of h.world to).dead refl refl (at [] (node_of h.world from).links (index_of h.world.shape to)) refl) where
+      by (message-comes h.world.shape h.world.nodes h.settled framed from to may.0 may.1 may.2 (node_of h.world to).down
+      (node_of h.world to).dead refl refl (at [] (node_of h.world from).links (index_of h.world.shape to)) refl) where
         by : {w : State} → Delivers b.history.world.shape (state_of b.history) w from to → P (b.issued ++ []) w
         by {w} (Nothing same) = stays b.issued (state_of b.history) w same holds
         by {w} (Takes u m up lives pops acts) =
-            subst (λ (cs : List Call). P cs w) (sym (append-nil b.issued)) (keeps.receives b.issued (state_of b.history) u w from to m may.0 may.1 may.2 up lives holds pops acts)
+            subst (λ (cs : List Call). P cs w) (sym (append-nil b.issued))
+            (keeps.receives b.issued (state_of b.history) u w from to m may.0 may.1 may.2 up lives holds pops acts)
   event-kept b (Fail p keep) framed keeps may all holds =
       let h : History = b.history in
       by (failure-comes h.world.shape h.world.nodes h.settled framed p keep may (node_of h.world p).dead refl) where

@@ -64,12 +64,14 @@ module _ (turns : List Turn) where
 
   module _ (s : Dimensions) (shaped : IsShape s) where
     -- a new call's update keeps histories clean
-    pub issue-clean : (asked : List ℕ) → TracesAsked s.k asked turns → (v : State) → Members s v → Reach (IsClean turns) s v → (p : ProcessId) → IsProcess s p → v.dead p ≡ false
+    pub issue-clean : (asked : List ℕ) → TracesAsked s.k asked turns → (v : State) → Members s v
+        → Reach (IsClean turns) s v → (p : ProcessId) → IsProcess s p → v.dead p ≡ false
         → (name : CallName) (op : Asked) → name.call ≡ at 0 asked name.caller → IssueKeeps (IsClean turns) s v p name op
     issue-clean asked were v members reach p pin living name op new h body outcome heads decided turn other there traced gone =
         let e : ℕ = home_of (key_of op.act) s.k in
         let keeps = (reach e below_e).replicas p pin living (keeper-rank e h.rank p (head-from s v e members below_e p h pin living heads).0) in
-        each-append (λ u. update_name u ≢ other) (history (v.settled e) (replica_of (v.process p) e)) (_ ∷ []) (keeps.fine.1 turn other there traced gone) ((λ same. fresh (sym same)), tt)
+        each-append (λ u. update_name u ≢ other) (history (v.settled e) (replica_of (v.process p) e)) (_ ∷ [])
+        (keeps.fine.1 turn other there traced gone) ((λ same. fresh (sym same)), tt)
       where
         below_e : fnv1a (key_of op.act) % s.k < s.k
         below_e = let first = shaped.k in omega (arith, first)
@@ -87,6 +89,7 @@ module _ (turns : List Turn) where
       by : GrewBy d (v.settled d) (w.settled d) (w.process p) → IsClean turns d 0 (w.settled d)
       by (inl same) = subst (IsClean turns d 0) (sym same) clean
       by (inr has) =
-          let keeps = ((leaves d below).0).replicas p pin living (keeper-rank d has.head.rank p (head-from s w d members below p has.head pin living has.heads).0) in
+          let keeps = ((leaves d below).0).replicas p pin living
+          (keeper-rank d has.head.rank p (head-from s w d members below p has.head pin living has.heads).0) in
           clean-front d (replica_of (w.process p) d).applied 0 (w.settled d) (history (w.settled d) (replica_of (w.process p) d))
           keeps.prolongs keeps.fine.1

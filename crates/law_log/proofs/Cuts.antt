@@ -29,16 +29,26 @@ module _ (k d : ℕ) where
     swap false false = refl
 
   -- more runs than there are updates change nothing
-  pub updates-runs : (t : Contents) (runs more : List (Option Run)) (es : List Entry) → count_in k d es ≤ length runs → updates_from k d t (runs ++ more) es ≡ updates_from k d t runs es
+  pub updates-runs : (t : Contents) (runs more : List (Option Run)) (es : List Entry) → count_in k d es ≤ length runs
+      → updates_from k d t (runs ++ more) es ≡ updates_from k d t runs es
   updates-runs t runs more [] within = refl
   updates-runs t runs more (e ∷ es) within = by (is_update_of k d e) runs within (λ rest low. updates-runs (table_after t e.op) rest more es low) where
     by : (b : Bool) (runs : List (Option Run)) → one_if b (count_in k d es) ≤ length runs
-        → ((rest : List (Option Run)) → count_in k d es ≤ length rest → updates_from k d (table_after t e.op) (rest ++ more) es ≡ updates_from k d (table_after t e.op) rest es)
-        → front_if b (record { entry = e; run = next_run (runs ++ more); item = (table_after t e.op).items (key_of e.op.act) }) (updates_from k d (table_after t e.op) (runs_left b (runs ++ more)) es)
-        ≡ front_if b (record { entry = e; run = next_run runs; item = (table_after t e.op).items (key_of e.op.act) }) (updates_from k d (table_after t e.op) (runs_left b runs) es)
+        → ((rest : List (Option Run)) → count_in k d es ≤ length rest → updates_from k d (table_after t e.op)
+        (rest ++ more) es ≡ updates_from k d (table_after t e.op) rest es)
+        → front_if b (record {
+          entry = e;
+          run = next_run (runs ++ more);
+          item = (table_after t e.op).items (key_of e.op.act);
+        })
+        (updates_from k d (table_after t e.op) (runs_left b (runs ++ more)) es)
+        ≡ front_if b (record { entry = e; run = next_run runs; item = (table_after t e.op).items (key_of e.op.act) })
+        (updates_from k d (table_after t e.op) (runs_left b runs) es)
     by false runs low later = later runs low
     by true [] low later = absurd (omega arith)
-    by true (r ∷ rs) low later = ap (λ (us : List Logged). record { entry = e; run = r; item = (table_after t e.op).items (key_of e.op.act) } ∷ us) (later rs (omega arith))
+    by true (r ∷ rs) low later =
+        ap (λ (us : List Logged). record { entry = e; run = r; item = (table_after t e.op).items (key_of e.op.act) }
+        ∷ us) (later rs (omega arith))
 
   -- one more entry
   pub updates-push : (t : Contents) (runs : List (Option Run)) (es : List Entry) (e : Entry) → updates_from k d t runs (es ++ e ∷ [])
@@ -47,15 +57,33 @@ module _ (k d : ℕ) where
   updates-push t runs [] e = refl
   updates-push t runs (x ∷ xs) e = by (is_update_of k d x) (λ rest. updates-push (table_after t x.op) rest xs e) where
     by : (b : Bool) → ((rest : List (Option Run)) → updates_from k d (table_after t x.op) rest (xs ++ e ∷ [])
-        ≡ updates_from k d (table_after t x.op) rest xs ++ front_if (is_update_of k d e) (record { entry = e; run = next_run (drop (count_in k d xs) rest); item = (table_after (table_of (table_after t x.op) xs) e.op).items (key_of e.op.act) }) [])
-        → front_if b (record { entry = x; run = next_run runs; item = (table_after t x.op).items (key_of x.op.act) }) (updates_from k d (table_after t x.op) (runs_left b runs) (xs ++ e ∷ []))
-        ≡ front_if b (record { entry = x; run = next_run runs; item = (table_after t x.op).items (key_of x.op.act) }) (updates_from k d (table_after t x.op) (runs_left b runs) xs)
+        ≡ updates_from k d (table_after t x.op) rest xs
         ++ front_if (is_update_of k d e)
-        (record { entry = e; run = next_run (drop (one_if b (count_in k d xs)) runs); item = (table_after (table_of (table_after t x.op) xs) e.op).items (key_of e.op.act) }) []
+        (record {
+          entry = e;
+          run = next_run (drop (count_in k d xs) rest);
+          item = (table_after (table_of (table_after t x.op) xs) e.op).items (key_of e.op.act);
+        }) [])
+        → front_if b (record { entry = x; run = next_run runs; item = (table_after t x.op).items (key_of x.op.act) })
+        (updates_from k d (table_after t x.op) (runs_left b runs) (xs ++ e ∷ []))
+        ≡ front_if b (record { entry = x; run = next_run runs; item = (table_after t x.op).items (key_of x.op.act) })
+        (updates_from k d (table_after t x.op) (runs_left b runs) xs)
+        ++ front_if (is_update_of k d e)
+        (record {
+          entry = e;
+          run = next_run (drop (one_if b (count_in k d xs)) runs);
+          item = (table_after (table_of (table_after t x.op) xs) e.op).items (key_of e.op.act);
+        }) []
     by false later = later runs
     by true later = ap (λ (us : List Logged). record { entry = x; run = next_run runs; item = (table_after t x.op).items (key_of x.op.act) } ∷ us)
         (later (drop 1 runs) ∙ ap (λ (rest : List (Option Run)). updates_from k d (table_after t x.op) (drop 1 runs) xs
-        ++ front_if (is_update_of k d e) (record { entry = e; run = next_run rest; item = (table_after (table_of (table_after t x.op) xs) e.op).items (key_of e.op.act) }) []) (drop-one runs (count_in k d xs)))
+        ++ front_if (is_update_of k d e)
+        (record {
+          entry = e;
+          run = next_run rest;
+          item = (table_after (table_of (table_after t x.op) xs) e.op).items
+              (key_of e.op.act);
+        }) []) (drop-one runs (count_in k d xs)))
       where
         drop-one : (xs : List (Option Run)) (n : ℕ) → drop n (drop 1 xs) ≡ drop (suc n) xs
         drop-one [] zero = refl
@@ -93,6 +121,7 @@ module _ (k d : ℕ) where
     none zero = refl
     none (suc n) = refl
   cut-last (x ∷ xs) e update = ap (λ (rest : List Entry). x ∷ rest) (by (is_update_of k d x) (cut-last xs e update)) where
-    by : (b : Bool) → cut_after k d (suc (count_in k d xs)) (xs ++ e ∷ []) ≡ xs ++ e ∷ [] → cut_after k d (left_after b (one_if b (count_in k d xs))) (xs ++ e ∷ []) ≡ xs ++ e ∷ []
+    by : (b : Bool) → cut_after k d (suc (count_in k d xs)) (xs ++ e ∷ []) ≡ xs ++ e ∷ []
+        → cut_after k d (left_after b (one_if b (count_in k d xs))) (xs ++ e ∷ []) ≡ xs ++ e ∷ []
     by true later = later
     by false later = later

@@ -1,6 +1,7 @@
 -- The entry of an update that is settled for the first time: its call has its op still, its reply is the
 -- table's, and no other entry has its name.
-use Rattle.std.proofs.Common.{ℕ, zero, suc, ◌≡◌, ◌≢◌, ◌<◌, ◌≤◌, ◌==◌, Bool, true, false, ◌&&◌, ◌||◌, List, [], ◌∷◌, ◌++◌, length, ◌⊎◌, inl, inr, Some, if◌then◌else◌, refl, sym, ap, subst, ◌∙◌, arith}
+use Rattle.std.proofs.Common.{ℕ, zero, suc, ◌≡◌, ◌≢◌, ◌<◌, ◌≤◌, ◌==◌, Bool, true, false, ◌&&◌, ◌||◌, List, [], ◌∷◌}
+use Rattle.std.proofs.Common.{◌++◌, length, ◌⊎◌, inl, inr, Some, if◌then◌else◌, refl, sym, ap, subst, ◌∙◌, arith}
 use Rattle.std.specs.Prelude.{Contains}
 use Rattle.std.proofs.lemmas.Bool.{cases_eq}
 use Rattle.std.proofs.lemmas.Grind.{common_steps}
@@ -36,7 +37,8 @@ call-refl a = grind (arith, common_steps)
 pub call-eq : (a b : CallName) → same_call a b ≡ true → a ≡ b
 call-eq a b same = by (a.caller == b.caller) refl (a.call == b.call) refl same where
   by : (p : Bool) → (a.caller == b.caller) ≡ p → (q : Bool) → (a.call == b.call) ≡ q → (p && q) ≡ true → a ≡ b
-  by true x true y both = let caller : a.caller ≡ b.caller = grind (arith, common_steps) in let call : a.call ≡ b.call = grind (arith, common_steps) in λ i. record { caller = caller i; call = call i }
+  by true x true y both = let caller : a.caller ≡ b.caller = grind (arith, common_steps) in let call : a.call ≡ b.call =
+      grind (arith, common_steps) in λ i. record { caller = caller i; call = call i }
   by true x false y both = absurd (cc both)
   by false x q y both = absurd (cc both)
 
@@ -61,7 +63,8 @@ not-logged (e ∷ es) name others = ap (λ (b : Bool). b || is_logged es name) (
 pub logged-left : (log more : List Entry) (name : CallName) → is_logged log name ≡ true → is_logged (log ++ more) name ≡ true
 logged-left [] more name is = absurd (cc is)
 logged-left (e ∷ es) more name is = by (same_call (name_of e) name) is (logged-left es more name) where
-  by : (b : Bool) → (b || is_logged es name) ≡ true → (is_logged es name ≡ true → is_logged (es ++ more) name ≡ true) → (b || is_logged (es ++ more) name) ≡ true
+  by : (b : Bool) → (b || is_logged es name) ≡ true → (is_logged es name ≡ true → is_logged (es ++ more) name ≡ true)
+      → (b || is_logged (es ++ more) name) ≡ true
   by true is later = refl
   by false is later = later is
 
@@ -86,7 +89,8 @@ op-of log [] tickets c are differ place none = absurd (omega (arith, place.1))
 op-of log (x ∷ xs) [] c are differ place none = absurd are
 op-of log (x ∷ xs) (t ∷ ts) c are differ (zero, below, is) none =
     let same : t.name ≡ c.name = are.0 ∙ ap (λ (y : Call). y.name) is in
-    ap (λ (n : CallName). if same_call n c.name then t.op else op_in c.name ts) same ∙ ap (λ (b : Bool). if b then t.op else op_in c.name ts) (call-refl c.name) ∙ has are.1 where
+    ap (λ (n : CallName). if same_call n c.name then t.op else op_in c.name ts) same
+    ∙ ap (λ (b : Bool). if b then t.op else op_in c.name ts) (call-refl c.name) ∙ has are.1 where
       has : (t.op ≡ Some x.op) ⊎ (is_logged log x.name ≡ true) → t.op ≡ Some c.op
       has (inl op) = op ∙ ap (λ (y : Call). Some y.op) is
       has (inr logged) = let e = ap (λ (y : Call). is_logged log y.name) is in absurd (cc (logged, e, none))
@@ -113,15 +117,18 @@ before-all R (v ∷ vs) u rest two = (each-middle (R v) vs u rest two.0, before-
 
 module _ (s : Dimensions) (some : 1 ≤ s.k) (issued : List Call) (differ : EachTwo (λ x y. x.name ≢ y.name) issued) (final : ℕ → List Update)
     (steps : (d : ℕ) → d < s.k → AreSteps s issued d 0 (no_store s) (final d)) (rising : (d : ℕ) → d < s.k → EachTwo ComesBefore (final d)) where
-  module _ (log : List Entry) (settled : List (List Update)) (d : ℕ) (u : Update) (rest : List Update) (low : d < s.k) (is : final d ≡ at [] settled d ++ u ∷ rest)
+  module _ (log : List Entry) (settled : List (List Update)) (d : ℕ) (u : Update) (rest : List Update) (low : d < s.k)
+      (is : final d ≡ at [] settled d ++ u ∷ rest)
       (stands : LogStands s issued log settled) (many : length settled ≡ s.k) where
     pub step-here : IsStep s issued d (suc (length (at [] settled d))) (store_after s d (at [] settled d)) u
-    step-here = (steps-behind s issued d 0 (length (at [] settled d)) (no_store s) (at [] settled d) (u ∷ rest) (omega arith) (subst (AreSteps s issued d 0 (no_store s)) is (steps d low))).0
+    step-here = (steps-behind s issued d 0 (length (at [] settled d)) (no_store s) (at [] settled d) (u ∷ rest)
+        (omega arith) (subst (AreSteps s issued d 0 (no_store s)) is (steps d low))).0
 
     pub fits-here : StoreFits s (store_after s d (at [] settled d))
     fits-here = history-fits s issued d (at [] settled d)
         (subst (AreSteps s issued d 0 (no_store s)) (take_at (at [] settled d) (u ∷ rest) (length (at [] settled d)) refl)
-        (steps-take s issued d (length (at [] settled d)) 0 (no_store s) (at [] settled d ++ u ∷ rest) (subst (AreSteps s issued d 0 (no_store s)) is (steps d low))))
+        (steps-take s issued d (length (at [] settled d)) 0 (no_store s) (at [] settled d ++ u ∷ rest)
+        (subst (AreSteps s issued d 0 (no_store s)) is (steps d low))))
 
     before-here : Each (λ v. ComesBefore v u) (at [] settled d)
     before-here = before-all ComesBefore (at [] settled d) u rest (subst (EachTwo ComesBefore) is (rising d low))
@@ -167,10 +174,20 @@ module _ (s : Dimensions) (some : 1 ≤ s.k) (issued : List Call) (differ : Each
 
     entry-more : (e : Entry) → EntryStands s issued settled e → EntryStands s issued next e
     entry-more e (inr refused) = inr refused
-    entry-more e (inl of) = inl (record { call = of.call; update = of.update; there = stays-settled (home_of (key_of e.op.act) s.k) of.update of.there; named = of.named; accepted = of.accepted })
+    entry-more e (inl of) =
+        inl (record {
+          call = of.call;
+          update = of.update;
+          there = stays-settled (home_of (key_of e.op.act) s.k)
+              of.update of.there;
+          named = of.named;
+          accepted = of.accepted;
+        })
 
     here-settled : Contains (at [] next d) u
-    here-settled = subst (λ (us : List Update). Contains us u) (sym (at-put [] [] settled d (at [] settled d ++ u ∷ []))) (Contains-append_right (at [] settled d) (u ∷ []) u (0, omega arith, refl))
+    here-settled = subst (λ (us : List Update). Contains us u)
+        (sym (at-put [] [] settled d (at [] settled d ++ u ∷ [])))
+        (Contains-append_right (at [] settled d) (u ∷ []) u (0, omega arith, refl))
 
     has-more : (v : Update) → HasEntry log v → HasEntry (log ++ entry ∷ []) v
     has-more v has = record { entry = has.entry; there = Contains-append_left log (entry ∷ []) has.entry has.there; named = has.named; replied = has.replied }
@@ -182,25 +199,31 @@ module _ (s : Dimensions) (some : 1 ≤ s.k) (issued : List Call) (differ : Each
     entered-more e (inr other) = subst (Each (HasEntry (log ++ entry ∷ []))) (sym (at-put-other [] settled d e (at [] settled d ++ u ∷ []) other))
         (each-weaker (HasEntry log) (HasEntry (log ++ entry ∷ [])) has-more (at [] settled e) (stands.entered e))
     entered-more e (inl same) = subst (Each (HasEntry (log ++ entry ∷ []))) (sym (ap (at [] next) same ∙ at-put [] [] settled d (at [] settled d ++ u ∷ [])))
-        (each-append (HasEntry (log ++ entry ∷ [])) (at [] settled d) (u ∷ []) (each-weaker (HasEntry log) (HasEntry (log ++ entry ∷ [])) has-more (at [] settled d) (stands.entered d)) (has-here, tt))
+        (each-append (HasEntry (log ++ entry ∷ [])) (at [] settled d) (u ∷ [])
+        (each-weaker (HasEntry log) (HasEntry (log ++ entry ∷ [])) has-more (at [] settled d) (stands.entered d))
+        (has-here, tt))
 
     pub entry-stands : LogStands s issued (log ++ entry ∷ []) next
     entry-stands = record {
-      legal = legal-append (empty_table s.k) log (entry ∷ []) stands.legal
-          (update-reply s some settled (table_of (empty_table s.k) log) stands.ties d u step-here.call.op step-here.fits.home fits-here step-here.right low, tt);
+      legal = legal-append (empty_table s.k) log (entry ∷ []) stands.legal (
+        update-reply s some settled (table_of (empty_table s.k) log) stands.ties d u step-here.call.op
+            step-here.fits.home fits-here step-here.right low,
+        tt,
+      );
       ties =
           subst (λ (t : Contents). Ties s next t) (sym table-there)
           (update-ties s some settled (table_of (empty_table s.k) log) stands.ties d u step-here.call.op step-here.fits.home fits-here step-here.right low);
-      entries = each-append (EntryStands s issued next) log (entry ∷ []) (each-weaker (EntryStands s issued settled) (EntryStands s issued next) entry-more log stands.entries) (
-        inl (record {
-          call = own-call;
-          update = u;
-          there = subst (λ (k : ℕ). Contains (at [] next k) u) (sym step-here.fits.home) here-settled;
-          named = refl;
-          accepted = accepted-from u.outcome;
-        }),
-        tt,
-      );
+      entries = each-append (EntryStands s issued next) log (entry ∷ [])
+          (each-weaker (EntryStands s issued settled) (EntryStands s issued next) entry-more log stands.entries) (
+            inl (record {
+              call = own-call;
+              update = u;
+              there = subst (λ (k : ℕ). Contains (at [] next k) u) (sym step-here.fits.home) here-settled;
+              named = refl;
+              accepted = accepted-from u.outcome;
+            }),
+            tt,
+          );
       once = each_two-push NamesDiffer log entry stands.once fresh;
       entered = λ e. entered-more e (cases_eq e d);
     }

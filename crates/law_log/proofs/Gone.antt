@@ -1,5 +1,6 @@
 -- What was told to be gone stays so along every run.
-use Rattle.std.proofs.Common.{ℕ, suc, ◌≡◌, ◌≢◌, ◌<◌, ◌≤◌, ◌==◌, nat_lt, Bool, true, false, List, [], ◌∷◌, ◌++◌, Option, Some, None, if◌then◌else◌, ◌⊎◌, inl, inr, refl, sym, ap, subst, ◌∙◌, arith}
+use Rattle.std.proofs.Common.{ℕ, suc, ◌≡◌, ◌≢◌, ◌<◌, ◌≤◌, ◌==◌, nat_lt, Bool, true, false, List, [], ◌∷◌, ◌++◌, Option}
+use Rattle.std.proofs.Common.{Some, None, if◌then◌else◌, ◌⊎◌, inl, inr, refl, sym, ap, subst, ◌∙◌, arith}
 use Rattle.std.proofs.lemmas.Bool.{cases_eq}
 use Rattle.std.specs.Prelude.{All, Contains}
 use Rattle.std.specs.List.{range_with_len}
@@ -42,7 +43,8 @@ use Rattle.law_histories.proofs.Weaker.{reach-weaker}
 use Rattle.law_log.specs.Book.{Book, book_of, booked, no_book}
 use Rattle.law_log.specs.Stands.{Stands, StandsAlways}
 use Rattle.law_log.proofs.Books.{book-framed, book-shape, book-world, book_always}
-use Rattle.law_log.proofs.Calls.{Acts, Answers, Delivers, Dies, Fails, Idle, Nothing, Takes, Was, call-comes, each-contained, failure-comes, message-comes, trace-stays}
+use Rattle.law_log.proofs.Calls.{Acts, Answers, Delivers, Dies, Fails, Idle, Nothing, Takes, Was, call-comes}
+use Rattle.law_log.proofs.Calls.{each-contained, failure-comes, message-comes, trace-stays}
 use Rattle.law_log.proofs.Fates.{gone-unnamed}
 use Rattle.law_log.proofs.GoneWords.{GoneIsKept, GoneStand, IsClean, IsUnnamed, TracesAsked}
 use Rattle.law_log.proofs.Clean.{clean-laws, clean-more, contained-last, issue-clean, settled-clean, unnamed-front}
@@ -56,21 +58,30 @@ module _ (turns : List Turn) (s : Dimensions) (shaped : IsShape s) where
   -- each move keeps a state clear
   clear-after : (v w : State) (p : ProcessId) → reaching.Leaves_both (IsClean turns) (clean-laws turns) s shaped v w p → Members s w → IsProcess s p
       → w.dead p ≡ false → IsClear turns s v → IsClear turns s w
-  clear-after v w p leaves members pin living clear = (members, (λ d below. (leaves d below).0), λ d below. settled-clean turns s shaped v w p leaves members pin living d below (clear.2 d below))
+  clear-after v w p leaves members pin living clear = (
+    members,
+    (λ d below. (leaves d below).0),
+    λ d below. settled-clean turns s shaped v w p leaves members pin living
+        d below (clear.2 d below),
+  )
 
-  asks : (v w : State) (p : ProcessId) (name : CallName) (op : Asked) → IsProcess s p → IsUp s v → v.dead p ≡ false → All (λ b. b < 256) (value_of op.act) → IssueKeeps (IsClean turns) s v p name op
+  asks : (v w : State) (p : ProcessId) (name : CallName) (op : Asked) → IsProcess s p → IsUp s v → v.dead p ≡ false
+      → All (λ b. b < 256) (value_of op.act) → IssueKeeps (IsClean turns) s v p name op
       → IsClear turns s v → Acted s v w p (ask_process s name op (v.process p)).step → IsClear turns s w
   asks v w p name op pin up lives bytes issues clear acts =
       clear-after v w p (reaching.asks-both (IsClean turns) (clean-laws turns) s shaped v w p name op pin up lives bytes issues clear.0 clear.1 acts)
-      ((keeps s shaped).treats v w p (ask_process s name op (v.process p)).step pin up lives (Asks name op bytes) clear.0 acts) pin (acts.dead p pin ∙ lives) clear
+      ((keeps s shaped).treats v w p (ask_process s name op (v.process p)).step pin up lives (Asks name op bytes)
+      clear.0 acts) pin (acts.dead p pin ∙ lives) clear
 
   collects : (v w : State) (p : ProcessId) (caller call : ℕ) → IsProcess s p → IsUp s v → v.dead p ≡ false → IsClear turns s v
       → Acted s v w p (collect_from caller call (v.process p) (range_with_len 0 s.k)).step → IsClear turns s w
   collects v w p caller call pin up lives clear acts =
       clear-after v w p (reaching.collects-both (IsClean turns) (clean-laws turns) s shaped v w p caller call pin up lives clear.0 clear.1 acts)
-      ((keeps s shaped).treats v w p (collect_from caller call (v.process p) (range_with_len 0 s.k)).step pin up lives (Collects caller call) clear.0 acts) pin (acts.dead p pin ∙ lives) clear
+      ((keeps s shaped).treats v w p (collect_from caller call (v.process p) (range_with_len 0 s.k)).step pin up lives
+      (Collects caller call) clear.0 acts) pin (acts.dead p pin ∙ lives) clear
 
-  flushes : (v w : State) (p : ProcessId) → IsProcess s p → IsUp s v → v.dead p ≡ false → IsClear turns s v → Acted s v w p (flush_process s (v.process p)).step → IsClear turns s w
+  flushes : (v w : State) (p : ProcessId) → IsProcess s p → IsUp s v → v.dead p ≡ false → IsClear turns s v
+      → Acted s v w p (flush_process s (v.process p)).step → IsClear turns s w
   flushes v w p pin up lives clear acts =
       clear-after v w p (reaching.flushes-both (IsClean turns) (clean-laws turns) s shaped v w p pin up lives clear.0 clear.1 acts)
       ((keeps s shaped).treats v w p (flush_process s (v.process p)).step pin up lives Flushes clear.0 acts) pin (acts.dead p pin ∙ lives) clear
@@ -92,7 +103,9 @@ module _ (turns : List Turn) (s : Dimensions) (shaped : IsShape s) where
 event-clear : (turns : List Turn) (h : History) (e : Event) → FramedHistory h → IsShape h.world.shape → MayCome h.world e
     → TracesAsked h.world.shape.k h.world.asked turns → IsClear turns h.world.shape (state_of h) → IsClear turns h.world.shape (state_of (prolonged h e))
 event-clear turns h (Ask caller op p) framed shaped may were clear =
-    by (call-comes h.world.shape h.world.nodes h.settled framed p (ask_process h.world.shape (next_name h.world caller) op (node_of h.world p).process) may.1 (node_of h.world p).down (node_of h.world p).dead refl refl) where
+    by (call-comes h.world.shape h.world.nodes h.settled framed p
+    (ask_process h.world.shape (next_name h.world caller) op (node_of h.world p).process) may.1
+    (node_of h.world p).down (node_of h.world p).dead refl refl) where
       by : {w : State} {answer : Answer}
           → Answers h.world.shape (state_of h) w p (ask_process h.world.shape (next_name h.world caller) op (node_of h.world p).process) answer
           → IsClear turns h.world.shape w
@@ -100,21 +113,28 @@ event-clear turns h (Ask caller op p) framed shaped may were clear =
       by {w} (Acts up lives acts is) = asks turns h.world.shape shaped (state_of h) w p (next_name h.world caller) op may.1 up lives may.2
           (issue-clean turns h.world.shape shaped h.world.asked were (state_of h) clear.0 clear.1 p may.1 lives (next_name h.world caller) op refl) clear acts
 event-clear turns h (Collect caller call p) framed shaped may were clear =
-    by (call-comes h.world.shape h.world.nodes h.settled framed p (collect_from caller call (node_of h.world p).process (range_with_len 0 h.world.shape.k)) may.1 (node_of h.world p).down (node_of h.world p).dead refl refl) where
+    by (call-comes h.world.shape h.world.nodes h.settled framed p
+    (collect_from caller call (node_of h.world p).process (range_with_len 0 h.world.shape.k)) may.1
+    (node_of h.world p).down (node_of h.world p).dead refl refl) where
       by : {w : State} {answer : Answer}
           → Answers h.world.shape (state_of h) w p (collect_from caller call (node_of h.world p).process (range_with_len 0 h.world.shape.k)) answer
           → IsClear turns h.world.shape w
       by (Idle same idle) = subst (IsClear turns h.world.shape) (sym same) clear
       by {w} (Acts up lives acts is) = collects turns h.world.shape shaped (state_of h) w p caller call may.1 up lives clear acts
 event-clear turns h (Flush p) framed shaped may were clear =
-    by (call-comes h.world.shape h.world.nodes h.settled framed p (flush_process h.world.shape (node_of h.world p).process) may (node_of h.world p).down (node_of h.world p).dead refl refl) where
-      by : {w : State} {answer : Answer} → Answers h.world.shape (state_of h) w p (flush_process h.world.shape (node_of h.world p).process) answer → IsClear turns h.world.shape w
+    by (call-comes h.world.shape h.world.nodes h.settled framed p
+    (flush_process h.world.shape (node_of h.world p).process) may (node_of h.world p).down (node_of h.world p).dead
+    refl refl) where
+      by : {w : State} {answer : Answer}
+          → Answers h.world.shape (state_of h) w p (flush_process h.world.shape (node_of h.world p).process) answer
+          → IsClear turns h.world.shape w
       by (Idle same idle) = subst (IsClear turns h.world.shape) (sym same) clear
       by {w} (Acts up lives acts is) = flushes turns h.world.shape shaped (state_of h) w p may up lives clear acts
 event-clear turns h (Trace caller call d p) framed shaped may were clear =
     subst (IsClear turns h.world.shape) (sym (trace-stays h framed caller call d.0 p may.3 (node_of h.world p).down (node_of h.world p).dead).1) clear
 event-clear turns h (Deliver from to) framed shaped may were clear =
-    by (message-comes h.world.shape h.world.nodes h.settled framed from to may.0 may.1 may.2 (node_of h.world to).down (node_of h.world to).dead refl refl (at [] (node_of h.world from).links (index_of h.world.shape to)) refl) where
+    by (message-comes h.world.shape h.world.nodes h.settled framed from to may.0 may.1 may.2 (node_of h.world to).down
+    (node_of h.world to).dead refl refl (at [] (node_of h.world from).links (index_of h.world.shape to)) refl) where
       by : {w : State} → Delivers h.world.shape (state_of h) w from to → IsClear turns h.world.shape w
       by (Nothing same) = subst (IsClear turns h.world.shape) (sym same) clear
       by {w} (Takes u m up lives pops acts) = receives turns h.world.shape shaped (state_of h) u w from to m may.0 may.1 may.2 up lives clear pops acts
@@ -129,7 +149,9 @@ clear-more : (turns : List Turn) (last : Turn) (s : Dimensions) (v : State) → 
     → IsClear turns s v → IsClear (turns ++ last ∷ []) s v
 clear-more turns last s v other clear = (
   clear.0,
-  reach-weaker (IsClean turns) (IsClean (turns ++ last ∷ [])) (λ d a us clean. clean-more turns last d a a us clean (λ name traced gone. absurd (other name d traced gone))) s v clear.1,
+  reach-weaker (IsClean turns) (IsClean (turns ++ last ∷ []))
+      (λ d a us clean. clean-more turns last d a a us clean (λ name traced gone. absurd (other name d traced gone))) s v
+      clear.1,
   λ d below. clean-more turns last d 0 0 (v.settled d) (clear.2 d below) (λ name traced gone. absurd (other name d traced gone)),
 )
 
@@ -146,7 +168,8 @@ fate-adopted false false call (Some x) is = absurd (by (x.call == call) (nat_lt 
 
 -- a trace that tells a call to be gone: then the state is clear of that call too
 module _ (turns : List Turn) (s : Dimensions) (calls : List Call) (v : State) (clear : IsClear turns s v) (stands : Stands s calls v) (up : IsUp s v)
-    (caller call : ℕ) (d : Partition) (below : d.0 < s.k) (p : ProcessId) (pin : IsProcess s p) (lives : v.dead p ≡ false) (last : Turn) (event : last.event ≡ Trace caller call d p) where
+    (caller call : ℕ) (d : Partition) (below : d.0 < s.k) (p : ProcessId) (pin : IsProcess s p)
+    (lives : v.dead p ≡ false) (last : Turn) (event : last.event ≡ Trace caller call d p) where
   abbrev told-name : CallName
   told-name = record { caller = caller; call = call }
 
@@ -166,12 +189,15 @@ module _ (turns : List Turn) (s : Dimensions) (calls : List Call) (v : State) (c
       (is_adopted s (v.process p) h) call (at None (replica_of (v.process p) d.0).kept caller) is in
       let all = told-all (IsClean turns) d.0 (IsUnnamed told-name) (unnamed-front told-name) s v clear.0 clear.1 below p pin lives h heads adopted unnamed in
       let own = (clear.1 d.0 below).replicas p pin lives (keeper-rank d.0 h.rank p (head-from s v d.0 clear.0 below p h pin lives heads).0) in
-      let settled : IsUnnamed told-name (v.settled d.0) = unnamed-front told-name (v.settled d.0) (history (v.settled d.0) (replica_of (v.process p) d.0)) own.prolongs unnamed in (
+      let settled : IsUnnamed told-name (v.settled d.0) = unnamed-front told-name (v.settled d.0)
+      (history (v.settled d.0) (replica_of (v.process p) d.0)) own.prolongs unnamed in (
         clear.0,
         reach-weaker (With (IsClean turns) d.0 (IsUnnamed told-name) (unnamed-front told-name)) (IsClean (turns ++ last ∷ []))
-            (λ e a us both. clean-more turns last e a a us both.0 (λ name traced gone. let told = is-told name e traced in subst (λ (n : CallName). IsUnnamed n us) told.0 (both.1 told.1))) s v all,
+            (λ e a us both. clean-more turns last e a a us both.0 (λ name traced gone. let told = is-told name e traced
+            in subst (λ (n : CallName). IsUnnamed n us) told.0 (both.1 told.1))) s v all,
         λ e low. clean-more turns last e 0 0 (v.settled e) (clear.2 e low)
-            (λ name traced gone. let told = is-told name e traced in subst (λ (n : CallName). IsUnnamed n (v.settled e)) told.0 (subst (λ (k : ℕ). IsUnnamed told-name (v.settled k)) (sym told.1) settled)),
+            (λ name traced gone. let told = is-told name e traced in subst (λ (n : CallName). IsUnnamed n (v.settled e))
+            told.0 (subst (λ (k : ℕ). IsUnnamed told-name (v.settled k)) (sym told.1) settled)),
       )
 
 gone-or : (a : Answer) → (a ≡ says.Gone) ⊎ (a ≢ says.Gone)
@@ -191,7 +217,8 @@ gone-or says.Gone = inl refl
 gone-or (says.Stale n) = inr (λ is. cc is)
 
 -- after an event the state is clear of what its turn told, too
-turn-clear : (b : Book) (e : Event) → FramedHistory b.history → IsShape b.history.world.shape → MayCome b.history.world e → Stands b.history.world.shape b.issued (state_of b.history)
+turn-clear : (b : Book) (e : Event) → FramedHistory b.history → IsShape b.history.world.shape
+    → MayCome b.history.world e → Stands b.history.world.shape b.issued (state_of b.history)
     → TracesAsked b.history.world.shape.k b.history.world.asked b.turns → IsClear b.turns b.history.world.shape (state_of b.history)
     → IsClear (booked b e).turns b.history.world.shape (state_of (booked b e).history)
 turn-clear b (Ask caller op p) framed shaped may stands were clear =
@@ -201,14 +228,18 @@ turn-clear b (Collect caller call p) framed shaped may stands were clear =
     clear-more b.turns (step b.history.world (Collect caller call p)).turn b.history.world.shape _ (λ name d traced. absurd traced)
     (event-clear b.turns b.history (Collect caller call p) framed shaped may were clear)
 turn-clear b (Flush p) framed shaped may stands were clear =
-    clear-more b.turns (step b.history.world (Flush p)).turn b.history.world.shape _ (λ name d traced. absurd traced) (event-clear b.turns b.history (Flush p) framed shaped may were clear)
+    clear-more b.turns (step b.history.world (Flush p)).turn b.history.world.shape _ (λ name d traced. absurd traced)
+    (event-clear b.turns b.history (Flush p) framed shaped may were clear)
 turn-clear b (Deliver from to) framed shaped may stands were clear =
     clear-more b.turns (step b.history.world (Deliver from to)).turn b.history.world.shape _ (λ name d traced. absurd traced)
     (event-clear b.turns b.history (Deliver from to) framed shaped may were clear)
 turn-clear b (Fail p keep) framed shaped may stands were clear =
-    clear-more b.turns (step b.history.world (Fail p keep)).turn b.history.world.shape _ (λ name d traced. absurd traced) (event-clear b.turns b.history (Fail p keep) framed shaped may were clear)
+    clear-more b.turns (step b.history.world (Fail p keep)).turn b.history.world.shape _
+    (λ name d traced. absurd traced) (event-clear b.turns b.history (Fail p keep) framed shaped may were clear)
 turn-clear b (Trace caller call d p) framed shaped may stands were clear =
-    subst (IsClear (b.turns ++ last ∷ []) h.world.shape) (sym (trace-stays h framed caller call d.0 p may.3 (node_of h.world p).down (node_of h.world p).dead).1) (by (gone-or last.answer)) where
+    subst (IsClear (b.turns ++ last ∷ []) h.world.shape)
+    (sym (trace-stays h framed caller call d.0 p may.3 (node_of h.world p).down (node_of h.world p).dead).1)
+    (by (gone-or last.answer)) where
       h : History
       h = b.history
 
@@ -216,12 +247,16 @@ turn-clear b (Trace caller call d p) framed shaped may stands were clear =
       last = (step h.world (Trace caller call d p)).turn
 
       told : (down dead : Bool) → (node_of h.world p).down ≡ down → (node_of h.world p).dead ≡ dead
-          → (if_up down dead (node_of h.world p) (unchanged (fate_of h.world.shape caller call d.0 (node_of h.world p).process (head_at (node_of h.world p).process d.0)) (node_of h.world p))).answer ≡ says.Gone
+          → (if_up down dead (node_of h.world p)
+          (unchanged (fate_of h.world.shape caller call d.0 (node_of h.world p).process
+          (head_at (node_of h.world p).process d.0)) (node_of h.world p))).answer ≡ says.Gone
           → IsClear (b.turns ++ last ∷ []) h.world.shape (state_of h)
       told true dead isdown isdead is = absurd (cc is)
       told false true isdown isdead is = absurd (cc is)
       told false false isdown isdead is =
-          told-head b.turns h.world.shape b.issued (state_of h) clear stands (up_from h.world.shape h.world.nodes h.settled framed p may.3 isdown) caller call d may.2 p may.3 isdead last refl
+          told-head b.turns h.world.shape b.issued (state_of h) clear stands
+          (up_from h.world.shape h.world.nodes h.settled framed p may.3 isdown) caller call d may.2 p may.3 isdead
+          last refl
           (head_at (node_of h.world p).process d.0) refl is
 
       by : (last.answer ≡ says.Gone) ⊎ (last.answer ≢ says.Gone) → IsClear (b.turns ++ last ∷ []) h.world.shape (state_of h)
@@ -249,14 +284,19 @@ traces-more k asked now turns last rises here were turn name d there traced = by
 turn-asked : (b : Book) (e : Event) → MayCome b.history.world e → TracesAsked b.history.world.shape.k b.history.world.asked b.turns
     → TracesAsked b.history.world.shape.k (booked b e).history.world.asked (booked b e).turns
 turn-asked b (Ask caller op p) may were =
-    traces-more b.history.world.shape.k b.history.world.asked _ b.turns (step b.history.world (Ask caller op p)).turn (asked-rises b.history.world.asked caller) (λ name d traced. absurd traced) were
+    traces-more b.history.world.shape.k b.history.world.asked _ b.turns (step b.history.world (Ask caller op p)).turn
+    (asked-rises b.history.world.asked caller) (λ name d traced. absurd traced) were
 turn-asked b (Collect caller call p) may were =
-    traces-more b.history.world.shape.k b.history.world.asked _ b.turns (step b.history.world (Collect caller call p)).turn (λ x. omega arith) (λ name d traced. absurd traced) were
-turn-asked b (Flush p) may were = traces-more b.history.world.shape.k b.history.world.asked _ b.turns (step b.history.world (Flush p)).turn (λ x. omega arith) (λ name d traced. absurd traced) were
+    traces-more b.history.world.shape.k b.history.world.asked _ b.turns
+    (step b.history.world (Collect caller call p)).turn (λ x. omega arith) (λ name d traced. absurd traced) were
+turn-asked b (Flush p) may were = traces-more b.history.world.shape.k b.history.world.asked _ b.turns
+    (step b.history.world (Flush p)).turn (λ x. omega arith) (λ name d traced. absurd traced) were
 turn-asked b (Deliver from to) may were =
-    traces-more b.history.world.shape.k b.history.world.asked _ b.turns (step b.history.world (Deliver from to)).turn (λ x. omega arith) (λ name d traced. absurd traced) were
+    traces-more b.history.world.shape.k b.history.world.asked _ b.turns (step b.history.world (Deliver from to)).turn
+    (λ x. omega arith) (λ name d traced. absurd traced) were
 turn-asked b (Fail p keep) may were =
-    traces-more b.history.world.shape.k b.history.world.asked _ b.turns (step b.history.world (Fail p keep)).turn (λ x. omega arith) (λ name d traced. absurd traced) were
+    traces-more b.history.world.shape.k b.history.world.asked _ b.turns (step b.history.world (Fail p keep)).turn
+    (λ x. omega arith) (λ name d traced. absurd traced) were
 turn-asked b (Trace caller call d p) may were =
     traces-more b.history.world.shape.k b.history.world.asked _ b.turns (step b.history.world (Trace caller call d p)).turn (λ x. omega arith)
     (λ name e traced.

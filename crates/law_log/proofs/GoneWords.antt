@@ -20,11 +20,13 @@ IsUnnamed name history = Each (λ u. update_name u ≢ name) history
 
 -- a history of partition d has no update of a call that a turn told to be gone from there
 abbrev pub IsClean : List Turn → ℕ → ℕ → List Update → Type 0
-IsClean turns d applied history = (turn : Turn) (name : CallName) → Contains turns turn → Traces turn.event name d → turn.answer ≡ says.Gone → IsUnnamed name history
+IsClean turns d applied history = (turn : Turn) (name : CallName) → Contains turns turn → Traces turn.event name d
+    → turn.answer ≡ says.Gone → IsUnnamed name history
 
 -- a traced call was asked, and its partition is one of the group
 abbrev pub TracesAsked : ℕ → List ℕ → List Turn → Type 0
-TracesAsked k asked turns = (turn : Turn) (name : CallName) (d : ℕ) → Contains turns turn → Traces turn.event name d → (d < k) × (name.call < at 0 asked name.caller)
+TracesAsked k asked turns = (turn : Turn) (name : CallName) (d : ℕ) → Contains turns turn → Traces turn.event name d
+    → (d < k) × (name.call < at 0 asked name.caller)
 
 -- every replica, every link and what is settled are clean of what was told to be gone, of calls that were asked
 pub record GoneStand (h : History) (turns : List Turn) : Type 0 where

@@ -1,5 +1,6 @@
 -- What a group keeps of calls, told of its log.
-use Rattle.std.proofs.Common.{ℕ, zero, suc, ◌≡◌, ◌<◌, ◌-◌, ◌==◌, Bool, true, false, List, [], ◌∷◌, map, take, Option, Some, None, if◌then◌else◌, refl, sym, ap, subst, ◌∙◌}
+use Rattle.std.proofs.Common.{ℕ, zero, suc, ◌≡◌, ◌<◌, ◌-◌, ◌==◌, Bool, true, false, List, [], ◌∷◌, map, take, Option}
+use Rattle.std.proofs.Common.{Some, None, if◌then◌else◌, refl, sym, ap, subst, ◌∙◌}
 use Rattle.std.specs.List.{slice_get}
 use Rattle.group_types.specs.Dimensions.{Dimensions}
 use Rattle.group_types.specs.Lists.{at}
@@ -39,8 +40,11 @@ kept-same caller (suc n) [] [] a b all kept = kept
 kept-same caller (suc n) [] (u ∷ us) a b all kept = absurd all
 kept-same caller (suc n) (x ∷ xs) [] a b all kept = absurd all
 kept-same caller (suc n) (x ∷ xs) (u ∷ us) a b all kept =
-    kept-same caller n xs us (if x.entry.caller == caller then Some x else a) (if u.caller == caller then Some (record { call = u.call; outcome = u.outcome }) else b) all.2
-    (subst (λ (t : Bool). IsKept (if t then Some x else a) (if u.caller == caller then Some (record { call = u.call; outcome = u.outcome }) else b)) (sym test) (by (u.caller == caller))) where
+    kept-same caller n xs us (if x.entry.caller == caller then Some x else a)
+    (if u.caller == caller then Some (record { call = u.call; outcome = u.outcome }) else b) all.2
+    (subst (λ (t : Bool). IsKept (if t then Some x else a)
+    (if u.caller == caller then Some (record { call = u.call; outcome = u.outcome }) else b)) (sym test)
+    (by (u.caller == caller))) where
       test : (x.entry.caller == caller) ≡ (u.caller == caller)
       test = ap (λ (name : CallName). name.caller == caller) all.0
 
@@ -55,7 +59,8 @@ matched [] settled i x all is = absurd (cc is)
 matched (y ∷ xs) [] i x all is = absurd all
 matched (y ∷ xs) (u ∷ us) zero x all is =
     let same : y ≡ x = ap (λ (o : Option Logged). elim o [ None ↦ y | Some z ↦ z ]) is in
-    subst (λ (z : Logged). (v : Update) × (slice_get (u ∷ us) 0 ≡ Some v) × (z.entry.caller ≡ v.caller) × (z.entry.call ≡ v.call) × (z.entry.reply ≡ reply_from v.outcome)) same
+    subst (λ (z : Logged). (v : Update) × (slice_get (u ∷ us) 0 ≡ Some v) × (z.entry.caller ≡ v.caller)
+    × (z.entry.call ≡ v.call) × (z.entry.reply ≡ reply_from v.outcome)) same
     (u, refl, ap (λ (name : CallName). name.caller) all.0, ap (λ (name : CallName). name.call) all.0, all.1)
 matched (y ∷ xs) (u ∷ us) (suc i) x all is = matched xs us i x all.2 is
 
@@ -95,5 +100,6 @@ calls_are_known s stands es run =
     let kept : KeptStand b.history.world.shape (state_of b.history) =
     subst (λ (t : Dimensions). KeptStand t (state_of b.history)) (sym (book-shape s es))
     (subst (λ (h : History). KeptStand s (state_of h)) (sym (book-history (no_book s) es)) (kept_always s es run)) in
-    let held : HeldAreAt b.history.world.shape (state_of b.history) = subst (λ (t : Dimensions). HeldAreAt t (state_of b.history)) (sym (book-shape s es)) (held-book s es run).2 in
+    let held : HeldAreAt b.history.world.shape (state_of b.history) =
+    subst (λ (t : Dimensions). HeldAreAt t (state_of b.history)) (sym (book-shape s es)) (held-book s es run).2 in
     subst (λ (w : World). KeptIsLast w × HeldIsHeld w) (book-world s es) (kept-is-last b.history match kept, held-is-held b.history match held)

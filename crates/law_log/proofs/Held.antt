@@ -1,5 +1,6 @@
 -- What is held stays so in every move, and is settled once it is applied.
-use Rattle.std.proofs.Common.{ℕ, suc, ◌≡◌, ◌≢◌, ◌<◌, ◌≤◌, false, List, [], ◌∷◌, length, take, drop, Option, Some, None, ◌⊎◌, inl, inr, refl, sym, ap, subst, ◌∙◌, arith, zero, ◌+◌, ◌-◌}
+use Rattle.std.proofs.Common.{ℕ, suc, ◌≡◌, ◌≢◌, ◌<◌, ◌≤◌, false, List, [], ◌∷◌, length, take, drop, Option, Some, None}
+use Rattle.std.proofs.Common.{◌⊎◌, inl, inr, refl, sym, ap, subst, ◌∙◌, arith, zero, ◌+◌, ◌-◌}
 use Rattle.std.proofs.lemmas.List.{take-append-drop}
 use Rattle.std.proofs.lemmas.List.Elements.{Contains-append_left, Contains-append_right, Contains-append_cases}
 use Rattle.std.specs.Prelude.{Contains}
@@ -54,7 +55,14 @@ begins-contains front whole begins u there =
 
 held-more : (front whole : List Update) → Prolongs front whole → (x : Held) → IsHeldOf front x → IsHeldOf whole x
 held-more front whole begins x is =
-    record { update = is.update; there = begins-contains front whole begins is.update is.there; number = is.number; caller = is.caller; call = is.call; outcome = is.outcome }
+    record {
+      update = is.update;
+      there = begins-contains front whole begins is.update is.there;
+      number = is.number;
+      caller = is.caller;
+      call = is.call;
+      outcome = is.outcome;
+    }
 
 none-held : (xs : List Held) → Each (λ x. ⊥) xs → xs ≡ []
 none-held [] all = refl
@@ -63,18 +71,33 @@ none-held (x ∷ xs) all = absurd all.0
 -- what a move makes of the calls that a process holds of partition d: whatever is said of each of those that were
 -- held is said of each, if it is of the calls of updates of the log that the process has as a head
 abbrev pub HoldsOn : ℕ → Process → Process → Type 1
-HoldsOn d p q = (P : Held → Type 0) → Each P (held_at p d) → ((g : Head) (u : Update) → head_at p d ≡ Some g → Contains (replica_of q d).log u → P (held_of u)) → Each P (held_at q d)
+HoldsOn d p q = (P : Held → Type 0) → Each P (held_at p d)
+    → ((g : Head) (u : Update) → head_at p d ≡ Some g → Contains (replica_of q d).log u → P (held_of u))
+    → Each P (held_at q d)
 
-held-moved : (d : ℕ) (old settled : List Update) (p q : Process) → HeldFits old d p → Since d p q → FollowsBy d old (replica_of p d) settled q → HoldsOn d p q → HeldFits settled d q
-held-moved d old settled p q fits since follows moves = record { heads = λ h heads. by (head_at p d) refl h heads; none = λ none. none-by (head_at p d) refl none } where
+held-moved : (d : ℕ) (old settled : List Update) (p q : Process) → HeldFits old d p → Since d p q
+    → FollowsBy d old (replica_of p d) settled q → HoldsOn d p q → HeldFits settled d q
+held-moved d old settled p q fits since follows moves = record {
+  heads = λ h heads. by (head_at p d) refl h heads;
+  none = λ none. none-by (head_at p d) refl none;
+} where
   whole : List Update
   whole = history settled (replica_of q d)
 
   by : (o : Option Head) → head_at p d ≡ o → (h : Head) → head_at q d ≡ Some h → Each (IsHeldOf whole) (held_at q d)
   by None is h heads = moves (IsHeldOf whole) (subst (Each (IsHeldOf whole)) (sym (fits.none is)) tt) (λ g u some there. absurd (cc (is, some)))
   by (Some g) is h heads = moves (IsHeldOf whole)
-      (each-weaker (IsHeldOf (history old (replica_of p d))) (IsHeldOf whole) (λ x of. held-more (history old (replica_of p d)) whole (follows h heads) x of) (held_at p d) (fits.heads g is))
-      (λ g u some there. record { update = u; there = Contains-append_right (take (replica_of q d).applied settled) (replica_of q d).log u there; number = refl; caller = refl; call = refl; outcome = refl })
+      (each-weaker (IsHeldOf (history old (replica_of p d))) (IsHeldOf whole)
+      (λ x of. held-more (history old (replica_of p d)) whole (follows h heads) x of) (held_at p d) (fits.heads g is))
+      (λ g u some there. record {
+        update = u;
+        there = Contains-append_right (take (replica_of q d).applied settled)
+            (replica_of q d).log u there;
+        number = refl;
+        caller = refl;
+        call = refl;
+        outcome = refl;
+      })
 
   none-by : (o : Option Head) → head_at p d ≡ o → head_at q d ≡ None → held_at q d ≡ []
   none-by (Some g) is none = absurd (cc ((since.heads g is).heads, none))
@@ -84,7 +107,8 @@ held-moved d old settled p q fits since follows moves = record { heads = λ h he
 held-stays : (d : ℕ) (old settled : List Update) (p : Process) → ((h : Head) → head_at p d ≡ Some h → (replica_of p d).applied ≤ length old)
     → Prolongs old settled → HeldFits old d p → HeldFits settled d p
 held-stays d old settled p applied begins fits = record {
-  heads = λ h heads. subst (λ (us : List Update). Each (IsHeldOf us) (held_at p d)) (sym (history-grown old (replica_of p d) (applied h heads) settled begins)) (fits.heads h heads);
+  heads = λ h heads. subst (λ (us : List Update). Each (IsHeldOf us) (held_at p d))
+      (sym (history-grown old (replica_of p d) (applied h heads) settled begins)) (fits.heads h heads);
   none = fits.none;
 }
 
@@ -93,7 +117,9 @@ any-laws = record { start = λ d. tt; rises = λ d a b history any low high. tt 
 
 module _ (s : Dimensions) (shaped : IsShape s) where
   all-held : (v w : State) (p : ProcessId) → Members s v → Reach Any s v → Leaves_both Any any-laws s shaped v w p
-      → ((q : ProcessId) → IsProcess s q → q ≢ p → w.process q ≡ v.process q) → ((q : ProcessId) → IsProcess s q → w.dead q ≡ v.dead q) → ((d : ℕ) → d < s.k → Prolongs (v.settled d) (w.settled d))
+      → ((q : ProcessId) → IsProcess s q → q ≢ p → w.process q ≡ v.process q)
+      → ((q : ProcessId) → IsProcess s q → w.dead q ≡ v.dead q)
+      → ((d : ℕ) → d < s.k → Prolongs (v.settled d) (w.settled d))
       → ((d : ℕ) → HoldsOn d (v.process p) (w.process p)) → HeldStand s v → HeldStand s w
   all-held v w p members reach leaves others dead begins moves stand q d qin living below = by (same-cases q p) where
     lived : v.dead q ≡ false
@@ -105,7 +131,9 @@ module _ (s : Dimensions) (shaped : IsShape s) where
     by : (q ≡ p) ⊎ (q ≢ p) → HeldFits (w.settled d) d (w.process q)
     by (inl same) =
         subst (λ (y : ProcessId). HeldFits (w.settled d) d (w.process y)) (sym same)
-        (held-moved d (v.settled d) (w.settled d) (v.process p) (w.process p) (subst (λ (y : ProcessId). HeldFits (v.settled d) d (v.process y)) same old) (leaves d below).1 (leaves d below).3 (moves d))
+        (held-moved d (v.settled d) (w.settled d) (v.process p) (w.process p)
+        (subst (λ (y : ProcessId). HeldFits (v.settled d) d (v.process y)) same old) (leaves d below).1
+        (leaves d below).3 (moves d))
     by (inr other) =
         subst (HeldFits (w.settled d) d) (sym (others q qin other))
         (held-stays d (v.settled d) (w.settled d) (v.process q)
@@ -114,7 +142,8 @@ module _ (s : Dimensions) (shaped : IsShape s) where
 
   -- what a process treats
   treats-hold : (p : Process) (t : ProcessStep) → Treats s p t → (d : ℕ) → HoldsOn d p t.process
-  treats-hold p _ (Asks name op bytes) d P all more = held-ask s P d name op (home_of (key_of op.act) s.k) p (head_at p (home_of (key_of op.act) s.k)) refl all more
+  treats-hold p _ (Asks name op bytes) d P all more = held-ask s P d name op (home_of (key_of op.act) s.k) p
+      (head_at p (home_of (key_of op.act) s.k)) refl all more
   treats-hold p _ (Collects caller call) d P all more = held-collect P d caller call p (range_with_len 0 s.k) all
   treats-hold p _ Flushes d P all more = all
 
@@ -123,7 +152,9 @@ module _ (s : Dimensions) (shaped : IsShape s) where
     opens = λ v starts. ((keeps_reach s shaped).opens v starts, λ p d pin living below. opened v starts p d pin);
     treats = λ v w p t pin up lives treated both acts. (
       (keeps_reach s shaped).treats v w p t pin up lives treated both.0 acts,
-      all-held v w p both.0.0 both.0.1 (treats-both Any any-laws s shaped v w p t pin up lives (λ name op bytes h body outcome heads is. tt) treated both.0.0 both.0.1 acts) acts.others acts.dead
+      all-held v w p both.0.0 both.0.1
+          (treats-both Any any-laws s shaped v w p t pin up lives (λ name op bytes h body outcome heads is. tt) treated
+          both.0.0 both.0.1 acts) acts.others acts.dead
           (λ d below. subst (Prolongs (v.settled d)) (sym (acts.settled d below)) (settled-begins t.settled d (v.settled d)))
           (λ d. subst (HoldsOn d (v.process p)) (sym acts.process) (treats-hold (v.process p) t treated d)) both.1,
     );
@@ -132,10 +163,18 @@ module _ (s : Dimensions) (shaped : IsShape s) where
       all-held v w p both.0.0 both.0.1 (receives-both Any any-laws s shaped v u w x p m xin pin apart up lives both.0.0 both.0.1 pops acts)
           (λ q qin other. acts.others q qin other ∙ pops.processes q qin)
           (λ q qin. acts.dead q qin ∙ pops.dead q qin)
-          (λ d below. subst (Prolongs (v.settled d)) (sym (acts.settled d below ∙ ap (settled_with (receive s x m (v.process p)).settled d) (pops.settled d))) (settled-begins (receive s x m (v.process p)).settled d (v.settled d)))
-          (λ d P all more. subst (λ (y : Process). Each P (held_at y d)) (sym acts.process) (subst (λ (held : List (List Held)). Each P (at [] held d)) (sym (holds-receive s x m (v.process p))) all)) both.1,
+          (λ d below. subst (Prolongs (v.settled d))
+          (sym (acts.settled d below ∙ ap (settled_with (receive s x m (v.process p)).settled d) (pops.settled d)))
+          (settled-begins (receive s x m (v.process p)).settled d (v.settled d)))
+          (λ d P all more. subst (λ (y : Process). Each P (held_at y d)) (sym acts.process)
+          (subst (λ (held : List (List Held)). Each P (at [] held d)) (sym (holds-receive s x m (v.process p))) all))
+          both.1,
     );
-    dies = λ v w p keep pin both died. ((keeps_reach s shaped).dies v w p keep pin both.0 died, λ q d qin living below. after v w p keep died both.1 q d qin living below (same-cases q p));
+    dies = λ v w p keep pin both died. (
+      (keeps_reach s shaped).dies v w p keep pin both.0 died,
+      λ q d qin living below.
+          after v w p keep died both.1 q d qin living below (same-cases q p),
+    );
   } where
     opened : (v : State) → Opens s v → (p : ProcessId) (d : ℕ) → IsProcess s p → HeldFits (v.settled d) d (v.process p)
     opened v starts p d pin =
@@ -154,8 +193,11 @@ module _ (s : Dimensions) (shaped : IsShape s) where
 -- the updates of a list with numbers from a on have no lower ones
 numbered-low : (a : ℕ) (us : List Update) → NumberedFrom a us → Each (λ u. a ≤ u.number) us
 numbered-low a [] all = tt
-numbered-low a (u ∷ us) all =
-    ((let first : u.number ≡ a = all.0 in omega (arith, first)), each-weaker (λ v. suc a ≤ v.number) (λ v. a ≤ v.number) (λ v more. omega (arith, more)) us (numbered-low (suc a) us all.1))
+numbered-low a (u ∷ us) all = (
+  (let first : u.number ≡ a = all.0 in omega (arith, first)),
+  each-weaker (λ v. suc a ≤ v.number) (λ v. a ≤ v.number)
+      (λ v more. omega (arith, more)) us (numbered-low (suc a) us all.1),
+)
 
 pub contains-taken : {X : Type 0} (n : ℕ) (xs : List X) (x : X) → Contains (take n xs) x → Contains xs x
 contains-taken {X} n xs x there = subst (λ (ys : List X). Contains ys x) (take-append-drop n xs) (Contains-append_left (take n xs) (drop n xs) x there)
@@ -169,9 +211,11 @@ held-settled s v members reach stand p d x pin living below there low = by (head
   fits : HeldFits (v.settled d) d (v.process p)
   fits = stand p d pin living below
 
-  settled_as : ReplicaReaches Any d (v.settled d) (v.process p) → IsHeldOf (history (v.settled d) r) x → IsSettledAs (v.settled d) (record { caller = x.caller; call = x.call }) x.outcome
+  settled_as : ReplicaReaches Any d (v.settled d) (v.process p) → IsHeldOf (history (v.settled d) r) x
+      → IsSettledAs (v.settled d) (record { caller = x.caller; call = x.call }) x.outcome
   settled_as reaches of = in_part (Contains-append_cases (take r.applied (v.settled d)) r.log of.update of.there) where
-    in_part : Contains (take r.applied (v.settled d)) of.update ⊎ Contains r.log of.update → IsSettledAs (v.settled d) (record { caller = x.caller; call = x.call }) x.outcome
+    in_part : Contains (take r.applied (v.settled d)) of.update ⊎ Contains r.log of.update
+        → IsSettledAs (v.settled d) (record { caller = x.caller; call = x.call }) x.outcome
     in_part (inl front) = record {
       update = of.update;
       there = contains-taken r.applied (v.settled d) of.update front;
@@ -204,7 +248,8 @@ numbered-one a (u ∷ us) x y all (suc i, low, is) (zero, high, it) same =
     let here : u.number ≡ y.number = ap (λ (v : Update). v.number) it in
     let more : suc a ≤ x.number = each-contained (λ v. suc a ≤ v.number) us x (numbered-low (suc a) us all.1) (i, (omega (arith, low)), is) in
     absurd (omega (arith, first, here, more, same))
-numbered-one a (u ∷ us) x y all (suc i, low, is) (suc j, high, it) same = numbered-one (suc a) us x y all.1 (i, (omega (arith, low)), is) (j, (omega (arith, high)), it) same
+numbered-one a (u ∷ us) x y all (suc i, low, is) (suc j, high, it) same =
+    numbered-one (suc a) us x y all.1 (i, (omega (arith, low)), is) (j, (omega (arith, high)), it) same
 
 -- the number at a place of a numbered list
 numbered-at : (a : ℕ) (us : List Update) (i : ℕ) (u : Update) → NumberedFrom a us → slice_get us i ≡ Some u → u.number ≡ a + i
@@ -216,7 +261,8 @@ numbered-at a (v ∷ us) zero u all is =
 numbered-at a (v ∷ us) (suc i) u all is = let rest = numbered-at (suc a) us i u all.1 is in omega (arith, rest)
 
 -- a held call is that of the update of its number
-held-at : (d : ℕ) (settled : List Update) (r : Replica) (head : Option Head) → ReplicaFits Any d settled r head → (x : Held) → IsHeldOf (history settled r) x → IsHeldAt settled r x
+held-at : (d : ℕ) (settled : List Update) (r : Replica) (head : Option Head) → ReplicaFits Any d settled r head
+    → (x : Held) → IsHeldOf (history settled r) x → IsHeldAt settled r x
 held-at d settled r head fits x of = record {
   is_settled = λ u low is.
       let number = numbered-at 1 settled (x.number - 1) u numbered is in
@@ -232,7 +278,8 @@ held-at d settled r head fits x of = record {
   numbered : NumberedFrom 1 settled
   numbered =
       subst (NumberedFrom 1) fits.prolongs.front
-      (numbered-front 1 (take (length settled) (history settled r)) (drop (length settled) (history settled r)) (subst (NumberedFrom 1) (sym (take-append-drop (length settled) (history settled r))) fits.fine.0))
+      (numbered-front 1 (take (length settled) (history settled r)) (drop (length settled) (history settled r))
+      (subst (NumberedFrom 1) (sym (take-append-drop (length settled) (history settled r))) fits.fine.0))
 
   same : (u : Update) → Contains (history settled r) u → u.number ≡ x.number → IsHeldFrom x u
   same u there number =
@@ -261,4 +308,5 @@ held_always s es run =
 pub held-book : (s : Dimensions) (es : List Event) → IsRun s es
     → HeldStand s (state_of (book_of s es).history) × HeldIsSettled s (state_of (book_of s es).history) × HeldAreAt s (state_of (book_of s es).history)
 held-book s es run =
-    subst (λ (h : History). HeldStand s (state_of h) × HeldIsSettled s (state_of h) × HeldAreAt s (state_of h)) (sym (book-history (no_book s) es)) (held_always s es run)
+    subst (λ (h : History). HeldStand s (state_of h) × HeldIsSettled s (state_of h) × HeldAreAt s (state_of h))
+    (sym (book-history (no_book s) es)) (held_always s es run)

@@ -1,5 +1,6 @@
 -- What an ask and a collect make of the calls that a process holds.
-use Rattle.std.proofs.Common.{ℕ, suc, ◌≡◌, ◌≢◌, ◌<◌, ◌≤◌, ◌-◌, ◌+◌, nat_le, Bool, true, false, not, List, [], ◌∷◌, ◌++◌, length, take, drop, Option, Some, None, ◌⊎◌, inl, inr, refl, sym, ap, subst, ◌∙◌, arith}
+use Rattle.std.proofs.Common.{ℕ, suc, ◌≡◌, ◌≢◌, ◌<◌, ◌≤◌, ◌-◌, ◌+◌, nat_le, Bool, true, false, not, List, [], ◌∷◌, ◌++◌}
+use Rattle.std.proofs.Common.{length, take, drop, Option, Some, None, ◌⊎◌, inl, inr, refl, sym, ap, subst, ◌∙◌, arith}
 use Rattle.std.proofs.lemmas.Bool.{cases_eq, cases_lt}
 use Rattle.std.proofs.lemmas.Grind.{common_steps}
 use Rattle.std.proofs.lemmas.List.{drop-append-le, length-append, take_all}
@@ -17,7 +18,8 @@ use Rattle.group_calls.specs.Turns.{CallName}
 use Rattle.group_calls.specs.declared.decision.Decision.{Decision}
 use Rattle.group_calls.specs.declared.decision.Decision.TheVariants as decides
 use Rattle.group_run.specs.Applying.{ProcessStep, head_at, held_at, replica_of, with_held, with_replica}
-use Rattle.group_run.specs.Asking.{CallStep, Oldest, act_on, ask_head, collect_from, collect_held, found_at, handed_out, is_call, issued, oldest_inherited, retry_block, ticketed, update_of}
+use Rattle.group_run.specs.Asking.{CallStep, Oldest, act_on, ask_head, collect_from, collect_held, found_at, handed_out}
+use Rattle.group_run.specs.Asking.{is_call, issued, oldest_inherited, retry_block, ticketed, update_of}
 use Rattle.group_run.specs.Deciding.{decide}
 use Rattle.group_run.specs.Heading.{judge_head, least_acked, other_parities}
 use Rattle.group_run.specs.Leaders.{start_session}
@@ -50,10 +52,12 @@ module _ (P : Held → Type 0) (d : ℕ) where
   -- a collect only forgets
   pub held-collect : (caller call : ℕ) (p : Process) (es : List ℕ) → Each P (held_at p d) → Each P (held_at (collect_from caller call p es).step.process d)
   held-collect caller call p [] all = all
-  held-collect caller call p (e ∷ es) all = held-found e (find (is_call caller call) (held_at p e)) p (collect_from caller call p es) all (held-collect caller call p es all)
+  held-collect caller call p (e ∷ es) all = held-found e (find (is_call caller call) (held_at p e)) p
+      (collect_from caller call p es) all (held-collect caller call p es all)
 
 -- an update that was put behind and isn't applied yet stands in the log
-log-has : (r : Replica) (u : Update) (n : ℕ) → u.number ≡ suc (last_of r) → nat_le u.number (applied_to n (with_update u r)).applied ≡ false → Contains (applied_to n (with_update u r)).log u
+log-has : (r : Replica) (u : Update) (n : ℕ) → u.number ≡ suc (last_of r)
+    → nat_le u.number (applied_to n (with_update u r)).applied ≡ false → Contains (applied_to n (with_update u r)).log u
 log-has r u n number test = by (cases_lt (length r.log) (n - r.applied)) where
   whole : length (r.log ++ u ∷ []) ≡ length r.log + 1
   whole = length-append r.log (u ∷ [])
@@ -63,7 +67,8 @@ log-has r u n number test = by (cases_lt (length r.log) (n - r.applied)) where
 
   by : (length r.log < n - r.applied) ⊎ (n - r.applied ≤ length r.log) → Contains (applied_to n (with_update u r)).log u
   by (inl more) =
-      let all : length (take (n - r.applied) (r.log ++ u ∷ [])) ≡ length (r.log ++ u ∷ []) = ap length (take_all (n - r.applied) (r.log ++ u ∷ []) (omega (arith, more, whole))) in
+      let all : length (take (n - r.applied) (r.log ++ u ∷ [])) ≡ length (r.log ++ u ∷ []) =
+      ap length (take_all (n - r.applied) (r.log ++ u ∷ []) (omega (arith, more, whole))) in
       absurd (omega (arith, above, all, whole, number))
   by (inr low) =
       subst (λ (us : List Update). Contains us u) (sym (drop-append-le (n - r.applied) r.log (u ∷ []) low))
@@ -72,12 +77,15 @@ log-has r u n number test = by (cases_lt (length r.log) (n - r.applied)) where
 log-judged : (s : Dimensions) (e : ℕ) (q : Process) (h : Option Head) (r : Replica) (u : Update) → replica_of q e ≡ with_update u r → u.number ≡ suc (last_of r)
     → nat_le u.number (replica_of (judge_head s e q h).process e).applied ≡ false → Contains (replica_of (judge_head s e q h).process e).log u
 log-judged s e q None r u is number test = subst (λ (x : Replica). Contains x.log u) (sym is) (Contains-append_right r.log (u ∷ []) u (0, omega arith, refl))
-log-judged s e q (Some h) r u is number test = by _ (at-put empty_replica empty_replica q.replicas e (applied_to n (replica_of q e)) ∙ ap (applied_to n) is) test where
-  n : ℕ
-  n = least_acked h (last_of (replica_of q e)) (other_parities s.m q.name q.known)
+log-judged s e q (Some h) r u is number test =
+    by _ (at-put empty_replica empty_replica q.replicas e (applied_to n (replica_of q e)) ∙ ap (applied_to n) is)
+    test where
+      n : ℕ
+      n = least_acked h (last_of (replica_of q e)) (other_parities s.m q.name q.known)
 
-  by : (x : Replica) → x ≡ applied_to n (with_update u r) → nat_le u.number x.applied ≡ false → Contains x.log u
-  by x same test = subst (λ (y : Replica). Contains y.log u) (sym same) (log-has r u n number (ap (λ (y : Replica). nat_le u.number y.applied) (sym same) ∙ test))
+      by : (x : Replica) → x ≡ applied_to n (with_update u r) → nat_le u.number x.applied ≡ false → Contains x.log u
+      by x same test = subst (λ (y : Replica). Contains y.log u) (sym same)
+          (log-has r u n number (ap (λ (y : Replica). nat_le u.number y.applied) (sym same) ∙ test))
 
 module _ (s : Dimensions) (P : Held → Type 0) (d : ℕ) where
   -- a ticket puts the update's call behind those that are held, and the log has the update
@@ -95,12 +103,15 @@ module _ (s : Dimensions) (P : Held → Type 0) (d : ℕ) where
     stays : Each P (held_at (issued s e h u p).process d)
     stays = subst (Each P) (sym same) all
 
-    by : (b : Bool) → nat_le u.number (replica_of (issued s e h u p).process e).applied ≡ b → Each P (held_at (ticketed b e u (issued s e h u p)).step.process d)
+    by : (b : Bool) → nat_le u.number (replica_of (issued s e h u p).process e).applied ≡ b
+        → Each P (held_at (ticketed b e u (issued s e h u p)).step.process d)
     by true test = stays
     by false test = held-put P d e (issued s e h u p).process (held_at (issued s e h u p).process e ++ held_of u ∷ []) stays
-        (λ here. each-append P (held_at (issued s e h u p).process e) (held_of u ∷ []) (subst (λ (k : ℕ). Each P (held_at (issued s e h u p).process k)) here stays) (
+        (λ here. each-append P (held_at (issued s e h u p).process e) (held_of u ∷ [])
+        (subst (λ (k : ℕ). Each P (held_at (issued s e h u p).process k)) here stays) (
           more here (subst (λ (k : ℕ). Contains (replica_of (issued s e h u p).process k).log u) (sym here)
-              (log-judged s e told (head_at told e) (replica_of p e) u (at-put empty_replica empty_replica p.replicas e (with_update u (replica_of p e))) number test)),
+              (log-judged s e told (head_at told e) (replica_of p e) u
+              (at-put empty_replica empty_replica p.replicas e (with_update u (replica_of p e))) number test)),
           tt,
         ))
 
@@ -123,7 +134,9 @@ module _ (s : Dimensions) (P : Held → Type 0) (d : ℕ) where
       let u : Update = update_of name op e body outcome p in
       let t : ProcessStep = issued s e h u p in
       held-issued e h u p refl (nat_le u.number (replica_of t.process e).applied) refl all
-      (λ here there. more u here (subst (λ (r : Replica). Contains r.log u) (sym (replica-ticketed (nat_le u.number (replica_of t.process e).applied) e u t)) there))
+      (λ here there.
+      more u here (subst (λ (r : Replica). Contains r.log u)
+      (sym (replica-ticketed (nat_le u.number (replica_of t.process e).applied) e u t)) there))
 
   -- what is held after a call was asked: what was, or the call of an update of the log
   pub held-ask : (name : CallName) (op : Asked) (e : ℕ) (p : Process) (h : Option Head) → head_at p e ≡ h → Each P (held_at p d)
@@ -131,4 +144,5 @@ module _ (s : Dimensions) (P : Held → Type 0) (d : ℕ) where
       → Each P (held_at (ask_head s name op e p h).step.process d)
   held-ask name op e p None heads all more = all
   held-ask name op e p (Some h) heads all more =
-      held-act name op e h p (decide (space_of s) h.inherited (replica_of p e) op (found_at s e p p.name)) all (λ u here there. more h u (ap (head_at p) here ∙ heads) there)
+      held-act name op e h p (decide (space_of s) h.inherited (replica_of p e) op (found_at s e p p.name)) all
+      (λ u here there. more h u (ap (head_at p) here ∙ heads) there)

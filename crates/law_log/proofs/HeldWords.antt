@@ -46,7 +46,8 @@ pub record IsHeldAt (settled : List Update) (r : Replica) (x : Held) : Type 0 wh
 
 -- so is each
 abbrev pub HeldAreAt : Dimensions → State → Type 0
-HeldAreAt s v = (p : ProcessId) (d : ℕ) (x : Held) → IsProcess s p → v.dead p ≡ false → d < s.k → Contains (held_at (v.process p) d) x → IsHeldAt (v.settled d) (replica_of (v.process p) d) x
+HeldAreAt s v = (p : ProcessId) (d : ℕ) (x : Held) → IsProcess s p → v.dead p ≡ false → d < s.k
+    → Contains (held_at (v.process p) d) x → IsHeldAt (v.settled d) (replica_of (v.process p) d) x
 
 -- all this holds along every run
 abbrev pub HeldAlways : Type 0

@@ -13,7 +13,8 @@ use Rattle.group_message.specs.declared.message.Message.TheVariants as tells
 use Rattle.group_message.specs.declared.message.Session.{Session}
 use Rattle.group_run.specs.Applying.{ProcessStep, and_then, apply_to, for_each, head_at, replica_of, when, with_head}
 use Rattle.group_run.specs.Heading.{acknowledge, acknowledged, judge, judge_head}
-use Rattle.group_run.specs.Leaders.{close_sessions, copy_kept, copy_marked, mark_comes, mark_taken, own_mark, row_finished, session_opened, start_session, lost_of}
+use Rattle.group_run.specs.Leaders.{close_sessions, copy_kept, copy_marked, mark_comes, mark_taken, own_mark}
+use Rattle.group_run.specs.Leaders.{row_finished, session_opened, start_session, lost_of}
 use Rattle.group_run.specs.Process.{Copy, Gathering, Head, Process}
 use Rattle.group_run.specs.Receiving.{death_known, enthroned, notice_comes, read_comes, receive, take_over_if, taken_over, takes_over}
 use Rattle.group_run.specs.Rows.{accepts_mark, begin_copy, copy_begun, copy_in, is_marked, leader_forgotten, marked, parity_number, with_copies, without_copy}
@@ -43,7 +44,8 @@ holds-row_finished true s copy p = refl
 holds-row_finished false s copy p = refl
 
 holds-copy_kept : (b : Bool) (s : Dimensions) (copy : Copy) (p : Process) → Holds p (copy_kept b s copy p)
-holds-copy_kept true s copy p = holds-row_finished (same_process p.name (ParityNode copy.leader)) s copy (with_copies (without_copy copy.leader copy.number p.as_row.copies) p)
+holds-copy_kept true s copy p = holds-row_finished (same_process p.name (ParityNode copy.leader)) s copy
+    (with_copies (without_copy copy.leader copy.number p.as_row.copies) p)
 holds-copy_kept false s copy p = refl
 
 holds-copy_marked : (s : Dimensions) (d n : ℕ) (copy : Option Copy) (p : Process) → Holds p (copy_marked s d n copy p)
@@ -90,9 +92,12 @@ holds-notice s dead p =
 -- an acknowledgement
 holds-acknowledge : (s : Dimensions) (i r d n : ℕ) (h : Option Head) (p : Process) → Holds p (acknowledge s i r d n h p)
 holds-acknowledge s i r d n None p = refl
-holds-acknowledge s i r d n (Some h) p = holds-when (r == h.rank) p (judge s d (with_head d (Some (acknowledged i n h)) p)) (holds-judge s d (with_head d (Some (acknowledged i n h)) p))
+holds-acknowledge s i r d n (Some h) p =
+    holds-when (r == h.rank) p (judge s d (with_head d (Some (acknowledged i n h)) p))
+    (holds-judge s d (with_head d (Some (acknowledged i n h)) p))
 
-holds-read : (s : Dimensions) (session : Session) (block : ℕ) (rows : List ℕ) (p : Process) (name : ProcessId) → Holds p (read_comes s session block rows p name)
+holds-read : (s : Dimensions) (session : Session) (block : ℕ) (rows : List ℕ) (p : Process) (name : ProcessId)
+    → Holds p (read_comes s session block rows p name)
 holds-read s session block rows p (DataNode d) = refl
 holds-read s session block rows p (ParityNode i) = refl
 

@@ -26,7 +26,8 @@ use Rattle.law_log.proofs.Values.{shown-long}
 use Rattle.law_log.proofs.Written.{shows}
 
 -- the numbers of right updates, by their places
-number-at : (s : Dimensions) (calls : List Call) (d n m : ℕ) (store : Store) (us : List Update) (u : Update) → AreSteps s calls d n store us → slice_get us m ≡ Some u → u.number ≡ suc (n + m)
+number-at : (s : Dimensions) (calls : List Call) (d n m : ℕ) (store : Store) (us : List Update) (u : Update)
+    → AreSteps s calls d n store us → slice_get us m ≡ Some u → u.number ≡ suc (n + m)
 number-at s calls d n m store [] u steps is = absurd (cc is)
 number-at s calls d n zero store (v ∷ vs) u steps is =
     let same : v.number ≡ u.number = ap (λ (o : Option Update). elim o as (λ _. ℕ) [ None ↦ v.number | Some x ↦ x.number ]) is in
@@ -87,19 +88,22 @@ module _ (s : Dimensions) (always : StandsAlways s) (es : List Event) (run : IsR
     settled = record {
       items =
           λ key home. subst
-          (λ (items : Items). IsItem (slot_in items key) ((table_at (after s es) d r.applied).items key) (run_on key None (take r.applied (updates_of (after s es) d))))
+          (λ (items : Items). IsItem (slot_in items key) ((table_at (after s es) d r.applied).items key)
+          (run_on key None (take r.applied (updates_of (after s es) d))))
           (sym stands.items)
           (log-shows.items r.applied stands.within key (ap (λ (t : Dimensions). home_of key t.k) (sym shape-is) ∙ home));
       homes = subst (λ (items : Items). All (λ x. home_of x.0 (after s es).shape.k ≡ d) items) (sym stands.items)
           (subst (λ (t : Dimensions). All (λ x. home_of x.0 t.k ≡ d) (items_after [] (take r.applied settled))) (sym shape-is) fine-items.homes);
       once = subst (λ (items : Items). AllPairs (λ x y. x.0 ≢ y.0) items) (sym stands.items) fine-items.once;
     };
-    numbers = λ j v is. number-at s (book_of s es).issued d 0 (r.applied + j) (no_store s) (history settled r) v stands.fine.steps (in-history j ∙ is) ∙ ap suc (omega arith);
+    numbers = λ j v is. number-at s (book_of s es).issued d 0 (r.applied + j) (no_store s) (history settled r) v
+        stands.fine.steps (in-history j ∙ is) ∙ ap suc (omega arith);
     log = λ j u v is it.
         let below : r.applied + j < length (updates_of (after s es) d) = slice_get_within (updates_of (after s es) d) (r.applied + j) u it in
         let early : r.applied + j < length settled = let long = many in omega arith in
         let there : slice_get settled (r.applied + j) ≡ Some v
-        = ap (λ (us : List Update). slice_get us (r.applied + j)) (sym stands.prolongs) ∙ get-first (length settled) (history settled r) (r.applied + j) early ∙ in-history j ∙ is in
+        = ap (λ (us : List Update). slice_get us (r.applied + j)) (sym stands.prolongs)
+        ∙ get-first (length settled) (history settled r) (r.applied + j) early ∙ in-history j ∙ is in
         logged-at s d (r.applied + j) (no_store s) settled (updates_of (after s es) d) v u log-shows.updates there it;
   }
 

@@ -65,23 +65,31 @@ module _ (b : Book) (framed : FramedHistory b.history) (stands : StandsIn b) (so
       → RefusesWell b.history.world.shape b.history.settled (Some (next_call b.history.world caller op)) (group_step b.history.world (Ask caller op p)).answer
   ask-refuses caller op p pin c reply is answered refused =
       let h : History = b.history in
-      subst (λ (x : Call). ruling_in (store_after h.world.shape (home_of (key_of x.op.act) h.world.shape.k) (at [] h.settled (home_of (key_of x.op.act) h.world.shape.k)))
+      subst (λ (x : Call). ruling_in (store_after h.world.shape (home_of (key_of x.op.act) h.world.shape.k)
+      (at [] h.settled (home_of (key_of x.op.act) h.world.shape.k)))
       (suc (length (at [] h.settled (home_of (key_of x.op.act) h.world.shape.k)))) x.op ≡ Refused reply) (some-same (next_call h.world caller op) c is)
-      (by (call-comes h.world.shape h.world.nodes h.settled framed p (ask_process h.world.shape (next_name h.world caller) op (node_of h.world p).process) pin (node_of h.world p).down (node_of h.world p).dead refl refl) answered)
+      (by (call-comes h.world.shape h.world.nodes h.settled framed p
+      (ask_process h.world.shape (next_name h.world caller) op (node_of h.world p).process) pin
+      (node_of h.world p).down (node_of h.world p).dead refl refl) answered)
     where
       by : {w : State} {answer : Answer}
-          → Answers b.history.world.shape (state_of b.history) w p (ask_process b.history.world.shape (next_name b.history.world caller) op (node_of b.history.world p).process) answer
+          → Answers b.history.world.shape (state_of b.history) w p
+          (ask_process b.history.world.shape (next_name b.history.world caller) op
+          (node_of b.history.world p).process) answer
           → answer ≡ says.Reply reply
-          → ruling_in (store_after b.history.world.shape (home_of (key_of op.act) b.history.world.shape.k) (at [] b.history.settled (home_of (key_of op.act) b.history.world.shape.k)))
+          → ruling_in (store_after b.history.world.shape (home_of (key_of op.act) b.history.world.shape.k)
+          (at [] b.history.settled (home_of (key_of op.act) b.history.world.shape.k)))
           (suc (length (at [] b.history.settled (home_of (key_of op.act) b.history.world.shape.k)))) op ≡ Refused reply
       by {w} {answer} (Idle same idle) said = absurd (idle-no-reply answer reply idle said)
       by {w} {answer} (Acts up lives acts its) said =
           ask-refused b.history.world.shape b.issued (at [] b.history.settled (home_of (key_of op.act) b.history.world.shape.k))
           (next_call b.history.world caller op) (node_of b.history.world p).process
-          (λ head heads. stands.heads up p (home_of (key_of op.act) b.history.world.shape.k) head pin lives (home-below (key_of op.act) b.history.world.shape.k some) heads)
+          (λ head heads. stands.heads up p (home_of (key_of op.act) b.history.world.shape.k) head pin lives
+          (home-below (key_of op.act) b.history.world.shape.k some) heads)
           reply (sym its ∙ said) refused (suc (length (at [] b.history.settled (home_of (key_of op.act) b.history.world.shape.k))))
 
-  refuses : (e : Event) → MayCome b.history.world e → RefusesWell b.history.world.shape b.history.settled (call_of b.history.world e) (group_step b.history.world e).answer
+  refuses : (e : Event) → MayCome b.history.world e → RefusesWell b.history.world.shape b.history.settled
+      (call_of b.history.world e) (group_step b.history.world e).answer
   refuses (Ask caller op p) may = ask-refuses caller op p may.1
   refuses (Collect caller call p) may = λ c reply is. absurd (cc is)
   refuses (Deliver from to) may = λ c reply is. absurd (cc is)
@@ -96,8 +104,10 @@ module _ (b : Book) (framed : FramedHistory b.history) (stands : StandsIn b) (so
       → LogsOf (booked b e) × E (booked b e).history.world.log (booked b e).history.settled
   logs-event e may later all logs E before of_update of_refusal =
       let w : World = b.history.world in
-      logs-next w.shape some b.issued w.log b.history.settled w.tickets w.places w.asked logs (call_of w e) (group_step w e).answer (group_step w e).settled framed.settled_many
-      (λ d low. (later.settled d low).steps) (λ d low. (later.settled d low).rising) (asked-next b e all) all (call-next w e) (refuses e may) E before of_update of_refusal
+      logs-next w.shape some b.issued w.log b.history.settled w.tickets w.places w.asked logs (call_of w e)
+      (group_step w e).answer (group_step w e).settled framed.settled_many
+      (λ d low. (later.settled d low).steps) (λ d low. (later.settled d low).rising) (asked-next b e all) all
+      (call-next w e) (refuses e may) E before of_update of_refusal
 
 -- the log at the start
 pub logs-opening : (s : Dimensions) → LogsOf (no_book s)
@@ -130,7 +140,8 @@ module _ (s : Dimensions) (always : StandsAlways s) where
 
   pub logs_always : (es : List Event) → IsRun s es → LogsOf (book_of s es)
   logs_always es run = book_always s LogsOf (logs-opening s) (λ done e now more may logs.
-      (logs-event (book_of s done) (book-framed s done now) (stands-in done now) (some-partition done now) e (may-here done e may) (stands-next done e more) (asked_always s done now) logs
+      (logs-event (book_of s done) (book-framed s done now) (stands-in done now) (some-partition done now) e
+      (may-here done e may) (stands-next done e more) (asked_always s done now) logs
       (λ log settled. Unit {0}) tt (λ log settled d u low many stands fits step said. tt) (λ c reply is answered refused said. tt)).0) es run
 
 -- the log of turns behind others

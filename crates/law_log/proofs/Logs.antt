@@ -1,5 +1,6 @@
 -- The log after an event: the issued calls grow, a refusal is logged at once, and what is settled comes in.
-use Rattle.std.proofs.Common.{ℕ, suc, ◌≡◌, ◌≢◌, ◌<◌, ◌≤◌, Bool, true, false, List, [], ◌∷◌, ◌++◌, length, map, ◌⊎◌, inl, inr, Option, Some, None, if◌then◌else◌, refl, sym, ap, subst, ◌∙◌, arith}
+use Rattle.std.proofs.Common.{ℕ, suc, ◌≡◌, ◌≢◌, ◌<◌, ◌≤◌, Bool, true, false, List, [], ◌∷◌, ◌++◌, length, map, ◌⊎◌, inl}
+use Rattle.std.proofs.Common.{inr, Option, Some, None, if◌then◌else◌, refl, sym, ap, subst, ◌∙◌, arith}
 use Rattle.std.specs.List.{range_with_len}
 use Rattle.std.proofs.lemmas.List.{append-nil}
 use Rattle.std.proofs.lemmas.List.Elements.{Contains-append_left}
@@ -25,7 +26,8 @@ use Rattle.law_moves.proofs.Settled.{settled-at}
 use Rattle.group_run.specs.Applying.{Settlement}
 use Rattle.group_run.specs.Asking.{reply_from}
 use Rattle.group_run.specs.History.{settled_after}
-use Rattle.group_run.specs.World.{Call, Ledger, Ticket, asked_after, grown, is_issued, ledger_after, logged_at_once, op_in, op_moved, ops_moved, refusal_logged, ticket_if, tickets_after, update_name}
+use Rattle.group_run.specs.World.{Call, Ledger, Ticket, asked_after, grown, is_issued, ledger_after, logged_at_once}
+use Rattle.group_run.specs.World.{op_in, op_moved, ops_moved, refusal_logged, ticket_if, tickets_after, update_name}
 use Rattle.law_updates.specs.Fine.{AreSteps, ComesBefore, IsStep}
 use Rattle.law_updates.specs.Right.{ruling_in}
 use Rattle.law_updates.specs.Store.{StoreFits, no_store, store_after}
@@ -41,7 +43,8 @@ abbrev pub EntriesAsked : List ℕ → List Entry → Type 0
 EntriesAsked asked log = Each (λ e. e.call < at 0 asked e.caller) log
 
 -- what stands of the log beside the issued calls, the tickets, the places and the counts of asks
-pub record Logs (s : Dimensions) (issued : List Call) (log : List Entry) (settled : List (List Update)) (tickets : List Ticket) (places : List (List (Option Run))) (asked : List ℕ) : Type 0 where
+pub record Logs (s : Dimensions) (issued : List Call) (log : List Entry) (settled : List (List Update))
+    (tickets : List Ticket) (places : List (List (Option Run))) (asked : List ℕ) : Type 0 where
   pub stands : LogStands s issued log settled
   pub has_tickets : AreTickets log issued tickets
   pub placed : ArePlaced places settled
@@ -75,7 +78,10 @@ next-new asked c name next below same =
 entries-more : (asked : List ℕ) (call : Option Call) (log : List Entry) → EntriesAsked asked log → EntriesAsked (asked_after asked call) log
 entries-more asked None log all = all
 entries-more asked (Some c) [] all = tt
-entries-more asked (Some c) (e ∷ es) all = ((asked-more asked c (record { name = name_of e; op = e.op } ∷ []) (all.0, tt)).0, entries-more asked (Some c) es all.1)
+entries-more asked (Some c) (e ∷ es) all = (
+  (asked-more asked c (record { name = name_of e; op = e.op } ∷ []) (all.0, tt)).0,
+  entries-more asked (Some c) es all.1,
+)
 
 -- one more ticket
 tickets-push : (log : List Entry) (calls : List Call) (tickets : List Ticket) (c : Call) (since : ℕ) → AreTickets log calls tickets
@@ -95,7 +101,8 @@ module _ (log logged : List Entry) where
     left (inr is) = inr (logged-left log logged x.name is)
 
     by : (b : Bool) → is_logged logged t.name ≡ b
-        → ((if b then record t { op = None } else t).name ≡ x.name) × (((if b then record t { op = None } else t).op ≡ Some x.op) ⊎ (is_logged (log ++ logged) x.name ≡ true))
+        → ((if b then record t { op = None } else t).name ≡ x.name)
+        × (((if b then record t { op = None } else t).op ≡ Some x.op) ⊎ (is_logged (log ++ logged) x.name ≡ true))
     by true test = (name, inr (logged-right log logged x.name (ap (is_logged logged) (sym name) ∙ test)))
     by false test = (name, left op)
 
@@ -105,11 +112,13 @@ module _ (log logged : List Entry) where
   moved-all (x ∷ xs) [] are = absurd are
   moved-all (x ∷ xs) (t ∷ ts) are = let one = moved-one x t are.0 are.1 in (one.0, one.1, moved-all xs ts are.2)
 
-tickets-moved : (log logged : List Entry) (calls : List Call) (tickets : List Ticket) → AreTickets log calls tickets → AreTickets (log ++ logged) calls (ops_moved logged tickets)
+tickets-moved : (log logged : List Entry) (calls : List Call) (tickets : List Ticket) → AreTickets log calls tickets
+    → AreTickets (log ++ logged) calls (ops_moved logged tickets)
 tickets-moved log [] calls tickets are = subst (λ (es : List Entry). AreTickets es calls tickets) (sym (append-nil log)) are
 tickets-moved log (e ∷ es) calls tickets are = moved-all log (e ∷ es) calls tickets are
 
-module _ (s : Dimensions) (some : 1 ≤ s.k) (issued : List Call) (log : List Entry) (settled : List (List Update)) (tickets : List Ticket) (places : List (List (Option Run))) (asked : List ℕ)
+module _ (s : Dimensions) (some : 1 ≤ s.k) (issued : List Call) (log : List Entry) (settled : List (List Update))
+    (tickets : List Ticket) (places : List (List (Option Run))) (asked : List ℕ)
     (logs : Logs s issued log settled tickets places asked) where
   -- the log beside one more issued call
   stands-more : (c : Call) → IsNext asked (Some c) → LogStands s (issued ++ c ∷ []) log settled
@@ -118,7 +127,8 @@ module _ (s : Dimensions) (some : 1 ≤ s.k) (issued : List Call) (log : List En
     ties = logs.stands.ties;
     once = logs.stands.once;
     entered = logs.stands.entered;
-    entries = each-weaker (λ e. EntryStands s issued settled e × (e.call < at 0 asked e.caller)) (EntryStands s (issued ++ c ∷ []) settled) (λ e both. more e both.0 both.1) log
+    entries = each-weaker (λ e. EntryStands s issued settled e × (e.call < at 0 asked e.caller))
+        (EntryStands s (issued ++ c ∷ []) settled) (λ e both. more e both.0 both.1) log
         (each-both (EntryStands s issued settled) (λ e. e.call < at 0 asked e.caller) log logs.stands.entries logs.entries_asked);
   } where
     more : (e : Entry) → EntryStands s issued settled e → e.call < at 0 asked e.caller → EntryStands s (issued ++ c ∷ []) settled e
@@ -148,10 +158,13 @@ module _ (s : Dimensions) (some : 1 ≤ s.k) (issued : List Call) (log : List En
         each_two-push (λ x y. x.name ≢ y.name) issued c logs.differ
         (each-weaker (λ x. x.name.call < at 0 asked x.name.caller) (λ x. x.name ≢ c.name) (λ x below. next-new asked c x.name next below) issued all);
   }
-  grown-if false c next all = subst (λ (now : List Call). Grown now tickets) (sym (append-nil issued)) (record { stands = logs.stands; has_tickets = logs.has_tickets; differ = logs.differ })
+  grown-if false c next all = subst (λ (now : List Call). Grown now tickets) (sym (append-nil issued))
+      (record { stands = logs.stands; has_tickets = logs.has_tickets; differ = logs.differ })
 
-  grown-by : (call : Option Call) (answer : Answer) → IsNext asked call → AreAsked asked issued → Grown (issued ++ issued_by call answer) (tickets_after (length log) call answer tickets)
-  grown-by None answer next all = subst (λ (now : List Call). Grown now tickets) (sym (append-nil issued)) (record { stands = logs.stands; has_tickets = logs.has_tickets; differ = logs.differ })
+  grown-by : (call : Option Call) (answer : Answer) → IsNext asked call → AreAsked asked issued
+      → Grown (issued ++ issued_by call answer) (tickets_after (length log) call answer tickets)
+  grown-by None answer next all = subst (λ (now : List Call). Grown now tickets) (sym (append-nil issued))
+      (record { stands = logs.stands; has_tickets = logs.has_tickets; differ = logs.differ })
   grown-by (Some c) answer next all = grown-if (is_issued answer) c next all
 
   -- a refusal that is logged at once
@@ -165,7 +178,8 @@ module _ (s : Dimensions) (some : 1 ≤ s.k) (issued : List Call) (log : List En
     entries_asked = subst (EntriesAsked (asked_after asked call)) (sym (append-nil log)) (entries-more asked call log logs.entries_asked);
   }
 
-  one-logged : (c : Call) (reply : Reply) → IsNext asked (Some c) → AreAsked asked issued → AreAsked (asked_after asked (Some c)) (c ∷ []) → accepts reply ≡ false
+  one-logged : (c : Call) (reply : Reply) → IsNext asked (Some c) → AreAsked asked issued
+      → AreAsked (asked_after asked (Some c)) (c ∷ []) → accepts reply ≡ false
       → (let d : ℕ = home_of (key_of c.op.act) s.k in ruling_in (store_after s d (at [] settled d)) (suc (length (at [] settled d))) c.op ≡ Refused reply)
       → Once issued (Some c) (entry_of c.name c.op reply ∷ [])
   one-logged c reply next all counted refused ruled =
@@ -179,12 +193,14 @@ module _ (s : Dimensions) (some : 1 ≤ s.k) (issued : List Call) (log : List En
           entries = each-append (EntryStands s issued settled) log (entry ∷ []) logs.stands.entries (
             inr (record {
               refused = refused;
-              other = each-weaker (λ x. x.name.call < at 0 asked x.name.caller) (λ x. x.name ≢ c.name) (λ x below. next-new asked c x.name next below) issued all;
+              other = each-weaker (λ x. x.name.call < at 0 asked x.name.caller) (λ x. x.name ≢ c.name)
+                  (λ x below. next-new asked c x.name next below) issued all;
             }),
             tt,
           );
           once = each_two-push NamesDiffer log entry logs.stands.once
-              (each-weaker (λ e. e.call < at 0 asked e.caller) (λ e. name_of e ≢ c.name) (λ e below. next-new asked c (name_of e) next below) log logs.entries_asked);
+              (each-weaker (λ e. e.call < at 0 asked e.caller) (λ e. name_of e ≢ c.name)
+              (λ e below. next-new asked c (name_of e) next below) log logs.entries_asked);
           entered = λ d. each-weaker (HasEntry log) (HasEntry (log ++ entry ∷ [])) (λ u has. record {
             entry = has.entry;
             there = Contains-append_left log (entry ∷ []) has.entry has.there;
@@ -192,17 +208,23 @@ module _ (s : Dimensions) (some : 1 ≤ s.k) (issued : List Call) (log : List En
             replied = has.replied;
           }) (at [] settled d) (logs.stands.entered d);
         };
-        entries_asked = each-append (λ e. e.call < at 0 (asked_after asked (Some c)) e.caller) log (entry ∷ []) (entries-more asked (Some c) log logs.entries_asked) (counted.0, tt);
+        entries_asked = each-append (λ e. e.call < at 0 (asked_after asked (Some c)) e.caller) log (entry ∷ [])
+            (entries-more asked (Some c) log logs.entries_asked) (counted.0, tt);
       }
 
-  once-reply : (c : Call) (reply : Reply) (b : Bool) → accepts reply ≡ b → IsNext asked (Some c) → AreAsked asked issued → AreAsked (asked_after asked (Some c)) (c ∷ [])
-      → RefusesWell s settled (Some c) (says.Reply reply) → LogStands s (issued ++ call_if b c) log settled → Once (issued ++ call_if b c) (Some c) (refusal_logged b c reply)
+  once-reply : (c : Call) (reply : Reply) (b : Bool) → accepts reply ≡ b → IsNext asked (Some c) → AreAsked asked issued
+      → AreAsked (asked_after asked (Some c)) (c ∷ [])
+      → RefusesWell s settled (Some c) (says.Reply reply) → LogStands s (issued ++ call_if b c) log settled
+      → Once (issued ++ call_if b c) (Some c) (refusal_logged b c reply)
   once-reply c reply true test next all counted refuses stands = none-logged (issued ++ c ∷ []) (Some c) stands
   once-reply c reply false test next all counted refuses stands =
-      subst (λ (now : List Call). Once now (Some c) (entry_of c.name c.op reply ∷ [])) (sym (append-nil issued)) (one-logged c reply next all counted test (refuses c reply refl refl test))
+      subst (λ (now : List Call). Once now (Some c) (entry_of c.name c.op reply ∷ [])) (sym (append-nil issued))
+      (one-logged c reply next all counted test (refuses c reply refl refl test))
 
-  once-by : (call : Option Call) (answer : Answer) → IsNext asked call → AreAsked asked issued → ((c : Call) → call ≡ Some c → AreAsked (asked_after asked (Some c)) (c ∷ []))
-      → RefusesWell s settled call answer → LogStands s (issued ++ issued_by call answer) log settled → Once (issued ++ issued_by call answer) call (logged_at_once call answer)
+  once-by : (call : Option Call) (answer : Answer) → IsNext asked call → AreAsked asked issued
+      → ((c : Call) → call ≡ Some c → AreAsked (asked_after asked (Some c)) (c ∷ []))
+      → RefusesWell s settled call answer → LogStands s (issued ++ issued_by call answer) log settled
+      → Once (issued ++ issued_by call answer) call (logged_at_once call answer)
   once-by None answer next all counted refuses stands = none-logged (issued ++ []) None stands
   once-by (Some c) (says.Reply reply) next all counted refuses stands = once-reply c reply (accepts reply) refl next all (counted c refl) refuses stands
   once-by (Some c) (says.Ticket n) next all counted refuses stands = none-logged (issued ++ c ∷ []) (Some c) stands
@@ -230,9 +252,11 @@ module _ (s : Dimensions) (some : 1 ≤ s.k) (issued : List Call) (log : List En
   module _ (call : Option Call) (answer : Answer) (t : List Settlement) (many : length settled ≡ s.k)
       (steps : (d : ℕ) → d < s.k → AreSteps s (issued ++ issued_by call answer) d 0 (no_store s) (at [] (settled_after t (range_with_len 0 s.k) settled) d))
       (rising : (d : ℕ) → d < s.k → EachTwo ComesBefore (at [] (settled_after t (range_with_len 0 s.k) settled) d))
-      (counted : AreAsked (asked_after asked call) (issued ++ issued_by call answer)) (all : AreAsked asked issued) (next : IsNext asked call) (refuses : RefusesWell s settled call answer)
+      (counted : AreAsked (asked_after asked call) (issued ++ issued_by call answer)) (all : AreAsked asked issued)
+      (next : IsNext asked call) (refuses : RefusesWell s settled call answer)
       (E : List Entry → List (List Update) → Type 0) (before : E log settled) (of_update : OfUpdates s (issued ++ issued_by call answer) E)
-      (of_refusal : (c : Call) (reply : Reply) → call ≡ Some c → answer ≡ says.Reply reply → accepts reply ≡ false → E log settled → E (log ++ entry_of c.name c.op reply ∷ []) settled) where
+      (of_refusal : (c : Call) (reply : Reply) → call ≡ Some c → answer ≡ says.Reply reply → accepts reply ≡ false
+      → E log settled → E (log ++ entry_of c.name c.op reply ∷ []) settled) where
     abbrev now : List Call
     now = issued ++ issued_by call answer
 
@@ -249,14 +273,22 @@ module _ (s : Dimensions) (some : 1 ≤ s.k) (issued : List Call) (log : List En
     law more es us d u rest low as_many is keeps =
         let step = step-here s some now more.differ final steps rising es us d u rest low is keeps.stands as_many in
         let others = fresh s some now more.differ final steps rising es us d u rest low is keeps.stands as_many in
-        let unlogged : is_logged log step.call.name ≡ false = keeps.grown step.call.name (ap (is_logged es) (sym step.name) ∙ not-logged es (update_name u) others) in (
+        let unlogged : is_logged log step.call.name ≡ false =
+        keeps.grown step.call.name (ap (is_logged es) (sym step.name) ∙ not-logged es (update_name u) others) in (
           step.call.op,
           ap (λ (n : CallName). op_in n tickets_now) step.name ∙ op-of log now tickets_now step.call more.has_tickets more.differ step.asked unlogged,
           record {
             stands = entry-stands s some now more.differ final steps rising es us d u rest low is keeps.stands as_many;
-            entries_asked = each-append (λ e. e.call < at 0 (asked_after asked call) e.caller) es (entry_of (update_name u) step.call.op (reply_from u.outcome) ∷ []) keeps.entries_asked
-                (subst (λ (n : CallName). n.call < at 0 (asked_after asked call) n.caller) (sym step.name) (each-contained (λ c. c.name.call < at 0 (asked_after asked call) c.name.caller) now step.call counted step.asked), tt);
-            said = of_update es us d u low as_many keeps.stands (fits-here s some now more.differ final steps rising es us d u rest low is keeps.stands as_many) step keeps.said;
+            entries_asked = each-append (λ e. e.call < at 0 (asked_after asked call) e.caller) es
+                (entry_of (update_name u) step.call.op (reply_from u.outcome) ∷ []) keeps.entries_asked (
+                  subst (λ (n : CallName). n.call < at 0 (asked_after asked call) n.caller) (sym step.name)
+                      (each-contained (λ c. c.name.call < at 0 (asked_after asked call) c.name.caller) now step.call counted
+                      step.asked),
+                  tt,
+                );
+            said = of_update es us d u low as_many keeps.stands
+                (fits-here s some now more.differ final steps rising es us d u rest low is keeps.stands as_many) step
+                keeps.said;
             grown = λ name none. keeps.grown name (logged-not-left es (entry_of (update_name u) step.call.op (reply_from u.outcome) ∷ []) name none);
           },
         )
@@ -271,7 +303,8 @@ module _ (s : Dimensions) (some : 1 ≤ s.k) (issued : List Call) (log : List En
     none-said : E (log ++ []) settled
     none-said = subst (λ (es : List Entry). E es settled) (sym (append-nil log)) before
 
-    said-once : (c : Call) (reply : Reply) → call ≡ Some c → answer ≡ says.Reply reply → (b : Bool) → accepts reply ≡ b → E (log ++ refusal_logged b c reply) settled
+    said-once : (c : Call) (reply : Reply) → call ≡ Some c → answer ≡ says.Reply reply → (b : Bool) → accepts reply ≡ b
+        → E (log ++ refusal_logged b c reply) settled
     said-once c reply is answered true test = none-said
     said-once c reply is answered false test = of_refusal c reply is answered test before
 
@@ -293,7 +326,8 @@ module _ (s : Dimensions) (some : 1 ≤ s.k) (issued : List Call) (log : List En
     said-at-once (Some c) (says.Stale n) is answered = none-said
 
     pub logs-next : let ledger : Ledger = ledger_after tickets_now t (range_with_len 0 s.k) (record { logged = logged_at_once call answer; places = places }) in
-        Logs s now (grown log ledger.logged) (settled_after t (range_with_len 0 s.k) settled) (ops_moved ledger.logged tickets_now) ledger.places (asked_after asked call)
+        Logs s now (grown log ledger.logged) (settled_after t (range_with_len 0 s.k) settled)
+        (ops_moved ledger.logged tickets_now) ledger.places (asked_after asked call)
         × E (grown log ledger.logged) (settled_after t (range_with_len 0 s.k) settled)
     logs-next =
         let more : Grown now tickets_now = grown-by call answer next all in
@@ -308,7 +342,8 @@ module _ (s : Dimensions) (some : 1 ≤ s.k) (issued : List Call) (log : List En
           said = said-at-once call answer refl refl;
           grown = λ name none. logged-not-left log (logged_at_once call answer) name none;
         }) in
-        subst (λ (es : List Entry). Logs s now es (settled_after t (range_with_len 0 s.k) settled) (ops_moved ledger.logged tickets_now) ledger.places (asked_after asked call)
+        subst (λ (es : List Entry). Logs s now es (settled_after t (range_with_len 0 s.k) settled)
+        (ops_moved ledger.logged tickets_now) ledger.places (asked_after asked call)
         × E es (settled_after t (range_with_len 0 s.k) settled)) (sym (grown-is log ledger.logged)) (
           record {
             stands = done.0.stands;

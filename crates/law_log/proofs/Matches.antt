@@ -1,5 +1,6 @@
 -- The accepted entries of a partition in the log are those of its settled updates, in order.
-use Rattle.std.proofs.Common.{ℕ, ◌≡◌, ◌≢◌, ◌<◌, ◌==◌, Bool, true, false, List, [], ◌∷◌, ◌++◌, map, Option, if◌then◌else◌, ◌⊎◌, inl, inr, refl, sym, ap, subst, ◌∙◌}
+use Rattle.std.proofs.Common.{ℕ, ◌≡◌, ◌≢◌, ◌<◌, ◌==◌, Bool, true, false, List, [], ◌∷◌, ◌++◌, map, Option}
+use Rattle.std.proofs.Common.{if◌then◌else◌, ◌⊎◌, inl, inr, refl, sym, ap, subst, ◌∙◌}
 use Rattle.std.proofs.lemmas.Bool.{cases_eq, eq-eqb, ne_eqb}
 use Rattle.std.proofs.lemmas.List.{append-nil}
 use Rattle.std.specs.Prelude.{cond, filter}
@@ -36,14 +37,16 @@ Matches (e ∷ es) (u ∷ us) = (name_of e ≡ update_name u) × (e.reply ≡ re
 Matches [] (u ∷ us) = ⊥
 Matches (e ∷ es) [] = ⊥
 
-matches-push : (es : List Entry) (us : List Update) (e : Entry) (u : Update) → name_of e ≡ update_name u → e.reply ≡ reply_from u.outcome → Matches es us → Matches (es ++ e ∷ []) (us ++ u ∷ [])
+matches-push : (es : List Entry) (us : List Update) (e : Entry) (u : Update) → name_of e ≡ update_name u
+    → e.reply ≡ reply_from u.outcome → Matches es us → Matches (es ++ e ∷ []) (us ++ u ∷ [])
 matches-push [] [] e u name reply all = (name, reply, tt)
 matches-push (x ∷ es) (y ∷ us) e u name reply all = (all.0, all.1, matches-push es us e u name reply all.2)
 matches-push [] (y ∷ us) e u name reply all = absurd all
 matches-push (x ∷ es) [] e u name reply all = absurd all
 
 -- the entries of the updates of a partition are its accepted ones
-pub entries-of : (k d : ℕ) (t : Contents) (runs : List (Option Run)) (es : List Entry) → map (λ (x : Logged). x.entry) (updates_from k d t runs es) ≡ filter (is_update_of k d) es
+pub entries-of : (k d : ℕ) (t : Contents) (runs : List (Option Run)) (es : List Entry)
+    → map (λ (x : Logged). x.entry) (updates_from k d t runs es) ≡ filter (is_update_of k d) es
 entries-of k d t runs [] = refl
 entries-of k d t runs (e ∷ es) =
     by (is_update_of k d e) (record { entry = e; run = next_run runs; item = (table_after t e.op).items (key_of e.op.act) }) refl
@@ -88,9 +91,13 @@ match-update s calls log settled d u low many stands fits step all e below = by 
 
   by : (e ≡ d) ⊎ (e ≢ d) → Matches (filter (is_update_of s.k e) (log ++ entry ∷ [])) (at [] (put [] settled d (at [] settled d ++ u ∷ [])) e)
   by (inl same) =
-      subst (λ (es : List Entry). Matches es (at [] (put [] settled d (at [] settled d ++ u ∷ [])) e)) (sym (filter-in (is_update_of s.k e) log entry (test ∙ eq-eqb _ _ (step.fits.home ∙ sym same))))
-      (subst (Matches (filter (is_update_of s.k e) log ++ entry ∷ [])) (sym (ap (at [] (put [] settled d (at [] settled d ++ u ∷ []))) same ∙ at-put [] [] settled d (at [] settled d ++ u ∷ [])))
-      (matches-push (filter (is_update_of s.k e) log) (at [] settled d) entry u refl refl (subst (λ (n : ℕ). Matches (filter (is_update_of s.k e) log) (at [] settled n)) same (all e below))))
+      subst (λ (es : List Entry). Matches es (at [] (put [] settled d (at [] settled d ++ u ∷ [])) e))
+      (sym (filter-in (is_update_of s.k e) log entry (test ∙ eq-eqb _ _ (step.fits.home ∙ sym same))))
+      (subst (Matches (filter (is_update_of s.k e) log ++ entry ∷ []))
+      (sym (ap (at [] (put [] settled d (at [] settled d ++ u ∷ []))) same
+      ∙ at-put [] [] settled d (at [] settled d ++ u ∷ [])))
+      (matches-push (filter (is_update_of s.k e) log) (at [] settled d) entry u refl refl
+      (subst (λ (n : ℕ). Matches (filter (is_update_of s.k e) log) (at [] settled n)) same (all e below))))
   by (inr other) =
       subst (λ (es : List Entry). Matches es (at [] (put [] settled d (at [] settled d ++ u ∷ [])) e))
       (sym (filter-out (is_update_of s.k e) log entry (test ∙ ne_eqb _ _ (λ home. other (sym home ∙ step.fits.home)))))
@@ -108,7 +115,11 @@ MatchIn b = AllMatch b.history.world.shape.k b.history.world.log b.history.settl
 
 -- so it is along every run in which heads stand
 pub match_always : (s : Dimensions) → StandsAlways s → (es : List Event) → IsRun s es → MatchIn (book_of s es)
-match_always s always es run = (book_always s (λ b. LogsOf b × MatchIn b) (logs-opening s, λ d below. subst (Matches []) (sym (at-replicate [] s.k d)) tt) (λ done e now more may both.
+match_always s always es run =
+    (book_always s (λ b. LogsOf b × MatchIn b)
+    (logs-opening s, λ d below. subst (Matches []) (sym (at-replicate [] s.k d)) tt) (λ done e now more may both.
     logs-event (book_of s done) (book-framed s done now) (stands-in s always done now) (some-partition s always done now) e (may-here s always done e may)
     (stands-next s always done e more) (asked_always s done now) both.0
-    (AllMatch (book_of s done).history.world.shape.k) both.1 (match-update (book_of s done).history.world.shape _) (λ c reply is answered refused all. match-refusal (book_of s done).history.world.shape.k (book_of s done).history.world.log (book_of s done).history.settled c reply refused all)) es run).1
+    (AllMatch (book_of s done).history.world.shape.k) both.1 (match-update (book_of s done).history.world.shape _)
+    (λ c reply is answered refused all. match-refusal (book_of s done).history.world.shape.k
+    (book_of s done).history.world.log (book_of s done).history.settled c reply refused all)) es run).1

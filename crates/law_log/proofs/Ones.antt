@@ -17,7 +17,8 @@ log_is_tied s always es run =
     let world : (book_of s es).history.world ≡ after s es = book-world s es in
     record {
       stands = subst (λ (w : World). LogStands s (book_of s es).issued w.log (book_of s es).history.settled) world
-          (subst (λ (t : Dimensions). LogStands t (book_of s es).issued (book_of s es).history.world.log (book_of s es).history.settled) (book-shape s es) logs.stands);
+          (subst (λ (t : Dimensions). LogStands t (book_of s es).issued (book_of s es).history.world.log
+          (book_of s es).history.settled) (book-shape s es) logs.stands);
       placed = subst (λ (w : World). ArePlaced w.places (book_of s es).history.settled) world logs.placed;
     }
 

@@ -1,5 +1,6 @@
 -- A reply to an ask is the one of the entry that this event logs.
-use Rattle.std.proofs.Common.{ℕ, zero, suc, ◌≡◌, ◌+◌, ◌<◌, ◌≤◌, Bool, true, false, List, [], ◌∷◌, ◌++◌, length, ◌⊎◌, inl, inr, Some, refl, sym, ap, subst, ◌∙◌, arith}
+use Rattle.std.proofs.Common.{ℕ, zero, suc, ◌≡◌, ◌+◌, ◌<◌, ◌≤◌, Bool, true, false, List, [], ◌∷◌, ◌++◌, length, ◌⊎◌}
+use Rattle.std.proofs.Common.{inl, inr, Some, refl, sym, ap, subst, ◌∙◌, arith}
 use Rattle.std.specs.Prelude.{Contains}
 use Rattle.std.specs.List.{range_with_len}
 use Rattle.std.proofs.lemmas.List.Elements.{Contains-append_cases, Contains-append_left, Contains-append_right}
@@ -22,7 +23,9 @@ use Rattle.law_moves.specs.State.{State, state_of}
 use Rattle.group_run.specs.Applying.{Settlement}
 use Rattle.group_run.specs.Asking.{ask_process}
 use Rattle.group_run.specs.History.{History}
-use Rattle.group_run.specs.World.{Call, Ledger, Ticket, group_step, is_issued, ledger_after, ledger_with, logged_at_once, new_ones, next_name, node_of, refusal_logged, settled_in, step, entries_for}
+use Rattle.group_run.specs.World.{Call, Ledger, Ticket, group_step, is_issued, ledger_after, ledger_with}
+use Rattle.group_run.specs.World.{logged_at_once, new_ones, next_name, node_of, refusal_logged, settled_in, step}
+use Rattle.group_run.specs.World.{entries_for}
 use Rattle.law_log.specs.Book.{Book, booked, call_if}
 use Rattle.law_log.proofs.Ties.{EntryStands, HasEntry}
 use Rattle.law_log.proofs.Asks.{AnsweredBy, ask-answered}
@@ -33,21 +36,26 @@ use Rattle.law_log.proofs.Logs.{next-new}
 use Rattle.law_log.proofs.Tables.{home-below}
 
 -- what was logged first stays
-ledger-front : (tickets : List Ticket) (t : List Settlement) (n a : ℕ) (ledger : Ledger) (e : Entry) → Contains ledger.logged e → Contains (ledger_after tickets t (range_with_len a n) ledger).logged e
+ledger-front : (tickets : List Ticket) (t : List Settlement) (n a : ℕ) (ledger : Ledger) (e : Entry)
+    → Contains ledger.logged e → Contains (ledger_after tickets t (range_with_len a n) ledger).logged e
 ledger-front tickets t zero a ledger e there = there
 ledger-front tickets t (suc n) a ledger e there =
     let news : List Update = new_ones (length (at [] ledger.places a)) (settled_in a t) in
     ledger-front tickets t n (a + 1) (ledger_with tickets a news ledger) e
-    (subst (λ (es : List Entry). Contains es e) (sym (grown-is ledger.logged (entries_for tickets news))) (Contains-append_left ledger.logged (entries_for tickets news) e there))
+    (subst (λ (es : List Entry). Contains es e) (sym (grown-is ledger.logged (entries_for tickets news)))
+    (Contains-append_left ledger.logged (entries_for tickets news) e there))
 
 -- a refusal is logged at once
-refused-at-once : (c : Call) (answer : Answer) (reply : Reply) → answer ≡ says.Reply reply → accepts reply ≡ false → Contains (logged_at_once (Some c) answer) (entry_of c.name c.op reply)
+refused-at-once : (c : Call) (answer : Answer) (reply : Reply) → answer ≡ says.Reply reply → accepts reply ≡ false
+    → Contains (logged_at_once (Some c) answer) (entry_of c.name c.op reply)
 refused-at-once c answer reply is refused =
     subst (λ (a : Answer). Contains (logged_at_once (Some c) a) (entry_of c.name c.op reply)) (sym is)
     (subst (λ (b : Bool). Contains (refusal_logged b c reply) (entry_of c.name c.op reply)) (sym refused) (0, omega arith, refl))
 
-module _ (b : Book) (framed : FramedHistory b.history) (stands : StandsIn b) (some : 1 ≤ b.history.world.shape.k) (caller : ℕ) (op : Asked) (p : ProcessId) (pin : IsProcess b.history.world.shape p)
-    (logs : LogsOf b) (later : LogsOf (booked b (Ask caller op p))) (reply : Reply) (answered : (group_step b.history.world (Ask caller op p)).answer ≡ says.Reply reply) where
+module _ (b : Book) (framed : FramedHistory b.history) (stands : StandsIn b) (some : 1 ≤ b.history.world.shape.k)
+    (caller : ℕ) (op : Asked) (p : ProcessId) (pin : IsProcess b.history.world.shape p)
+    (logs : LogsOf b) (later : LogsOf (booked b (Ask caller op p))) (reply : Reply)
+    (answered : (group_step b.history.world (Ask caller op p)).answer ≡ says.Reply reply) where
   abbrev c : Call
   c = next_call b.history.world caller op
 
@@ -61,16 +69,24 @@ module _ (b : Book) (framed : FramedHistory b.history) (stands : StandsIn b) (so
   answered-by : accepts reply ≡ true → AnsweredBy (at [] (booked b (Ask caller op p)).history.settled d) c.name reply
   answered-by accepted =
       let h : History = b.history in
-      by (call-comes h.world.shape h.world.nodes h.settled framed p (ask_process h.world.shape (next_name h.world caller) op (node_of h.world p).process) pin (node_of h.world p).down (node_of h.world p).dead refl refl) answered
+      by (call-comes h.world.shape h.world.nodes h.settled framed p
+      (ask_process h.world.shape (next_name h.world caller) op (node_of h.world p).process) pin
+      (node_of h.world p).down (node_of h.world p).dead refl refl) answered
     where
       by : {w : State} {answer : Answer}
-          → Answers b.history.world.shape (state_of b.history) w p (ask_process b.history.world.shape (next_name b.history.world caller) op (node_of b.history.world p).process) answer
-          → answer ≡ says.Reply reply → AnsweredBy (w.settled (home_of (key_of op.act) b.history.world.shape.k)) (next_call b.history.world caller op).name reply
+          → Answers b.history.world.shape (state_of b.history) w p
+          (ask_process b.history.world.shape (next_name b.history.world caller) op
+          (node_of b.history.world p).process) answer
+          → answer ≡ says.Reply reply → AnsweredBy (w.settled (home_of (key_of op.act) b.history.world.shape.k))
+          (next_call b.history.world caller op).name reply
       by {w} {answer} (Idle same idle) said = absurd (idle-no-reply answer reply idle said)
       by {w} {answer} (Acts up lives acts its) said =
           let low = home-below (key_of op.act) b.history.world.shape.k some in
-          subst (λ (us : List Update). AnsweredBy us (next_call b.history.world caller op).name reply) (sym (acts.settled (home_of (key_of op.act) b.history.world.shape.k) low))
-          (ask-answered b.history.world.shape b.issued (at [] b.history.settled (home_of (key_of op.act) b.history.world.shape.k)) (next_call b.history.world caller op) (node_of b.history.world p).process
+          subst (λ (us : List Update). AnsweredBy us (next_call b.history.world caller op).name reply)
+          (sym (acts.settled (home_of (key_of op.act) b.history.world.shape.k) low))
+          (ask-answered b.history.world.shape b.issued
+          (at [] b.history.settled (home_of (key_of op.act) b.history.world.shape.k))
+          (next_call b.history.world caller op) (node_of b.history.world p).process
           (λ head heads. stands.heads up p (home_of (key_of op.act) b.history.world.shape.k) head pin lives low heads)
           reply (sym its ∙ said) accepted)
 
@@ -84,16 +100,21 @@ module _ (b : Book) (framed : FramedHistory b.history) (stands : StandsIn b) (so
   accepted-logged accepted =
       let by : AnsweredBy (at [] (booked b (Ask caller op p)).history.settled d) c.name reply = answered-by accepted in
       let has : HasEntry (booked b (Ask caller op p)).history.world.log by.update
-      = each-contained (HasEntry (booked b (Ask caller op p)).history.world.log) (at [] (booked b (Ask caller op p)).history.settled d) by.update (later.stands.entered d) by.there in
+      = each-contained (HasEntry (booked b (Ask caller op p)).history.world.log)
+      (at [] (booked b (Ask caller op p)).history.settled d) by.update (later.stands.entered d) by.there in
       let named : name_of has.entry ≡ c.name = has.named ∙ by.named in
       let replied : has.entry.reply ≡ reply = has.replied ∙ by.replied in
-      let whole : Contains (b.history.world.log ++ turn_log) has.entry = subst (λ (es : List Entry). Contains es has.entry) (grown-is b.history.world.log turn_log) has.there in
+      let whole : Contains (b.history.world.log ++ turn_log) has.entry =
+      subst (λ (es : List Entry). Contains es has.entry) (grown-is b.history.world.log turn_log) has.there in
       let op_is : has.entry.op ≡ op = same-op has.entry named replied
-      (each-contained (EntryStands b.history.world.shape (booked b (Ask caller op p)).issued (booked b (Ask caller op p)).history.settled) (booked b (Ask caller op p)).history.world.log has.entry later.stands.entries has.there) in
+      (each-contained (EntryStands b.history.world.shape (booked b (Ask caller op p)).issued
+      (booked b (Ask caller op p)).history.settled) (booked b (Ask caller op p)).history.world.log has.entry
+      later.stands.entries has.there) in
       let is : has.entry ≡ entry_of c.name op reply = λ i. entry_of (named i) (op_is i) (replied i) in
       subst (Contains turn_log) is (in-turn has.entry named (Contains-append_cases b.history.world.log turn_log has.entry whole))
     where
-      in-turn : (e : Entry) → name_of e ≡ (next_call b.history.world caller op).name → Contains b.history.world.log e ⊎ Contains (step b.history.world (Ask caller op p)).turn.logged e
+      in-turn : (e : Entry) → name_of e ≡ (next_call b.history.world caller op).name → Contains b.history.world.log e
+          ⊎ Contains (step b.history.world (Ask caller op p)).turn.logged e
           → Contains (step b.history.world (Ask caller op p)).turn.logged e
       in-turn e named (inr here) = here
       in-turn e named (inl old) =
@@ -103,14 +124,23 @@ module _ (b : Book) (framed : FramedHistory b.history) (stands : StandsIn b) (so
       same-op : (e : Entry) → name_of e ≡ (next_call b.history.world caller op).name → e.reply ≡ reply
           → EntryStands b.history.world.shape (booked b (Ask caller op p)).issued (booked b (Ask caller op p)).history.settled e → e.op ≡ op
       same-op e named replied (inl of) =
-          ap (λ (x : Call). x.op) (same-issued (booked b (Ask caller op p)).issued (record { name = name_of e; op = e.op }) (next_call b.history.world caller op) later.differ of.call (own-issued accepted) named)
+          ap (λ (x : Call). x.op)
+          (same-issued (booked b (Ask caller op p)).issued (record { name = name_of e; op = e.op })
+          (next_call b.history.world caller op) later.differ of.call (own-issued accepted) named)
       same-op e named replied (inr refused) = let no = refused.refused in let same = ap accepts replied in absurd (cc (no, same, accepted))
 
   pub at-once : Contains turn_log (entry_of c.name op reply)
   at-once = by (accepts reply) refl where
-    by : (t : Bool) → accepts reply ≡ t → Contains (step b.history.world (Ask caller op p)).turn.logged (entry_of (next_call b.history.world caller op).name op reply)
+    by : (t : Bool) → accepts reply ≡ t → Contains (step b.history.world (Ask caller op p)).turn.logged
+        (entry_of (next_call b.history.world caller op).name op reply)
     by true test = accepted-logged test
     by false test =
         ledger-front _ (group_step b.history.world (Ask caller op p)).settled b.history.world.shape.k 0
-        (record { logged = logged_at_once (Some (next_call b.history.world caller op)) (group_step b.history.world (Ask caller op p)).answer; places = b.history.world.places })
-        (entry_of (next_call b.history.world caller op).name op reply) (refused-at-once (next_call b.history.world caller op) (group_step b.history.world (Ask caller op p)).answer reply answered test)
+        (record {
+          logged = logged_at_once (Some (next_call b.history.world caller op))
+              (group_step b.history.world (Ask caller op p)).answer;
+          places = b.history.world.places;
+        })
+        (entry_of (next_call b.history.world caller op).name op reply)
+        (refused-at-once (next_call b.history.world caller op) (group_step b.history.world (Ask caller op p)).answer
+        reply answered test)

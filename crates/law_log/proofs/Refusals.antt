@@ -1,5 +1,7 @@
 -- A refusal that a head gives is the table's on all that is settled.
-use Rattle.std.proofs.Common.{ℕ, suc, ◌≡◌, ◌≢◌, ◌+◌, ◌-◌, ◌<◌, ◌≤◌, nat_le, Bool, true, false, List, [], ◌∷◌, ◌++◌, take, drop, length, ◌⊎◌, inl, inr, Option, Some, None, if◌then◌else◌, refl, sym, ap, subst, ◌∙◌, arith}
+use Rattle.std.proofs.Common.{ℕ, suc, ◌≡◌, ◌≢◌, ◌+◌, ◌-◌, ◌<◌, ◌≤◌, nat_le, Bool, true, false, List, [], ◌∷◌, ◌++◌}
+use Rattle.std.proofs.Common.{take, drop, length, ◌⊎◌, inl, inr, Option, Some, None, if◌then◌else◌, refl, sym, ap}
+use Rattle.std.proofs.Common.{subst, ◌∙◌, arith}
 use Rattle.std.proofs.lemmas.Bool.{cases_lt}
 use Rattle.std.proofs.lemmas.Grind.{common_steps}
 use Rattle.std.proofs.lemmas.List.{drop-take, drop_all, drop_at, length-append, length-drop, length-take, length-take-le, take-append-drop, take_at}
@@ -36,14 +38,16 @@ use Rattle.law_log.specs.Stands.{HeadStands}
 -- a key that none of these is on
 number_on-others : (us : List Update) (key : List ℕ) → Each (λ v. key ≢ v.key) us → number_on us key ≡ None
 number_on-others [] key others = refl
-number_on-others (u ∷ us) key others = by (number_on us key) (number_on-others us key others.1) (same_key u.key key) (key-ne u.key key (λ same. others.0 (sym same))) where
-  by : (m : Option ℕ) → m ≡ None → (b : Bool) → b ≡ false → elim m as (λ _. Option ℕ) [ Some n ↦ Some n | None ↦ if b then Some u.number else None ] ≡ None
-  by (Some n) is b test = absurd (cc is)
-  by None is true test = absurd (cc test)
-  by None is false test = refl
+number_on-others (u ∷ us) key others = by (number_on us key) (number_on-others us key others.1) (same_key u.key key)
+    (key-ne u.key key (λ same. others.0 (sym same))) where
+      by : (m : Option ℕ) → m ≡ None → (b : Bool) → b ≡ false → elim m as (λ _. Option ℕ) [ Some n ↦ Some n | None ↦ if b then Some u.number else None ] ≡ None
+      by (Some n) is b test = absurd (cc is)
+      by None is true test = absurd (cc test)
+      by None is false test = refl
 
 -- where no two updates are on one key, the one on a key is found
-only-number : (items : Items) (us : List Update) (key : List ℕ) (n : ℕ) → AreClear items us → number_on us key ≡ Some n → Each (λ v. v.key ≡ key → v.number ≡ n) us
+only-number : (items : Items) (us : List Update) (key : List ℕ) (n : ℕ) → AreClear items us → number_on us key ≡ Some n
+    → Each (λ v. v.key ≡ key → v.number ≡ n) us
 only-number items [] key n clear is = tt
 only-number items (u ∷ us) key n clear is = by (number_on us key) refl (same_key u.key key) refl is (only-number (item_settled u items) us key n clear.2) where
   by : (m : Option ℕ) → number_on us key ≡ m → (b : Bool) → same_key u.key key ≡ b
@@ -54,12 +58,16 @@ only-number items (u ∷ us) key n clear is = by (number_on us key) refl (same_k
     (λ same. let none : number_on us key ≡ None = number_on-others us key (subst (λ (x : List ℕ). Each (λ v. x ≢ v.key) us) same clear.1) in cc (found, none)),
     later (found ∙ is),
   )
-  by None none true test is later =
-      ((λ same. some-same u.number n is), each-weaker (λ v. v.key ≢ key) (λ v. v.key ≡ key → v.number ≡ n) (λ v other same. absurd (other same)) us (number_on-none us key none))
+  by None none true test is later = (
+    (λ same. some-same u.number n is),
+    each-weaker (λ v. v.key ≢ key) (λ v. v.key ≡ key → v.number ≡ n)
+        (λ v other same. absurd (other same)) us (number_on-none us key none),
+  )
   by None none false test is later = absurd (cc is)
 
 -- the numbers of updates behind the first n
-numbers-below : (s : Dimensions) (calls : List Call) (d n m : ℕ) (store : Store) (us : List Update) → n + length us ≤ m → AreSteps s calls d n store us → Each (λ v. v.number ≤ m) us
+numbers-below : (s : Dimensions) (calls : List Call) (d n m : ℕ) (store : Store) (us : List Update) → n + length us ≤ m
+    → AreSteps s calls d n store us → Each (λ v. v.number ≤ m) us
 numbers-below s calls d n m store [] within steps = tt
 numbers-below s calls d n m store (u ∷ us) within steps =
     ((let is : u.number ≡ suc n = steps.0.right.number in omega arith), numbers-below s calls d (suc n) m (stored s d u store) us (omega arith) steps.1)
@@ -102,14 +110,16 @@ module _ (s : Dimensions) (calls : List Call) (settled : List Update) (d : ℕ) 
         drop-taken : (c : ℕ) (xs : List Update) → drop r.applied (take c xs) ≡ take (c - r.applied) (drop r.applied xs)
         drop-taken c xs = by (cases_lt c r.applied) where
           by : (c < r.applied) ⊎ (r.applied ≤ c) → drop r.applied (take c xs) ≡ take (c - r.applied) (drop r.applied xs)
-          by (inr reached) = let e : r.applied + (c - r.applied) ≡ c = omega arith in ap (λ (k : ℕ). drop r.applied (take k xs)) (sym e) ∙ drop-take r.applied (c - r.applied) xs
+          by (inr reached) = let e : r.applied + (c - r.applied) ≡ c = omega arith in
+              ap (λ (k : ℕ). drop r.applied (take k xs)) (sym e) ∙ drop-take r.applied (c - r.applied) xs
           by (inl low) =
               let none : c - r.applied ≡ 0 = omega arith in
               let short : length (take c xs) ≤ r.applied = omega (arith, length-take c xs) in
               drop_all r.applied (take c xs) short ∙ sym (ap (λ (k : ℕ). take k (drop r.applied xs)) none)
 
   settled-fine : AreSteps s calls d 0 (no_store s) settled
-  settled-fine = subst (AreSteps s calls d 0 (no_store s)) stands.prolongs (steps-take s calls d (length settled) 0 (no_store s) (history settled r) stands.fine.steps)
+  settled-fine = subst (AreSteps s calls d 0 (no_store s)) stands.prolongs
+      (steps-take s calls d (length settled) 0 (no_store s) (history settled r) stands.fine.steps)
 
   whole : take r.applied settled ++ drop r.applied settled ≡ settled
   whole = take-append-drop r.applied settled
@@ -125,7 +135,8 @@ module _ (s : Dimensions) (calls : List Call) (settled : List Update) (d : ℕ) 
   -- no settled update above the applied number is on the key of an op that the head answers
   others : (op : Asked) → waits_for h.inherited op.act (number_on r.log (key_of op.act)) ≡ None → Each (λ v. v.key ≢ key_of op.act) (drop r.applied settled)
   others op free = by (waits-cases h.inherited op.act (number_on r.log (key_of op.act)) free) where
-    late : (n : ℕ) → number_on r.log (key_of op.act) ≡ Some n → h.inherited < n → (r.applied < h.inherited) ⊎ (h.inherited ≤ r.applied) → Each (λ v. v.key ≢ key_of op.act) (drop r.applied settled)
+    late : (n : ℕ) → number_on r.log (key_of op.act) ≡ Some n → h.inherited < n → (r.applied < h.inherited)
+        ⊎ (h.inherited ≤ r.applied) → Each (λ v. v.key ≢ key_of op.act) (drop r.applied settled)
     late n is above (inr caught) =
         let e : r.applied ≡ length settled = stands.applied caught in
         subst (Each (λ v. v.key ≢ key_of op.act)) (sym (drop_all r.applied settled (omega arith))) tt
@@ -136,13 +147,18 @@ module _ (s : Dimensions) (calls : List Call) (settled : List Update) (d : ℕ) 
         (let in_it = stands.within in omega (arith, length-drop r.applied settled)) rest-steps in
         let found : Each (λ v. v.key ≡ key_of op.act → v.number ≡ n) (drop r.applied settled)
         = subst (Each (λ v. v.key ≡ key_of op.act → v.number ≡ n)) (sym rest-is)
-        (each-take (λ v. v.key ≡ key_of op.act → v.number ≡ n) (length settled - r.applied) r.log (only-number (items_after [] (take r.applied (history settled r))) r.log (key_of op.act) n log-clear is)) in
+        (each-take (λ v. v.key ≡ key_of op.act → v.number ≡ n) (length settled - r.applied) r.log
+        (only-number (items_after [] (take r.applied (history settled r))) r.log (key_of op.act) n log-clear is)) in
         each-weaker (λ v. (v.number ≤ length settled) × (v.key ≡ key_of op.act → v.number ≡ n)) (λ v. v.key ≢ key_of op.act)
         (λ v both same. let number : v.number ≡ n = both.1 same in let low = both.0 in omega arith) (drop r.applied settled)
         (each-both (λ v. v.number ≤ length settled) (λ v. v.key ≡ key_of op.act → v.number ≡ n) (drop r.applied settled) numbers found)
 
-    by : (number_on r.log (key_of op.act) ≡ None) ⊎ ((n : ℕ) × (number_on r.log (key_of op.act) ≡ Some n) × (h.inherited < n)) → Each (λ v. v.key ≢ key_of op.act) (drop r.applied settled)
-    by (inl none) = subst (Each (λ v. v.key ≢ key_of op.act)) (sym rest-is) (each-take (λ v. v.key ≢ key_of op.act) (length settled - r.applied) r.log (number_on-none r.log (key_of op.act) none))
+    by : (number_on r.log (key_of op.act) ≡ None)
+        ⊎ ((n : ℕ) × (number_on r.log (key_of op.act) ≡ Some n) × (h.inherited < n))
+        → Each (λ v. v.key ≢ key_of op.act) (drop r.applied settled)
+    by (inl none) = subst (Each (λ v. v.key ≢ key_of op.act)) (sym rest-is)
+        (each-take (λ v. v.key ≢ key_of op.act) (length settled - r.applied) r.log
+        (number_on-none r.log (key_of op.act) none))
     by (inr found) = late found.0 found.1 found.2 (cases_lt r.applied h.inherited)
 
   -- what is held for its key is what was held at the applied number

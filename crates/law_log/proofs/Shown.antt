@@ -36,7 +36,8 @@ pub record LogShows (s : Dimensions) (w : World) (d : ℕ) (settled : List Updat
 
 -- so it is of every partition, along every run in which heads stand
 abbrev pub LogShowsSettled : Type 0
-LogShowsSettled = (s : Dimensions) → StandsAlways s → (es : List Event) → IsRun s es → (d : ℕ) → d < s.k → LogShows s (after s es) d (at [] (book_of s es).history.settled d)
+LogShowsSettled = (s : Dimensions) → StandsAlways s → (es : List Event) → IsRun s es → (d : ℕ) → d < s.k
+    → LogShows s (after s es) d (at [] (book_of s es).history.settled d)
 
 -- values are written where no item stands, and every item has its value
 abbrev pub ValuesAreWritten : Type 0

@@ -1,5 +1,7 @@
 -- What the log shows of each partition, along every run.
-use Rattle.std.proofs.Common.{ℕ, zero, suc, ◌≡◌, ◌≢◌, ◌<◌, ◌≤◌, ◌==◌, Bool, true, false, List, [], ◌∷◌, ◌++◌, length, map, take, drop, ◌⊎◌, inl, inr, Option, if◌then◌else◌, refl, sym, ap, ap₂, subst, ◌∙◌, arith}
+use Rattle.std.proofs.Common.{ℕ, zero, suc, ◌≡◌, ◌≢◌, ◌<◌, ◌≤◌, ◌==◌, Bool, true, false, List, [], ◌∷◌, ◌++◌, length}
+use Rattle.std.proofs.Common.{map, take, drop, ◌⊎◌, inl, inr, Option, if◌then◌else◌, refl, sym, ap, ap₂, subst, ◌∙◌}
+use Rattle.std.proofs.Common.{arith}
 use Rattle.std.proofs.lemmas.Bool.{cases_eq, cases_lt, eq-eqb, ne_eqb}
 use Rattle.std.proofs.lemmas.List.{append-nil, drop_at, length-append, length-map, map-append, take-append-le, take_all}
 use Rattle.group_types.specs.Dimensions.{Dimensions}
@@ -41,7 +43,8 @@ runs_of us = map (λ u. run_of u.body) us
 pub record ShownIn (s : Dimensions) (d : ℕ) (log : List Entry) (us : List Update) : Type 0 where
   pub shown : AreShown s d (no_store s) us (updates_from s.k d (empty_table s.k) (runs_of us) log)
   pub count : count_in s.k d log ≡ length us
-  pub tables : (n : ℕ) → n ≤ length us → (key : List ℕ) → home_of key s.k ≡ d → (table_of (empty_table s.k) (cut_after s.k d n log)).items key ≡ held (store_after s d (take n us)) key
+  pub tables : (n : ℕ) → n ≤ length us → (key : List ℕ) → home_of key s.k ≡ d
+      → (table_of (empty_table s.k) (cut_after s.k d n log)).items key ≡ held (store_after s d (take n us)) key
 
 shown-push : (s : Dimensions) (d : ℕ) (store : Store) (us : List Update) (ls : List Logged) (u : Update) (l : Logged) → AreShown s d store us ls
     → IsShown s d (store_from s d store us) u l → AreShown s d store (us ++ u ∷ []) (ls ++ l ∷ [])
@@ -56,16 +59,24 @@ module _ (s : Dimensions) where
   shown-other d log us e other shown = record {
     shown = subst (AreShown s d (no_store s) us) (sym (updates-push s.k d (empty_table s.k) (runs_of us) log e
         ∙ ap (λ (b : Bool). updates_from s.k d (empty_table s.k) (runs_of us) log
-        ++ front_if b (record { entry = e; run = next_run (drop (count_in s.k d log) (runs_of us)); item = (table_after (table_of (empty_table s.k) log) e.op).items (key_of e.op.act) }) []) other
+        ++ front_if b
+        (record {
+          entry = e;
+          run = next_run (drop (count_in s.k d log) (runs_of us));
+          item = (table_after (table_of (empty_table s.k) log) e.op).items (key_of e.op.act);
+        }) []) other
         ∙ append-nil (updates_from s.k d (empty_table s.k) (runs_of us) log))) shown.shown;
     count = count-push s.k d log e ∙ ap (λ (b : Bool). one_if b (count_in s.k d log)) other ∙ shown.count;
     tables =
-        λ n low key home. ap (λ (es : List Entry). (table_of (empty_table s.k) es).items key) (cut-append s.k d n log (e ∷ []) (let count = shown.count in omega arith))
+        λ n low key home. ap (λ (es : List Entry). (table_of (empty_table s.k) es).items key)
+        (cut-append s.k d n log (e ∷ []) (let count = shown.count in omega arith))
         ∙ shown.tables n low key home;
   }
 
-  module _ (some : 1 ≤ s.k) (calls : List Call) (log : List Entry) (settled : List (List Update)) (d : ℕ) (u : Update) (low : d < s.k) (stands : LogStands s calls log settled)
-      (fits : StoreFits s (store_after s d (at [] settled d))) (step : IsStep s calls d (suc (length (at [] settled d))) (store_after s d (at [] settled d)) u) where
+  module _ (some : 1 ≤ s.k) (calls : List Call) (log : List Entry) (settled : List (List Update)) (d : ℕ) (u : Update)
+      (low : d < s.k) (stands : LogStands s calls log settled)
+      (fits : StoreFits s (store_after s d (at [] settled d)))
+      (step : IsStep s calls d (suc (length (at [] settled d))) (store_after s d (at [] settled d)) u) where
     abbrev entry : Entry
     entry = entry_of (update_name u) step.call.op (reply_from u.outcome)
 
@@ -87,8 +98,10 @@ module _ (s : Dimensions) where
     -- the table after it holds what the store after it does
     holds-next : (key : List ℕ) → home_of key s.k ≡ d → (table_after table step.call.op).items key ≡ held (store_after s d (us ++ u ∷ [])) key
     holds-next key home =
-        let ties : Ties s next (table_after table step.call.op) = update-ties s some settled table stands.ties d u step.call.op step.fits.home fits step.right low in
-        ties.items key ∙ ap (λ (e : ℕ). held (store_after s e (at [] next e)) key) home ∙ ap (λ (xs : List Update). held (store_after s d xs) key) (at-put [] [] settled d (us ++ u ∷ []))
+        let ties : Ties s next (table_after table step.call.op) = update-ties s some settled table stands.ties d u
+        step.call.op step.fits.home fits step.right low in
+        ties.items key ∙ ap (λ (e : ℕ). held (store_after s e (at [] next e)) key) home
+        ∙ ap (λ (xs : List Update). held (store_after s d xs) key) (at-put [] [] settled d (us ++ u ∷ []))
 
     abbrev logged : Logged
     logged = record { entry = entry; run = run_of u.body; item = (table_after table step.call.op).items (key_of step.call.op.act) }
@@ -100,18 +113,32 @@ module _ (s : Dimensions) where
     }
 
     updates-next : (shown : ShownIn s d log us)
-        → updates_from s.k d (empty_table s.k) (runs_of (us ++ u ∷ [])) (log ++ entry ∷ []) ≡ updates_from s.k d (empty_table s.k) (runs_of us) log ++ logged ∷ []
+        → updates_from s.k d (empty_table s.k) (runs_of (us ++ u ∷ [])) (log ++ entry ∷ [])
+        ≡ updates_from s.k d (empty_table s.k) (runs_of us) log ++ logged ∷ []
     updates-next shown =
         let count : count_in s.k d log ≡ length (runs_of us) = shown.count ∙ sym (length-map us (λ x. run_of x.body)) in
         ap (λ (rs : List (Option Run)). updates_from s.k d (empty_table s.k) rs (log ++ entry ∷ [])) (map-append (λ x. run_of x.body) us (u ∷ []))
         ∙ updates-push s.k d (empty_table s.k) (runs_of us ++ run_of u.body ∷ []) log entry
-        ∙ ap (λ (xs : List Logged). xs ++ front_if (is_update_of s.k d entry) (record { entry = entry; run = next_run (drop (count_in s.k d log) (runs_of us ++ run_of u.body ∷ [])); item = logged.item }) [])
+        ∙ ap (λ (xs : List Logged). xs ++ front_if (is_update_of s.k d entry)
+        (record {
+          entry = entry;
+          run = next_run (drop (count_in s.k d log) (runs_of us ++ run_of u.body ∷ []));
+          item = logged.item;
+        }) [])
         (updates-runs s.k d (empty_table s.k) (runs_of us) (run_of u.body ∷ []) log (omega (arith, count)))
-        ∙ ap (λ (b : Bool). updates_from s.k d (empty_table s.k) (runs_of us) log ++ front_if b (record { entry = entry; run = next_run (drop (count_in s.k d log) (runs_of us ++ run_of u.body ∷ [])); item = logged.item }) []) own
-        ∙ ap (λ (rs : List (Option Run)). updates_from s.k d (empty_table s.k) (runs_of us) log ++ record { entry = entry; run = next_run rs; item = logged.item } ∷ [])
+        ∙ ap (λ (b : Bool). updates_from s.k d (empty_table s.k) (runs_of us) log
+        ++ front_if b
+        (record {
+          entry = entry;
+          run = next_run (drop (count_in s.k d log) (runs_of us ++ run_of u.body ∷ []));
+          item = logged.item;
+        }) []) own
+        ∙ ap (λ (rs : List (Option Run)). updates_from s.k d (empty_table s.k) (runs_of us) log
+        ++ record { entry = entry; run = next_run rs; item = logged.item } ∷ [])
         (drop_at (runs_of us) (run_of u.body ∷ []) (count_in s.k d log) (sym count))
 
-    tables-next : ShownIn s d log us → (n : ℕ) → n ≤ length (us ++ u ∷ []) → (key : List ℕ) → home_of key s.k ≡ d → (n < suc (length us)) ⊎ (suc (length us) ≤ n)
+    tables-next : ShownIn s d log us → (n : ℕ) → n ≤ length (us ++ u ∷ []) → (key : List ℕ) → home_of key s.k ≡ d
+        → (n < suc (length us)) ⊎ (suc (length us) ≤ n)
         → (table_of (empty_table s.k) (cut_after s.k d n (log ++ entry ∷ []))).items key ≡ held (store_after s d (take n (us ++ u ∷ []))) key
     tables-next shown n within key home (inl early) =
         let count = shown.count in
@@ -128,7 +155,10 @@ module _ (s : Dimensions) where
 
     shown-next : (e : ℕ) → (e ≡ d) ⊎ (e ≢ d) → ShownIn s e log (at [] settled e) → ShownIn s e (log ++ entry ∷ []) (at [] next e)
     shown-next e (inr other) shown = subst (ShownIn s e (log ++ entry ∷ [])) (sym (at-put-other [] settled d e (us ++ u ∷ []) other))
-        (shown-other e log (at [] settled e) entry (update-of e false (ne_eqb (home_of (key_of step.call.op.act) s.k) e (λ (same : home_of (key_of step.call.op.act) s.k ≡ e). other (sym same ∙ step.fits.home)))) shown)
+        (shown-other e log (at [] settled e) entry
+        (update-of e false
+        (ne_eqb (home_of (key_of step.call.op.act) s.k) e (λ (same : home_of (key_of step.call.op.act) s.k ≡ e).
+        other (sym same ∙ step.fits.home)))) shown)
     shown-next e (inl same) shown =
         let here : ShownIn s d log us = subst (λ (x : ℕ). ShownIn s x log (at [] settled x)) same shown in
         subst (λ (x : ℕ). ShownIn s x (log ++ entry ∷ []) (at [] next x)) (sym same)
@@ -136,7 +166,8 @@ module _ (s : Dimensions) where
           shown =
               subst (AreShown s d (no_store s) (us ++ u ∷ [])) (sym (updates-next here))
               (shown-push s d (no_store s) us (updates_from s.k d (empty_table s.k) (runs_of us) log) u logged here.shown is-shown);
-          count = count-push s.k d log entry ∙ ap (λ (b : Bool). one_if b (count_in s.k d log)) own ∙ ap suc here.count ∙ (let long = length-append us (u ∷ []) in omega arith);
+          count = count-push s.k d log entry ∙ ap (λ (b : Bool). one_if b (count_in s.k d log)) own ∙ ap suc here.count
+              ∙ (let long = length-append us (u ∷ []) in omega arith);
           tables = λ n within key home. tables-next here n within key home (cases_lt n (suc (length us)));
         }))
 
@@ -165,7 +196,10 @@ module _ (s : Dimensions) (always : StandsAlways s) where
       let next = logs-event b (book-framed s done now) (stands-in s always done now) (some-partition s always done now) e (may-here s always done e may)
       (stands-next s always done e more) (asked_always s done now) holds.logs
       (AllShown b.history.world.shape) holds.shown
-      (λ log settled d u low many stands fits step said x below. shown-next b.history.world.shape (some-partition s always done now) (booked b e).issued log settled d u low stands fits step x (cases_eq x d) (said x below))
-      (λ c reply is answered refused said x below. shown-other b.history.world.shape x b.history.world.log (at [] b.history.settled x) (entry_of c.name c.op reply)
+      (λ log settled d u low many stands fits step said x below. shown-next b.history.world.shape
+      (some-partition s always done now) (booked b e).issued log settled d u low stands fits step x (cases_eq x d)
+      (said x below))
+      (λ c reply is answered refused said x below. shown-other b.history.world.shape x b.history.world.log
+      (at [] b.history.settled x) (entry_of c.name c.op reply)
       (ap (λ (t : Bool). if t then home_of (key_of c.op.act) b.history.world.shape.k == x else false) refused) (said x below)) in
       record { logs = next.0; shown = next.1 }) es run

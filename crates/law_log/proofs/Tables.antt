@@ -1,5 +1,6 @@
 -- The table and the settled stores, entry by entry.
-use Rattle.std.proofs.Common.{ℕ, suc, ◌≡◌, ◌≢◌, ◌+◌, ◌<◌, ◌≤◌, Bool, List, [], ◌∷◌, ◌++◌, length, replicate, ◌⊎◌, inl, inr, Option, if◌then◌else◌, refl, sym, ap, ap₂, subst, ◌∙◌, arith}
+use Rattle.std.proofs.Common.{ℕ, suc, ◌≡◌, ◌≢◌, ◌+◌, ◌<◌, ◌≤◌, Bool, List, [], ◌∷◌, ◌++◌, length, replicate, ◌⊎◌, inl}
+use Rattle.std.proofs.Common.{inr, Option, if◌then◌else◌, refl, sym, ap, ap₂, subst, ◌∙◌, arith}
 use Rattle.std.specs.Prelude.{slice_index, slice_set}
 use Rattle.std.proofs.lemmas.Bool.{cases_eq}
 use Rattle.std.proofs.lemmas.List.{get_or-set_other, get_or-set_same, length-append, length-set, length-replicate}
@@ -39,13 +40,16 @@ module _ (s : Dimensions) (some : 1 ≤ s.k) (settled : List (List Update)) (t :
   count-is key = ap (slice_index t.counts) (home-is key) ∙ ties.counts (home_of key s.k) (home-below key s.k some)
 
   -- the table's ruling is the one on the settled store
-  pub ruling-is : (op : Asked) → let d : ℕ = home_of (key_of op.act) s.k in ruling_on t op ≡ ruling_in (store_after s d (at [] settled d)) (suc (length (at [] settled d))) op
+  pub ruling-is : (op : Asked) → let d : ℕ = home_of (key_of op.act) s.k in
+      ruling_on t op ≡ ruling_in (store_after s d (at [] settled d)) (suc (length (at [] settled d))) op
   ruling-is op =
-      let number : count_of t (key_of op.act) + 1 ≡ suc (length (at [] settled (home_of (key_of op.act) s.k))) = let e = count-is (key_of op.act) in omega arith in
+      let number : count_of t (key_of op.act) + 1 ≡ suc (length (at [] settled (home_of (key_of op.act) s.k))) = let e =
+      count-is (key_of op.act) in omega arith in
       ap₂ (λ (n : ℕ) (x : Option Holding). ruling_of op.moment n op.act (live_at op.moment x)) number (ties.items (key_of op.act))
 
   -- a refusal changes nothing
-  pub refusal-ties : (op : Asked) (reply : Reply) → let d : ℕ = home_of (key_of op.act) s.k in ruling_in (store_after s d (at [] settled d)) (suc (length (at [] settled d))) op ≡ Refused reply
+  pub refusal-ties : (op : Asked) (reply : Reply) → let d : ℕ = home_of (key_of op.act) s.k in
+      ruling_in (store_after s d (at [] settled d)) (suc (length (at [] settled d))) op ≡ Refused reply
       → (reply ≡ reply_of t op) × Ties s settled (table_after t op)
   refusal-ties op reply refused =
       let is : ruling_on t op ≡ Refused reply = ruling-is op ∙ refused in
@@ -58,7 +62,9 @@ module _ (s : Dimensions) (some : 1 ≤ s.k) (settled : List (List Update)) (t :
     ruled = ruling-is op ∙ ap (λ (e : ℕ). ruling_in (store_after s e (at [] settled e)) (suc (length (at [] settled e))) op) home ∙ right.ruled
 
     pub update-reply : reply_from u.outcome ≡ reply_of t op
-    update-reply = (right_updates_leave s d (suc (length (at [] settled d))) (store_after s d (at [] settled d)) op u fits right).replies ∙ sym (ap reply_in ruled)
+    update-reply =
+        (right_updates_leave s d (suc (length (at [] settled d))) (store_after s d (at [] settled d)) op u fits
+        right).replies ∙ sym (ap reply_in ruled)
 
     abbrev more : List Update
     more = at [] settled d ++ u ∷ []
@@ -81,17 +87,20 @@ module _ (s : Dimensions) (some : 1 ≤ s.k) (settled : List (List Update)) (t :
         ∙ count ∙ ap length (sym (at-put [] [] settled d more)) ∙ ap (λ (i : ℕ). length (at [] (put [] settled d more) i)) (sym same)
     counted e below (inr other) =
         ap (λ (i : ℕ). slice_index (slice_set t.counts i (count_of t (key_of op.act) + 1)) e) part
-        ∙ get_or-set_other t.counts d e (count_of t (key_of op.act) + 1) 0 other ∙ ties.counts e below ∙ ap length (sym (at-put-other [] settled d e more other))
+        ∙ get_or-set_other t.counts d e (count_of t (key_of op.act) + 1) 0 other ∙ ties.counts e below
+        ∙ ap length (sym (at-put-other [] settled d e more other))
 
     item : (key : List ℕ) (e : ℕ) → home_of key s.k ≡ e → (e ≡ d) ⊎ (e ≢ d)
         → holding_at (key_of op.act) right.leaves t.items key ≡ held (store_after s e (at [] (put [] settled d more) e)) key
     item key e its (inr other) =
         let differ : key_of op.act ≢ key = λ same. other (sym its ∙ sym (ap (λ (x : List ℕ). home_of x s.k) same) ∙ home) in
         ap (λ (b : Bool). if b then right.leaves else t.items key) (key-ne (key_of op.act) key differ)
-        ∙ ties.items key ∙ ap (λ (i : ℕ). held (store_after s i (at [] settled i)) key) its ∙ ap (λ (us : List Update). held (store_after s e us) key) (sym (at-put-other [] settled d e more other))
+        ∙ ties.items key ∙ ap (λ (i : ℕ). held (store_after s i (at [] settled i)) key) its
+        ∙ ap (λ (us : List Update). held (store_after s e us) key) (sym (at-put-other [] settled d e more other))
     item key e its (inl same) =
         let leaves = right_updates_leave s d (suc (length (at [] settled d))) (store_after s d (at [] settled d)) op u fits right in
-        let old : t.items key ≡ held (store_after s d (at [] settled d)) key = ties.items key ∙ ap (λ (i : ℕ). held (store_after s i (at [] settled i)) key) (its ∙ same) in
+        let old : t.items key ≡ held (store_after s d (at [] settled d)) key = ties.items key
+        ∙ ap (λ (i : ℕ). held (store_after s i (at [] settled i)) key) (its ∙ same) in
         ap (λ (x : Option Holding). if same_key (key_of op.act) key then right.leaves else x) old
         ∙ ap (λ (k : List ℕ). holding_at k right.leaves (held (store_after s d (at [] settled d))) key) (sym right.key)
         ∙ sym (leaves.holds key)

@@ -1,6 +1,7 @@
 -- Where every other parity process has acknowledged a head, all histories of its partition are fronts of the
 -- head's: what its history and the fronts of that are, all are.
-use Rattle.std.proofs.Common.{ℕ, zero, suc, ◌≡◌, ◌≢◌, ◌<◌, ◌≤◌, ◌+◌, ◌==◌, Bool, true, false, not, ◌&&◌, ◌||◌, List, [], ◌∷◌, Option, Some, None, ◌⊎◌, inl, inr, refl, sym, ap, subst, ◌∙◌, arith}
+use Rattle.std.proofs.Common.{ℕ, zero, suc, ◌≡◌, ◌≢◌, ◌<◌, ◌≤◌, ◌+◌, ◌==◌, Bool, true, false, not, ◌&&◌, ◌||◌, List, []}
+use Rattle.std.proofs.Common.{◌∷◌, Option, Some, None, ◌⊎◌, inl, inr, refl, sym, ap, subst, ◌∙◌, arith}
 use Rattle.std.proofs.lemmas.Bool.{and_parts, cases_eq, cases_lt}
 use Rattle.std.proofs.lemmas.Grind.{common_steps}
 use Rattle.std.specs.Prelude.{cond, filter, is_some}
@@ -55,7 +56,8 @@ module _ (F : ℕ → ℕ → List Update → Type 0) (d : ℕ) (C : List Update
   abbrev pub With : ℕ → ℕ → List Update → Type 0
   With e a us = F e a us × (e ≡ d → C us)
 
-  goes-with : (e : ℕ) (settled : List Update) (seen : Seen) (m : Message) → Goes F e settled seen m → (e ≡ d → C (next e seen m).history) → Goes With e settled seen m
+  goes-with : (e : ℕ) (settled : List Update) (seen : Seen) (m : Message) → Goes F e settled seen m
+      → (e ≡ d → C (next e seen m).history) → Goes With e settled seen m
   goes-with e settled seen (tells.Update r f u stable) goes more = λ live.
       let old = goes live in record {
         rank = old.rank;
@@ -86,7 +88,8 @@ module _ (F : ℕ → ℕ → List Update → Type 0) (d : ℕ) (C : List Update
   along-with e settled seen [] goes ends = tt
   along-with e settled seen (m ∷ ms) goes ends = (
     goes-with e settled seen m goes.0
-        (λ here. fronts (next e seen m).history (run (next e) (next e seen m) ms).history (same-rank-begins F e settled (next e seen m) ms goes.1 (here_rank here).1) (ends here).1),
+        (λ here. fronts (next e seen m).history (run (next e) (next e seen m) ms).history
+        (same-rank-begins F e settled (next e seen m) ms goes.1 (here_rank here).1) (ends here).1),
     along-with e settled (next e seen m) ms goes.1 (λ here. ((here_rank here).1, (ends here).1)),
   ) where
     here_rank : e ≡ d → ((next e seen m).rank ≡ seen.rank) × ((run (next e) (next e seen m) ms).rank ≡ (next e seen m).rank)
@@ -96,8 +99,10 @@ module _ (F : ℕ → ℕ → List Update → Type 0) (d : ℕ) (C : List Update
         let same = (ends here).0 in
         (omega (arith, first, rest, same), omega (arith, first, rest, same))
 
-  module _ (s : Dimensions) (v : State) (members : Members s v) (reach : Reach F s v) (below : d < s.k) (p : ProcessId) (pin : IsProcess s p) (lives : v.dead p ≡ false)
-      (h : Head) (heads : head_at (v.process p) d ≡ Some h) (adopted : is_adopted s (v.process p) h ≡ true) (holds : C (history (v.settled d) (replica_of (v.process p) d))) where
+  module _ (s : Dimensions) (v : State) (members : Members s v) (reach : Reach F s v) (below : d < s.k) (p : ProcessId)
+      (pin : IsProcess s p) (lives : v.dead p ≡ false)
+      (h : Head) (heads : head_at (v.process p) d ≡ Some h) (adopted : is_adopted s (v.process p) h ≡ true)
+      (holds : C (history (v.settled d) (replica_of (v.process p) d))) where
     from : Used s v d p h.rank
     from = head-from s v d members below p h pin lives heads
 
@@ -106,26 +111,35 @@ module _ (F : ℕ → ℕ → List Update → Type 0) (d : ℕ) (C : List Update
 
     -- every living parity process stands under the head's rank
     rank-same : (i : ℕ) → i < s.m → ParityNode i ≢ p → v.dead (ParityNode i) ≡ false → at 0 (v.process (ParityNode i)).ranks d ≡ h.rank
-    rank-same i iin other living = by (either (h.rank == 0) (list_all (λ i. is_some (at None h.acks i)) (other_parities s.m (v.process p).name (v.process p).known)) adopted) where
-      reigns : Reigns s v d (at 0 (v.process (ParityNode i)).ranks d)
-      reigns = members.ranks (ParityNode i) d iin living below
+    rank-same i iin other living =
+        by (either (h.rank == 0)
+        (list_all (λ i. is_some (at None h.acks i)) (other_parities s.m (v.process p).name (v.process p).known))
+        adopted) where
+          reigns : Reigns s v d (at 0 (v.process (ParityNode i)).ranks d)
+          reigns = members.ranks (ParityNode i) d iin living below
 
-      by : ((h.rank == 0) ≡ true) ⊎ (list_all (λ i. is_some (at None h.acks i)) (other_parities s.m (v.process p).name (v.process p).known) ≡ true) → at 0 (v.process (ParityNode i)).ranks d ≡ h.rank
-      by (inl first) =
-          let none : h.rank ≡ 0 = grind (arith, common_steps) in
-          let alive : v.dead (of_rank d 0) ≡ false = ap (λ (r : ℕ). v.dead (of_rank d r)) (sym none) ∙ ap v.dead (sym from.0) ∙ lives in
-          ranked alive none (cases_lt 0 (at 0 (v.process (ParityNode i)).ranks d)) where
-            ranked : v.dead (of_rank d 0) ≡ false → h.rank ≡ 0 → (0 < at 0 (v.process (ParityNode i)).ranks d) ⊎ (at 0 (v.process (ParityNode i)).ranks d ≤ 0)
-                → at 0 (v.process (ParityNode i)).ranks d ≡ h.rank
-            ranked alive none (inl above) = absurd (cc (reigns.below 0 above, alive))
-            ranked alive none (inr low) = omega (arith, low, none)
-      by (inr all) =
-          let asked : (not (same_process (v.process p).name (ParityNode i)) && not (knows_dead (v.process p).known (ParityNode i))) ≡ true =
-          ap (λ (b : Bool). not b && not (knows_dead (v.process p).known (ParityNode i))) (same-ne (v.process p).name (ParityNode i) (λ same. other (sym same ∙ members.named p pin)))
-          ∙ ap not (unknown s v members p pin lives (ParityNode i) iin other living) in
-          let acked = some-of (at None h.acks i)
-          (all-others (λ i. is_some (at None h.acks i)) (λ i. not (same_process (v.process p).name (ParityNode i)) && not (knows_dead (v.process p).known (ParityNode i))) i s.m 0 (omega arith) (omega (arith, iin)) asked all) in
-          (((reach d below).lanes p i pin iin (λ same. other (sym same)) living).kept lives h heads acked.0 acked.1).rank
+          by : ((h.rank == 0) ≡ true)
+              ⊎ (list_all (λ i. is_some (at None h.acks i)) (other_parities s.m (v.process p).name (v.process p).known)
+              ≡ true) → at 0 (v.process (ParityNode i)).ranks d ≡ h.rank
+          by (inl first) =
+              let none : h.rank ≡ 0 = grind (arith, common_steps) in
+              let alive : v.dead (of_rank d 0) ≡ false = ap (λ (r : ℕ). v.dead (of_rank d r)) (sym none) ∙ ap v.dead (sym from.0) ∙ lives in
+              ranked alive none (cases_lt 0 (at 0 (v.process (ParityNode i)).ranks d)) where
+                ranked : v.dead (of_rank d 0) ≡ false → h.rank ≡ 0 → (0 < at 0 (v.process (ParityNode i)).ranks d)
+                    ⊎ (at 0 (v.process (ParityNode i)).ranks d ≤ 0)
+                    → at 0 (v.process (ParityNode i)).ranks d ≡ h.rank
+                ranked alive none (inl above) = absurd (cc (reigns.below 0 above, alive))
+                ranked alive none (inr low) = omega (arith, low, none)
+          by (inr all) =
+              let asked : (not (same_process (v.process p).name (ParityNode i)) && not (knows_dead (v.process p).known (ParityNode i))) ≡ true =
+              ap (λ (b : Bool). not b && not (knows_dead (v.process p).known (ParityNode i)))
+              (same-ne (v.process p).name (ParityNode i) (λ same. other (sym same ∙ members.named p pin)))
+              ∙ ap not (unknown s v members p pin lives (ParityNode i) iin other living) in
+              let acked = some-of (at None h.acks i)
+              (all-others (λ i. is_some (at None h.acks i)) (λ i. not (same_process (v.process p).name (ParityNode i)) &&
+              not (knows_dead (v.process p).known (ParityNode i))) i s.m 0 (omega arith) (omega (arith, iin)) asked
+              all) in
+              (((reach d below).lanes p i pin iin (λ same. other (sym same)) living).kept lives h heads acked.0 acked.1).rank
 
     -- and its history is a front of the head's
     clean-parity : (i : ℕ) → i < s.m → ParityNode i ≢ p → v.dead (ParityNode i) ≡ false → C (history (v.settled d) (replica_of (v.process (ParityNode i)) d))
@@ -174,7 +188,9 @@ module _ (F : ℕ → ℕ → List Update → Type 0) (d : ℕ) (C : List Update
     lane-at x i xin iin apart living = by (same-cases x p) where
       by : (x ≡ p) ⊎ (x ≢ p) → Along (next d) (Goes With d (v.settled d)) (seen_at d (v.settled d) (v.process (ParityNode i))) (v.link x (ParityNode i))
       by (inr other) = lane-stale x i xin iin apart living other
-      by (inl same) = subst (λ (y : ProcessId). Along (next d) (Goes With d (v.settled d)) (seen_at d (v.settled d) (v.process (ParityNode i))) (v.link y (ParityNode i))) (sym same)
+      by (inl same) =
+          subst (λ (y : ProcessId). Along (next d) (Goes With d (v.settled d))
+          (seen_at d (v.settled d) (v.process (ParityNode i))) (v.link y (ParityNode i))) (sym same)
           (lane-own i iin (λ e. apart (same ∙ e)) living)
 
     -- the sentence on the head's history is reached everywhere
@@ -185,7 +201,14 @@ module _ (F : ℕ → ℕ → List Update → Type 0) (d : ℕ) (C : List Update
             applied = old.applied;
             prolongs = old.prolongs;
             short = old.short;
-            fine = (old.fine.0, (old.fine.1, λ here. subst (λ (k : ℕ). C (history (v.settled k) (replica_of (v.process q) k))) (sym here) (clean-at q qin living (subst (λ (k : ℕ). IsKeeper k q) here keeps))));
+            fine = (
+              old.fine.0,
+              (
+                old.fine.1,
+                λ here. subst (λ (k : ℕ). C (history (v.settled k) (replica_of (v.process q) k)))
+                    (sym here) (clean-at q qin living (subst (λ (k : ℕ). IsKeeper k q) here keeps)),
+              ),
+            );
             holds = old.holds;
             heads = old.heads;
           };
@@ -201,6 +224,9 @@ module _ (F : ℕ → ℕ → List Update → Type 0) (d : ℕ) (C : List Update
       by : (x : ProcessId) (i : ℕ) → IsProcess s x → i < s.m → x ≢ ParityNode i → v.dead (ParityNode i) ≡ false → (e ≡ d) ⊎ (e ≢ d)
           → Along (next e) (Goes With e (v.settled e)) (seen_at e (v.settled e) (v.process (ParityNode i))) (v.link x (ParityNode i))
       by x i xin iin apart living (inl same) =
-          subst (λ (k : ℕ). Along (next k) (Goes With k (v.settled k)) (seen_at k (v.settled k) (v.process (ParityNode i))) (v.link x (ParityNode i))) (sym same) (lane-at x i xin iin apart living)
+          subst (λ (k : ℕ). Along (next k) (Goes With k (v.settled k))
+          (seen_at k (v.settled k) (v.process (ParityNode i))) (v.link x (ParityNode i))) (sym same)
+          (lane-at x i xin iin apart living)
       by x i xin iin apart living (inr other) =
-          along-with e (v.settled e) (seen_at e (v.settled e) (v.process (ParityNode i))) (v.link x (ParityNode i)) ((reach e low).lanes x i xin iin apart living).goes (λ here. absurd (other here))
+          along-with e (v.settled e) (seen_at e (v.settled e) (v.process (ParityNode i))) (v.link x (ParityNode i))
+          ((reach e low).lanes x i xin iin apart living).goes (λ here. absurd (other here))

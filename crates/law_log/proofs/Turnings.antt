@@ -1,5 +1,6 @@
 -- The turns of a run by their places, and the ask of each call that is in the log.
-use Rattle.std.proofs.Common.{ℕ, zero, suc, ◌≡◌, ◌≢◌, ◌+◌, ◌<◌, Bool, true, false, List, [], ◌∷◌, ◌++◌, length, take, ◌⊎◌, inl, inr, Option, Some, None, if◌then◌else◌, refl, sym, ap, subst, ◌∙◌, arith}
+use Rattle.std.proofs.Common.{ℕ, zero, suc, ◌≡◌, ◌≢◌, ◌+◌, ◌<◌, Bool, true, false, List, [], ◌∷◌, ◌++◌, length, take}
+use Rattle.std.proofs.Common.{◌⊎◌, inl, inr, Option, Some, None, if◌then◌else◌, refl, sym, ap, subst, ◌∙◌, arith}
 use Rattle.std.specs.Prelude.{Contains, slice_get}
 use Rattle.std.proofs.lemmas.Bool.{cases_eq, eq-eqb, ne_eqb}
 use Rattle.std.proofs.lemmas.List.{take-append-le, take_at}
@@ -52,7 +53,8 @@ get-last (y ∷ xs) x = get-last xs x
 each-get : {X : Type 0} (P : X → Type 0) (xs : List X) (i : ℕ) (x : X) → Each P xs → slice_get xs i ≡ Some x → P x
 each-get P xs i x all is = each-contained P xs x all (get-contained xs i x is)
 
-pub each_two-get : {X : Type 0} (R : X → X → Type 0) (xs : List X) (i j : ℕ) (a b : X) → EachTwo R xs → i < j → slice_get xs i ≡ Some a → slice_get xs j ≡ Some b → R a b
+pub each_two-get : {X : Type 0} (R : X → X → Type 0) (xs : List X) (i j : ℕ) (a b : X) → EachTwo R xs → i < j
+    → slice_get xs i ≡ Some a → slice_get xs j ≡ Some b → R a b
 each_two-get R [] i j a b two below is it = absurd (cc is)
 each_two-get R (x ∷ xs) zero zero a b two below is it = absurd (omega arith)
 each_two-get R (x ∷ xs) zero (suc j) a b two below is it =
@@ -113,15 +115,19 @@ asks-grow w (Ask who op p) caller = by (cases_eq caller who) where
       let one : asks_in caller (Ask who op p) ≡ 1 = ap (λ (b : Bool). if b then 1 else 0) (eq-eqb who caller (sym same)) in omega arith
   by (inr other) =
       let now = at-put-other 0 w.asked who caller (suc (at 0 w.asked who)) other in
-      let none : asks_in caller (Ask who op p) ≡ 0 = ap (λ (b : Bool). if b then 1 else 0) (ne_eqb who caller (λ (same : who ≡ caller). other (sym same))) in omega arith
+      let none : asks_in caller (Ask who op p) ≡ 0 =
+      ap (λ (b : Bool). if b then 1 else 0) (ne_eqb who caller (λ (same : who ≡ caller). other (sym same))) in
+      omega arith
 asks-grow w (Collect who call p) caller = omega arith
 asks-grow w (Deliver from to) caller = omega arith
 asks-grow w (Fail p keep) caller = omega arith
 asks-grow w (Flush p) caller = omega arith
 asks-grow w (Trace who call d p) caller = omega arith
 
-pub asks_counted : (s : Dimensions) (es : List Event) → IsRun s es → (caller : ℕ) → asks_of caller (book_of s es).turns ≡ at 0 (book_of s es).history.world.asked caller
-asks_counted s es run = book_always s (λ b. (caller : ℕ) → asks_of caller b.turns ≡ at 0 b.history.world.asked caller) (λ caller. sym (at-replicate 0 callers caller))
+pub asks_counted : (s : Dimensions) (es : List Event) → IsRun s es → (caller : ℕ) → asks_of caller (book_of s es).turns
+    ≡ at 0 (book_of s es).history.world.asked caller
+asks_counted s es run = book_always s (λ b. (caller : ℕ) → asks_of caller b.turns ≡ at 0 b.history.world.asked caller)
+    (λ caller. sym (at-replicate 0 callers caller))
     (λ done e now more may same caller.
     let b : Book = book_of s done in
     let grows = asks-grow b.history.world e caller in
@@ -136,7 +142,8 @@ pub record HasAsk (turns : List Turn) (name : CallName) (op : Asked) : Type 0 wh
   pub ask : IsAsk turns place turn name op
   pub taken : IsTaken turn.answer
 
-pub ask-more : (turns : List Turn) (turn : Turn) (i : ℕ) (own : Turn) (name : CallName) (op : Asked) → IsAsk turns i own name op → IsAsk (turns ++ turn ∷ []) i own name op
+pub ask-more : (turns : List Turn) (turn : Turn) (i : ℕ) (own : Turn) (name : CallName) (op : Asked)
+    → IsAsk turns i own name op → IsAsk (turns ++ turn ∷ []) i own name op
 ask-more turns turn i own name op ask = record {
   there = get-left turns (turn ∷ []) i own ask.there;
   at = ask.at;
@@ -207,17 +214,21 @@ module _ (s : Dimensions) (always : StandsAlways s) where
       let counted = asks_counted s done now in
       let calls : Each (λ c. HasAsk (booked b e).turns c.name c.op) (booked b e).issued = each-append (λ c. HasAsk (booked b e).turns c.name c.op) b.issued
       (issued_by (call_of b.history.world e) (group_step b.history.world e).answer)
-      (each-weaker (λ c. HasAsk b.turns c.name c.op) (λ c. HasAsk (booked b e).turns c.name c.op) (λ c has. has-more b.turns turn c.name c.op has) b.issued holds.issued)
+      (each-weaker (λ c. HasAsk b.turns c.name c.op) (λ c. HasAsk (booked b e).turns c.name c.op)
+      (λ c has. has-more b.turns turn c.name c.op has) b.issued holds.issued)
       (issued-own b counted e (call_of b.history.world e) (group_step b.history.world e).answer refl refl) in
       let next = logs-event b (book-framed s done now) (stands-in s always done now) (some-partition s always done now) e (may-here s always done e may)
       (stands-next s always done e more) (asked_always s done now) holds.logs
       (λ log settled. Each (λ x. HasAsk (booked b e).turns (name_of x) x.op) log)
-      (each-weaker (λ x. HasAsk b.turns (name_of x) x.op) (λ x. HasAsk (booked b e).turns (name_of x) x.op) (λ x has. has-more b.turns turn (name_of x) x.op has) b.history.world.log holds.entries)
-      (λ log settled d u low many stands fits step said. each-append (λ x. HasAsk (booked b e).turns (name_of x) x.op) log (entry_of (update_name u) step.call.op (reply_from u.outcome) ∷ []) said (
+      (each-weaker (λ x. HasAsk b.turns (name_of x) x.op) (λ x. HasAsk (booked b e).turns (name_of x) x.op)
+      (λ x has. has-more b.turns turn (name_of x) x.op has) b.history.world.log holds.entries)
+      (λ log settled d u low many stands fits step said. each-append (λ x. HasAsk (booked b e).turns (name_of x) x.op)
+      log (entry_of (update_name u) step.call.op (reply_from u.outcome) ∷ []) said (
         subst (λ (n : CallName). HasAsk (booked b e).turns n step.call.op) (sym step.name)
             (each-contained (λ x. HasAsk (booked b e).turns x.name x.op) (booked b e).issued step.call calls step.asked),
         tt,
       ))
-      (λ c reply is answered refused said. each-append (λ x. HasAsk (booked b e).turns (name_of x) x.op) b.history.world.log (entry_of c.name c.op reply ∷ []) said
+      (λ c reply is answered refused said. each-append (λ x. HasAsk (booked b e).turns (name_of x) x.op)
+      b.history.world.log (entry_of c.name c.op reply ∷ []) said
       (has-own b counted e c is (inl (reply, answered)), tt)) in
       record { logs = next.0; issued = calls; entries = next.1 }) es run

@@ -1,5 +1,6 @@
 -- The values and the runs that a log shows are those of the settled stores.
-use Rattle.std.proofs.Common.{ℕ, zero, suc, ◌≡◌, ◌+◌, ◌≤◌, Bool, true, false, List, [], ◌∷◌, ◌++◌, length, take, drop, Option, Some, None, if◌then◌else◌, refl, sym, ap, ap₂, ◌∙◌, arith}
+use Rattle.std.proofs.Common.{ℕ, zero, suc, ◌≡◌, ◌+◌, ◌≤◌, Bool, true, false, List, [], ◌∷◌, ◌++◌, length, take, drop}
+use Rattle.std.proofs.Common.{Option, Some, None, if◌then◌else◌, refl, sym, ap, ap₂, ◌∙◌, arith}
 use Rattle.std.specs.Prelude.{option_map}
 use Rattle.std.proofs.lemmas.List.{append_assoc, drop_at, length-drop, length-take, take_at}
 use Rattle.field_byte.specs.Vectors.{add_bytes}
@@ -28,7 +29,8 @@ use Rattle.law_updates.proofs.Steps.{right_updates_leave}
 use Rattle.law_log.proofs.Shown.{AreShown}
 
 -- the first of what is shown
-pub shown-take : (s : Dimensions) (d n : ℕ) (store : Store) (us : List Update) (ls : List Logged) → AreShown s d store us ls → AreShown s d store (take n us) (take n ls)
+pub shown-take : (s : Dimensions) (d n : ℕ) (store : Store) (us : List Update) (ls : List Logged)
+    → AreShown s d store us ls → AreShown s d store (take n us) (take n ls)
 shown-take s d zero store us ls shown = tt
 shown-take s d (suc n) store [] [] shown = tt
 shown-take s d (suc n) store [] (l ∷ ls) shown = absurd shown
@@ -46,7 +48,8 @@ shown-long s d store (u ∷ us) (l ∷ ls) shown = ap suc (shown-long s d (store
 own-held : (s : Dimensions) (d : ℕ) (store : Store) (u : Update)
     → held (stored s d u store) u.key ≡ held_in (space_added s (DataNode d) d u.body store.space) (slot_after u.number u.body (slot_in store.items u.key))
 own-held s d store u =
-    ap (held_in (space_added s (DataNode d) d u.body store.space)) (slot_in-with u.key u.key (slot_after u.number u.body (slot_in store.items u.key)) store.items
+    ap (held_in (space_added s (DataNode d) d u.body store.space))
+    (slot_in-with u.key u.key (slot_after u.number u.body (slot_in store.items u.key)) store.items
     ∙ ap (λ (b : Bool). if b then slot_after u.number u.body (slot_in store.items u.key) else slot_in store.items u.key) (key-refl u.key))
 
 -- the run of a key's item after an update on the key
@@ -64,25 +67,28 @@ pub runs-are : (s : Dimensions) (d : ℕ) (key : List ℕ) (store : Store) (us :
 runs-are s d key store [] [] old shown is = is
 runs-are s d key store [] (l ∷ ls) old shown is = absurd shown
 runs-are s d key store (u ∷ us) [] old shown is = absurd shown
-runs-are s d key store (u ∷ us) (l ∷ ls) old shown is = runs-are s d key (stored s d u store) us ls (run_unless (same_key (key_of l.entry.op.act) key) l old) shown.1 next where
-  same : same_key (key_of l.entry.op.act) key ≡ same_key u.key key
-  same = ap (λ (k : List ℕ). same_key k key) (sym shown.0.logged.key)
+runs-are s d key store (u ∷ us) (l ∷ ls) old shown is = runs-are s d key (stored s d u store) us ls
+    (run_unless (same_key (key_of l.entry.op.act) key) l old) shown.1 next where
+      same : same_key (key_of l.entry.op.act) key ≡ same_key u.key key
+      same = ap (λ (k : List ℕ). same_key k key) (sym shown.0.logged.key)
 
-  here : u.key ≡ key → run_after l.item l.run old ≡ option_map run_in (slot_after u.number u.body (slot_in store.items u.key))
-  here on =
-      ap₂ (λ (i : Option Holding) (r : Option Run). run_after i r old) (shown.0.item ∙ own-held s d store u) (sym shown.0.logged.run)
-      ∙ ap (run_after (held_in (space_added s (DataNode d) d u.body store.space) (slot_after u.number u.body (slot_in store.items u.key))) (run_of u.body))
-      (is ∙ ap (λ (k : List ℕ). option_map run_in (slot_in store.items k)) (sym on))
-      ∙ run-kept (space_added s (DataNode d) d u.body store.space) u.number u.body (slot_in store.items u.key)
+      here : u.key ≡ key → run_after l.item l.run old ≡ option_map run_in (slot_after u.number u.body (slot_in store.items u.key))
+      here on =
+          ap₂ (λ (i : Option Holding) (r : Option Run). run_after i r old) (shown.0.item ∙ own-held s d store u) (sym shown.0.logged.run)
+          ∙ ap (run_after (held_in (space_added s (DataNode d) d u.body store.space) (slot_after u.number u.body (slot_in store.items u.key))) (run_of u.body))
+          (is ∙ ap (λ (k : List ℕ). option_map run_in (slot_in store.items k)) (sym on))
+          ∙ run-kept (space_added s (DataNode d) d u.body store.space) u.number u.body (slot_in store.items u.key)
 
-  by : (b : Bool) → same_key u.key key ≡ b → run_unless b l old ≡ option_map run_in (if b then slot_after u.number u.body (slot_in store.items u.key) else slot_in store.items key)
-  by true test = here (key-eq u.key key test)
-  by false test = is
+      by : (b : Bool) → same_key u.key key ≡ b
+          → run_unless b l old ≡ option_map run_in (if b then slot_after u.number u.body (slot_in store.items u.key) else
+          slot_in store.items key)
+      by true test = here (key-eq u.key key test)
+      by false test = is
 
-  next : run_unless (same_key (key_of l.entry.op.act) key) l old ≡ option_map run_in (slot_in (item_settled u store.items) key)
-  next =
-      ap (λ (b : Bool). run_unless b l old) same ∙ by (same_key u.key key) refl
-      ∙ ap (option_map run_in) (sym (slot_in-with u.key key (slot_after u.number u.body (slot_in store.items u.key)) store.items))
+      next : run_unless (same_key (key_of l.entry.op.act) key) l old ≡ option_map run_in (slot_in (item_settled u store.items) key)
+      next =
+          ap (λ (b : Bool). run_unless b l old) same ∙ by (same_key u.key key) refl
+          ∙ ap (option_map run_in) (sym (slot_in-with u.key key (slot_after u.number u.body (slot_in store.items u.key)) store.items))
 
 -- a value that stands at its run was written there
 written-is : (run : Run) (delta space : List ℕ) → run.len ≡ length delta → run.at + run.len ≤ length space
@@ -107,7 +113,8 @@ space-kept s d n Remove slot space long writes = refl
 space-kept s d n (Touch until) slot space long writes = refl
 
 -- the space that a log shows is the settled one
-pub values-are : (s : Dimensions) (calls : List Call) (d n : ℕ) (store : Store) (us : List Update) (ls : List Logged) → StoreFits s store → AreSteps s calls d n store us → AreShown s d store us ls
+pub values-are : (s : Dimensions) (calls : List Call) (d n : ℕ) (store : Store) (us : List Update) (ls : List Logged)
+    → StoreFits s store → AreSteps s calls d n store us → AreShown s d store us ls
     → space_from store.space ls ≡ (store_from s d store us).space
 values-are s calls d n store [] [] fits steps shown = refl
 values-are s calls d n store [] (l ∷ ls) fits steps shown = absurd shown
@@ -117,4 +124,6 @@ values-are s calls d n store (u ∷ us) (l ∷ ls) fits steps shown =
     = ap₂ (λ (r : Option Run) (i : Option Holding). written r i store.space) (sym shown.0.logged.run) (shown.0.item ∙ own-held s d store u)
     ∙ space-kept s d u.number u.body (slot_in store.items u.key) store.space fits.long (step-writes s calls d (suc n) store u fits steps.0) in
     ap (λ (space : List ℕ). space_from space ls) here
-    ∙ values-are s calls d (suc n) (stored s d u store) us ls ((right_updates_leave s d (suc n) store steps.0.call.op u fits steps.0.right).fits steps.0.fits.bytes) steps.1 shown.1
+    ∙ values-are s calls d (suc n) (stored s d u store) us ls
+    ((right_updates_leave s d (suc n) store steps.0.call.op u fits steps.0.right).fits steps.0.fits.bytes) steps.1
+    shown.1

@@ -1,5 +1,6 @@
 -- The laws of what the log shows.
-use Rattle.std.proofs.Common.{ℕ, zero, suc, ◌≡◌, ◌+◌, ◌<◌, ◌≤◌, Bool, true, false, List, [], ◌∷◌, length, replicate, take, Option, Some, None, if◌then◌else◌, refl, sym, ap, subst, ◌∙◌, arith}
+use Rattle.std.proofs.Common.{ℕ, zero, suc, ◌≡◌, ◌+◌, ◌<◌, ◌≤◌, Bool, true, false, List, [], ◌∷◌, length, replicate}
+use Rattle.std.proofs.Common.{take, Option, Some, None, if◌then◌else◌, refl, sym, ap, subst, ◌∙◌, arith}
 use Rattle.std.specs.Prelude.{option_map, slice_get}
 use Rattle.erasure_code.specs.Spaces.{bytes_at}
 use Rattle.group_types.specs.Dimensions.{Dimensions, space_of}
@@ -40,7 +41,8 @@ item-is : (size : ℕ) (space : List ℕ) (slot : Option Slot) (h : Option Holdi
     → IsItem slot h run
 item-is size space None h run long inside holds is = subst (λ (x : Option Holding). IsItem None x run) (sym holds) tt
 item-is size space (Some slot) h run long inside holds is =
-    subst (λ (x : Option Holding). IsItem (Some slot) x run) (sym holds) (is, refl, refl, refl, sym (length-bytes_at slot.at slot.len space (omega (arith, long, inside))))
+    subst (λ (x : Option Holding). IsItem (Some slot) x run) (sym holds)
+    (is, refl, refl, refl, sym (length-bytes_at slot.at slot.len space (omega (arith, long, inside))))
 
 -- the update at a place, with the store before it
 pub record ShownAt (s : Dimensions) (calls : List Call) (d n m : ℕ) (store : Store) (us : List Update) (l : Logged) : Type 0 where
@@ -56,9 +58,16 @@ shown-at s calls d n m store us [] l fits steps shown is = absurd (cc is)
 shown-at s calls d n m store [] (x ∷ xs) l fits steps shown is = absurd shown
 shown-at s calls d n zero store (u ∷ us) (x ∷ xs) l fits steps shown is =
     let same : x ≡ l = ap (λ (o : Option Logged). elim o [ None ↦ x | Some y ↦ y ]) is in
-    record { update = u; fits = fits; step = subst (λ (k : ℕ). IsStep s calls d k store u) (omega arith) steps.0; shown = subst (IsShown s d store u) same shown.0 }
+    record {
+      update = u;
+      fits = fits;
+      step = subst (λ (k : ℕ). IsStep s calls d k store u) (omega arith) steps.0;
+      shown = subst (IsShown s d store u) same shown.0;
+    }
 shown-at s calls d n (suc m) store (u ∷ us) (x ∷ xs) l fits steps shown is =
-    let later = shown-at s calls d (suc n) m (stored s d u store) us xs l ((right_updates_leave s d (suc n) store steps.0.call.op u fits steps.0.right).fits steps.0.fits.bytes) steps.1 shown.1 is in
+    let later = shown-at s calls d (suc n) m (stored s d u store) us xs l
+    ((right_updates_leave s d (suc n) store steps.0.call.op u fits steps.0.right).fits steps.0.fits.bytes) steps.1
+    shown.1 is in
     record {
       update = later.update;
       fits = later.fits;
@@ -67,7 +76,8 @@ shown-at s calls d n (suc m) store (u ∷ us) (x ∷ xs) l fits steps shown is =
     }
 
 -- the run of an update that puts a value
-put-of : (s : Dimensions) (store : Store) (touch : Bool) (leaves : Option Holding) (body : Body) (run : Run) → IsBodyOf s store touch leaves body → run_of body ≡ Some run
+put-of : (s : Dimensions) (store : Store) (touch : Bool) (leaves : Option Holding) (body : Body) (run : Run)
+    → IsBodyOf s store touch leaves body → run_of body ≡ Some run
     → (h : Holding) × (leaves ≡ Some h) × (put : IsPut s store h body) × (put.run ≡ run)
 put-of s store touch None body run is writes = absurd (cc (writes, ap run_of is))
 put-of s store true (Some h) body run is writes = absurd (cc (writes, ap run_of is))
@@ -80,7 +90,8 @@ apart-slot run other None apart is = absurd (cc is)
 apart-slot run other (Some slot) apart is = subst (AreApart run) (ap (λ (o : Option Run). elim o [ None ↦ other | Some y ↦ y ]) is) apart
 
 -- the slot of what is held
-slot-of : (space : List ℕ) (slot : Option Slot) (h : Holding) → held_in space slot ≡ Some h → (x : Slot) × (slot ≡ Some x) × (bytes_at x.at x.len space ≡ h.item.value)
+slot-of : (space : List ℕ) (slot : Option Slot) (h : Holding) → held_in space slot ≡ Some h → (x : Slot)
+    × (slot ≡ Some x) × (bytes_at x.at x.len space ≡ h.item.value)
 slot-of space None h is = absurd (cc is)
 slot-of space (Some x) h is = (x, refl, ap (λ (o : Option Holding). elim o as (λ _. List ℕ) [ None ↦ [] | Some y ↦ y.item.value ]) is)
 
@@ -120,7 +131,9 @@ module _ (s : Dimensions) (always : StandsAlways s) (es : List Event) (run : IsR
   fits n = history-fits s calls d (take n settled) (steps-take s calls d n 0 (no_store s) settled steps)
 
   tables : (n : ℕ) → n ≤ length settled → (key : List ℕ) → home_of key s.k ≡ d → (table_at w d n).items key ≡ held (store_after s d (take n settled)) key
-  tables n within key home = ap (λ (t : Dimensions). (table_of (empty_table t.k) (cut_after t.k d n (after s es).log)).items key) shape-is ∙ shown-in.tables n within key home
+  tables n within key home =
+      ap (λ (t : Dimensions). (table_of (empty_table t.k) (cut_after t.k d n (after s es).log)).items key) shape-is
+      ∙ shown-in.tables n within key home
 
   values : (n : ℕ) → values_after w d n ≡ (store_after s d (take n settled)).space
   values n =
@@ -139,7 +152,8 @@ module _ (s : Dimensions) (always : StandsAlways s) (es : List Event) (run : IsR
   items n within key home =
       item-is (space_of s) (store_after s d (take n settled)).space (slot_in (items_after [] (take n settled)) key) ((table_at w d n).items key)
       (run_on key None (take n (updates_of w d))) (fits n).long
-      (each-slot (λ x. x.at + x.len ≤ space_of s) key (items_after [] (take n settled)) (subst (Each (λ x. x.1.at + x.1.len ≤ space_of s)) (items-of n) (fits n).inside))
+      (each-slot (λ x. x.at + x.len ≤ space_of s) key (items_after [] (take n settled))
+      (subst (Each (λ x. x.1.at + x.1.len ≤ space_of s)) (items-of n) (fits n).inside))
       (tables n within key home ∙ ap (λ (xs : Items). held_in (store_after s d (take n settled)).space (slot_in xs key)) (items-of n))
       (runs n key)
 
@@ -147,7 +161,8 @@ module _ (s : Dimensions) (always : StandsAlways s) (es : List Event) (run : IsR
   shows = record { updates = shown; tables = tables; values = values; items = items }
 
   -- an update that has a run is written at it
-  run-written : (n : ℕ) (l : Logged) (r : Run) → slice_get (updates_of w d) n ≡ Some l → l.run ≡ Some r → (h : Holding) × (l.item ≡ Some h) × HasClearRun w d n r h
+  run-written : (n : ℕ) (l : Logged) (r : Run) → slice_get (updates_of w d) n ≡ Some l → l.run ≡ Some r → (h : Holding)
+      × (l.item ≡ Some h) × HasClearRun w d n r h
   run-written n l r there is =
       let found = shown-at s calls d 0 n (no_store s) settled (updates_of w d) l (no_store-fits s) steps shown there in
       let store : Store = store_after s d (take n settled) in
@@ -155,7 +170,9 @@ module _ (s : Dimensions) (always : StandsAlways s) (es : List Event) (run : IsR
       let put = put-of s store (is_touch found.step.call.op.act) right.leaves found.update.body r right.body (found.shown.logged.run ∙ is) in
       let leaves = right_updates_leave s d (suc (0 + n)) store found.step.call.op found.update found.fits right in
       let item : l.item ≡ Some put.0
-      = found.shown.item ∙ leaves.holds found.update.key ∙ ap (λ (b : Bool). if b then right.leaves else held store found.update.key) (key-refl found.update.key) ∙ put.1 in
+      = found.shown.item ∙ leaves.holds found.update.key
+      ∙ ap (λ (b : Bool). if b then right.leaves else held store found.update.key) (key-refl found.update.key)
+      ∙ put.1 in
       let fits_in : r.at + r.len ≤ space_of s = subst (λ (x : Run). x.at + x.len ≤ space_of s) put.3 put.2.fits.inside in (
         put.0,
         item,
@@ -169,7 +186,8 @@ module _ (s : Dimensions) (always : StandsAlways s) (es : List Event) (run : IsR
       )
 
   -- an item has its value
-  item-written : (n : ℕ) (key : List ℕ) (h : Holding) → n ≤ count_logged w d → home_of key w.shape.k ≡ d → (table_at w d n).items key ≡ Some h → HasItsValue w d n key h
+  item-written : (n : ℕ) (key : List ℕ) (h : Holding) → n ≤ count_logged w d → home_of key w.shape.k ≡ d
+      → (table_at w d n).items key ≡ Some h → HasItsValue w d n key h
   item-written n key h within home holds =
       let store : Store = store_after s d (take n settled) in
       let low_enough : n ≤ length settled = let long = many in omega (arith, within) in

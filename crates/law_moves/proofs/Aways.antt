@@ -1,5 +1,7 @@
 -- A call is sent away exactly where the process doesn't head its partition.
-use Rattle.std.proofs.Common.{ℕ, zero, suc, ◌≡◌, ◌≢◌, ◌<◌, ◌≤◌, ◌+◌, ◌%◌, nat_le, nat_lt, Bool, true, false, ◌&&◌, List, [], ◌∷◌, ◌++◌, length, slice_index_or, Option, Some, None, ◌==◌, if◌then◌else◌, refl, sym, ap, subst, ◌∙◌, arith}
+use Rattle.std.proofs.Common.{ℕ, zero, suc, ◌≡◌, ◌≢◌, ◌<◌, ◌≤◌, ◌+◌, ◌%◌, nat_le, nat_lt, Bool, true, false, ◌&&◌, List}
+use Rattle.std.proofs.Common.{[], ◌∷◌, ◌++◌, length, slice_index_or, Option, Some, None, ◌==◌, if◌then◌else◌, refl, sym}
+use Rattle.std.proofs.Common.{ap, subst, ◌∙◌, arith}
 use Rattle.std.proofs.lemmas.Grind.{common_steps}
 use Rattle.std.specs.Prelude.{◌↔◌, Contains, option_map}
 use Rattle.std.specs.List.{list_all, range_with_len}
@@ -49,15 +51,19 @@ each-contains P (y ∷ ys) x all has = by has.0 has.1 has.2 (λ k low is. each-c
 
 -- a link that ends in the notice of x has no other
 only-notice : (x y : ProcessId) (link : List Message) → EndsInNotice x link → Contains link (tells.Notice y) → y ≡ x
-only-notice x y link ends has = cc (each-contains P (ends.front ++ tells.Notice x ∷ []) (tells.Notice y) all (subst (λ (l : List Message). Contains l (tells.Notice y)) ends.is has) refl) where
-  P : Message → Type 0
-  P m = is_notice m ≡ true → m ≡ tells.Notice x
+only-notice x y link ends has =
+    cc (each-contains P (ends.front ++ tells.Notice x ∷ []) (tells.Notice y) all
+    (subst (λ (l : List Message). Contains l (tells.Notice y)) ends.is has) refl) where
+      P : Message → Type 0
+      P m = is_notice m ≡ true → m ≡ tells.Notice x
 
-  all : Each P (ends.front ++ tells.Notice x ∷ [])
-  all = each-append P ends.front (tells.Notice x ∷ []) (each-weaker (λ m. is_notice m ≡ false) P (λ m plain is. cc (plain, is)) ends.front ends.plain) ((λ is. refl), tt)
+      all : Each P (ends.front ++ tells.Notice x ∷ [])
+      all = each-append P ends.front (tells.Notice x ∷ [])
+          (each-weaker (λ m. is_notice m ≡ false) P (λ m plain is. cc (plain, is)) ends.front ends.plain) ((λ is. refl), tt)
 
 -- by the two words: a notice of y stands only in y's own link, which isn't known dead
-notice-from : (x y : ProcessId) (dead known : Bool) (link : List Message) → Stands x dead known link → Contains link (tells.Notice y) → (y ≡ x) × (known ≡ false)
+notice-from : (x y : ProcessId) (dead known : Bool) (link : List Message) → Stands x dead known link
+    → Contains link (tells.Notice y) → (y ≡ x) × (known ≡ false)
 notice-from x y false false link stands has = absurd (cc (each-contains (λ m. is_notice m ≡ false) link (tells.Notice y) stands has))
 notice-from x y false true link stands has = absurd stands
 notice-from x y true true link stands has = absurd (let low = has.1 in let none : length link ≡ 0 = ap length stands in omega (arith, low, none))
@@ -68,20 +74,23 @@ contains-last : (front : List Message) (x : Message) → Contains (front ++ x �
 contains-last [] x = (0, omega arith, refl)
 contains-last (y ∷ ys) x = let rest = contains-last ys x in let low = rest.1 in (suc rest.0, omega (arith, low), rest.2)
 
-pub all-lower : (known : Membership) (a n : ℕ) → ((j : ℕ) → a ≤ j → j < a + n → knows_dead known (ParityNode j) ≡ true) → list_all (λ j. knows_dead known (ParityNode j)) (range_with_len a n) ≡ true
+pub all-lower : (known : Membership) (a n : ℕ) → ((j : ℕ) → a ≤ j → j < a + n → knows_dead known (ParityNode j) ≡ true)
+    → list_all (λ j. knows_dead known (ParityNode j)) (range_with_len a n) ≡ true
 all-lower known a zero each = refl
 all-lower known a (suc n) each =
     ap (λ (b : Bool). b && list_all (λ j. knows_dead known (ParityNode j)) (range_with_len (a + 1) n)) (each a (omega arith) (omega arith))
     ∙ all-lower known (a + 1) n (λ j low high. each j (omega (arith, low)) (omega (arith, high)))
 
-module _ (h : History) (members : Members h.world.shape (state_of h)) (p : ProcessId) (d : ℕ) (pin : IsProcess h.world.shape p) (lives : is_dead h.world p ≡ false) (below : d < h.world.shape.k) where
+module _ (h : History) (members : Members h.world.shape (state_of h)) (p : ProcessId) (d : ℕ)
+    (pin : IsProcess h.world.shape p) (lives : is_dead h.world p ≡ false) (below : d < h.world.shape.k) where
   -- whoever sits there is the head and has taken over
   pub ready-from : (r : ℕ) → seat_of (process_of h.world p) d ≡ Some r → IsReady h.world p d
   ready-from r seat = record {
     rank = r;
     name = from.0;
     heads = record { within = from.1.rank; lives = ap (is_dead h.world) (sym from.0) ∙ lives; lowest = from.1.below };
-    taken_over = λ q y low yin other has. none q y low yin (λ same. other (same ∙ from.0)) (subst (λ (z : ProcessId). Contains (link h.world y z) (tells.Notice (of_rank d q))) (sym from.0) has);
+    taken_over = λ q y low yin other has. none q y low yin (λ same. other (same ∙ from.0))
+        (subst (λ (z : ProcessId). Contains (link h.world y z) (tells.Notice (of_rank d q))) (sym from.0) has);
   } where
     from : (p ≡ of_rank d r) × Reigns h.world.shape (state_of h) d r
     from = seat-from h.world.shape (state_of h) (ground_of h.world.shape (state_of h) members) p d r pin lives below seat
@@ -103,8 +112,10 @@ module _ (h : History) (members : Members h.world.shape (state_of h)) (p : Proce
       own : r ≡ suc i
       own = cc (seat, (seat-known (process_of h.world p) d i sits lower).0)
 
-      both : (knows_dead (process_of h.world p).known (DataNode d) ≡ true) × (list_all (λ j. knows_dead (process_of h.world p).known (ParityNode j)) (range_with_len 0 i) ≡ true)
-      both = parts (knows_dead (process_of h.world p).known (DataNode d)) (list_all (λ j. knows_dead (process_of h.world p).known (ParityNode j)) (range_with_len 0 i)) lower
+      both : (knows_dead (process_of h.world p).known (DataNode d) ≡ true)
+          × (list_all (λ j. knows_dead (process_of h.world p).known (ParityNode j)) (range_with_len 0 i) ≡ true)
+      both = parts (knows_dead (process_of h.world p).known (DataNode d))
+          (list_all (λ j. knows_dead (process_of h.world p).known (ParityNode j)) (range_with_len 0 i)) lower
 
       lower_q : (q : ℕ) → q < r → knows_dead (process_of h.world p).known (of_rank d q) ≡ true
       lower_q zero low = both.0
@@ -112,27 +123,33 @@ module _ (h : History) (members : Members h.world.shape (state_of h)) (p : Proce
 
     none : (q : ℕ) (y : ProcessId) → q < r → IsProcess h.world.shape y → y ≢ p → ¬ (Contains (link h.world y p) (tells.Notice (of_rank d q)))
     none q y low yin other has =
-        let at_link = notice-from y (of_rank d q) (is_dead h.world y) (knows_dead (process_of h.world p).known y) (link h.world y p) (members.stands y p yin pin other lives) has in
-        let knows : knows_dead (process_of h.world p).known y ≡ true = ap (knows_dead (process_of h.world p).known) (sym at_link.0) ∙ knows_by p refl q low (members.sits p d pin lives below) in
+        let at_link = notice-from y (of_rank d q) (is_dead h.world y) (knows_dead (process_of h.world p).known y)
+        (link h.world y p) (members.stands y p yin pin other lives) has in
+        let knows : knows_dead (process_of h.world p).known y ≡ true = ap (knows_dead (process_of h.world p).known)
+        (sym at_link.0) ∙ knows_by p refl q low (members.sits p d pin lives below) in
         cc (at_link.1, knows)
 
   -- a head that has taken over sits there
   pub seat-from-ready : IsReady h.world p d → (r : ℕ) × (seat_of (process_of h.world p) d ≡ Some r)
   seat-from-ready ready = by ready.rank p refl ready.name (members.sits p d pin lives below) where
     knows : (q : ℕ) → q < ready.rank → IsProcess h.world.shape (of_rank d q) → of_rank d q ≢ p → knows_dead (process_of h.world p).known (of_rank d q) ≡ true
-    knows q low qin other = by_word (is_dead h.world (of_rank d q)) (knows_dead (process_of h.world p).known (of_rank d q)) refl refl (members.stands (of_rank d q) p qin pin other lives) where
-      by_word : (dead known : Bool) → is_dead h.world (of_rank d q) ≡ dead → knows_dead (process_of h.world p).known (of_rank d q) ≡ known
-          → Stands (of_rank d q) dead known (link h.world (of_rank d q) p) → knows_dead (process_of h.world p).known (of_rank d q) ≡ true
-      by_word dead true isdead isknown stands = isknown
-      by_word false false isdead isknown stands = absurd (cc (isdead, ready.heads.lowest q low))
-      by_word true false isdead isknown stands = absurd (ready.taken_over q (of_rank d q) low qin (λ same. other (same ∙ sym ready.name))
-          (subst (λ (z : ProcessId). Contains (link h.world (of_rank d q) z) (tells.Notice (of_rank d q))) ready.name
-          (subst (λ (l : List Message). Contains l (tells.Notice (of_rank d q))) (sym stands.is) (contains-last stands.front (tells.Notice (of_rank d q))))))
+    knows q low qin other =
+        by_word (is_dead h.world (of_rank d q)) (knows_dead (process_of h.world p).known (of_rank d q)) refl refl
+        (members.stands (of_rank d q) p qin pin other lives) where
+          by_word : (dead known : Bool) → is_dead h.world (of_rank d q) ≡ dead → knows_dead (process_of h.world p).known (of_rank d q) ≡ known
+              → Stands (of_rank d q) dead known (link h.world (of_rank d q) p) → knows_dead (process_of h.world p).known (of_rank d q) ≡ true
+          by_word dead true isdead isknown stands = isknown
+          by_word false false isdead isknown stands = absurd (cc (isdead, ready.heads.lowest q low))
+          by_word true false isdead isknown stands = absurd (ready.taken_over q (of_rank d q) low qin (λ same. other (same ∙ sym ready.name))
+              (subst (λ (z : ProcessId). Contains (link h.world (of_rank d q) z) (tells.Notice (of_rank d q))) ready.name
+              (subst (λ (l : List Message). Contains l (tells.Notice (of_rank d q))) (sym stands.is)
+              (contains-last stands.front (tells.Notice (of_rank d q))))))
 
     by : (r : ℕ) (z : ProcessId) → p ≡ z → p ≡ of_rank d r → Sits (process_of h.world p) d z → (r : ℕ) × (seat_of (process_of h.world p) d ≡ Some r)
     by r (DataNode e) is name sits = (0, sits.0 ∙ own r (sym is ∙ name)) where
       own : (r : ℕ) → DataNode e ≡ of_rank d r → ◌≡◌ {A = Option ℕ} (if d == e then Some 0 else None) (Some 0)
-      own zero same = let equal : d ≡ e = cc same in let test : (d == e) ≡ true = grind (arith, common_steps) in ap (λ (b : Bool). if b then Some 0 else None) test
+      own zero same = let equal : d ≡ e = cc same in let test : (d == e) ≡ true = grind (arith, common_steps) in
+          ap (λ (b : Bool). if b then Some 0 else None) test
       own (suc r) same = absurd (cc same)
     by r (ParityNode i) is name sits = (suc i, (seat-known (process_of h.world p) d i sits lower).0) where
       ranked : (r : ℕ) → ParityNode i ≡ of_rank d r → r ≡ suc i
@@ -146,9 +163,11 @@ module _ (h : History) (members : Members h.world.shape (state_of h)) (p : Proce
       inside = subst (IsProcess h.world.shape) is pin
 
       lower : knows_lower (process_of h.world p).known d i ≡ true
-      lower = ap (λ (b : Bool). b && list_all (λ j. knows_dead (process_of h.world p).known (ParityNode j)) (range_with_len 0 i)) (knows 0 (omega (arith, rank_is)) below (λ same. cc (same, is)))
+      lower = ap (λ (b : Bool). b && list_all (λ j. knows_dead (process_of h.world p).known (ParityNode j))
+          (range_with_len 0 i)) (knows 0 (omega (arith, rank_is)) below (λ same. cc (same, is)))
           ∙ all-lower (process_of h.world p).known 0 i
-          (λ j low high. knows (suc j) (omega (arith, rank_is, high)) (omega (arith, inside, high)) (λ same. let equal : j ≡ i = cc (same ∙ is) in absurd (omega (arith, high, equal))))
+          (λ j low high. knows (suc j) (omega (arith, rank_is, high)) (omega (arith, inside, high))
+          (λ same. let equal : j ≡ i = cc (same ∙ is) in absurd (omega (arith, high, equal))))
 
 -- an answer to a call that is served here
 abbrev Serves : Answer → Type 0
@@ -166,7 +185,8 @@ serves-ticketed : (b : Bool) (d : ℕ) (u : Update) (t : ProcessStep) → Serves
 serves-ticketed true d u t = tt
 serves-ticketed false d u t = tt
 
-serves-act : (s : Dimensions) (name : CallName) (op : Asked) (d : ℕ) (h : Head) (p : Process) (decision : Decision) → Serves (act_on s name op d h p decision).answer
+serves-act : (s : Dimensions) (name : CallName) (op : Asked) (d : ℕ) (h : Head) (p : Process) (decision : Decision)
+    → Serves (act_on s name op d h p decision).answer
 serves-act s name op d h p (decides.Answer r) = tt
 serves-act s name op d h p (decides.Retry n) = tt
 serves-act s name op d h p decides.NoSpace = tt
@@ -188,7 +208,8 @@ module _ (h : History) (framed : FramedHistory h) (members : Members h.world.sha
   -- what a head makes of the call
   by_head : (o : Option Head) → head_at (process_of w p) (home_in w op) ≡ o → (¬ (IsDown w)) → is_dead w p ≡ false
       → (a : Answer) → a ≡ (ask_head w.shape (next_name w caller) op (home_in w op) (process_of w p) o).answer
-      → ((a ≡ says.Down) ↔ IsDown w) × ((a ≡ says.Lost) ↔ ((¬ (IsDown w)) × (is_dead w p ≡ true))) × ((a ≡ says.Moved) ↔ (IsUp w p × (¬ (IsReady w p (home_in w op)))))
+      → ((a ≡ says.Down) ↔ IsDown w) × ((a ≡ says.Lost) ↔ ((¬ (IsDown w)) × (is_dead w p ≡ true)))
+      × ((a ≡ says.Moved) ↔ (IsUp w p × (¬ (IsReady w p (home_in w op)))))
   by_head None heads up lives a is = (
     (λ e. absurd (cc (e, is)), λ down. absurd (up down)),
     (λ e. absurd (cc (e, is)), λ lost. absurd (cc (lost.1, lives))),
@@ -199,12 +220,19 @@ module _ (h : History) (framed : FramedHistory h) (members : Members h.world.sha
   by_head (Some y) heads up lives a is = (
     (λ e. absurd (not_served e), λ down. absurd (up down)),
     (λ e. absurd (not_lost e), λ lost. absurd (cc (lost.1, lives))),
-    (λ e. absurd (not_moved e), λ away. absurd (away.1 (ready-from h members p (home_in w op) pin lives d_below y.rank (seat-head (process_of w p) (home_in w op) y heads)))),
+    (
+      λ e. absurd (not_moved e),
+      λ away. absurd
+          (away.1 (ready-from h members p (home_in w op) pin lives d_below y.rank
+          (seat-head (process_of w p) (home_in w op) y heads))),
+    ),
   ) where
     serves : Serves a
     serves =
         subst Serves (sym is)
-        (serves-act w.shape (next_name w caller) op (home_in w op) y (process_of w p) (decide (space_of w.shape) y.inherited (replica_of (process_of w p) (home_in w op)) op (found_at w.shape (home_in w op) (process_of w p) (process_of w p).name)))
+        (serves-act w.shape (next_name w caller) op (home_in w op) y (process_of w p)
+        (decide (space_of w.shape) y.inherited (replica_of (process_of w p) (home_in w op)) op
+        (found_at w.shape (home_in w op) (process_of w p) (process_of w p).name)))
 
     not_served : a ≡ says.Down → ⊥
     not_served e = subst Serves e serves
@@ -217,7 +245,8 @@ module _ (h : History) (framed : FramedHistory h) (members : Members h.world.sha
 
   by_words : (down dead : Bool) → (node_of w p).down ≡ down → (node_of w p).dead ≡ dead
       → (a : Answer) → a ≡ (if_up down dead (node_of w p) (treated w.shape (node_of w p) (ask_process w.shape (next_name w caller) op (process_of w p)))).answer
-      → ((a ≡ says.Down) ↔ IsDown w) × ((a ≡ says.Lost) ↔ ((¬ (IsDown w)) × (is_dead w p ≡ true))) × ((a ≡ says.Moved) ↔ (IsUp w p × (¬ (IsReady w p (home_in w op)))))
+      → ((a ≡ says.Down) ↔ IsDown w) × ((a ≡ says.Lost) ↔ ((¬ (IsDown w)) × (is_dead w p ≡ true)))
+      × ((a ≡ says.Moved) ↔ (IsUp w p × (¬ (IsReady w p (home_in w op)))))
   by_words true dead isdown isdead a is =
       let down : IsDown w = (let told : nat_lt w.shape.m (dead_nodes w.nodes) ≡ true = sym (framed.down p pin) ∙ isdown in grind (arith, common_steps)) in (
         (λ e. down, λ x. is),
@@ -244,7 +273,8 @@ module _ (h : History) (framed : FramedHistory h) (members : Members h.world.sha
         absurd (omega (arith, few, down))
 
   pub away : SentAway h.world caller op p
-  away = let all = by_words (node_of w p).down (node_of w p).dead refl refl (step w (Ask caller op p)).turn.answer refl in record { down = all.0; lost = all.1; moved = all.2 }
+  away = let all = by_words (node_of w p).down (node_of w p).dead refl refl (step w (Ask caller op p)).turn.answer refl
+      in record { down = all.0; lost = all.1; moved = all.2 }
 
 pub away_always : AwayAlways
 away_always s es run caller op p may =

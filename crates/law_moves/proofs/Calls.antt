@@ -1,5 +1,6 @@
 -- What a process sends when it treats a call: its core stays.
-use Rattle.std.proofs.Common.{ℕ, zero, suc, ◌≡◌, ◌<◌, ◌+◌, ◌==◌, ◌%◌, nat_le, Bool, true, false, not, ◌&&◌, List, [], ◌∷◌, map, filter, Option, Some, None, refl, sym, ap, subst, ◌∙◌, cond, arith}
+use Rattle.std.proofs.Common.{ℕ, zero, suc, ◌≡◌, ◌<◌, ◌+◌, ◌==◌, ◌%◌, nat_le, Bool, true, false, not, ◌&&◌, List, []}
+use Rattle.std.proofs.Common.{◌∷◌, map, filter, Option, Some, None, refl, sym, ap, subst, ◌∙◌, cond, arith}
 use Rattle.std.specs.Prelude.{flat_map, find, option_map}
 use Rattle.std.specs.List.{list_all, list_any, range_with_len}
 use Rattle.group_types.specs.Dimensions.{Dimensions, space_of}
@@ -19,7 +20,8 @@ use Rattle.group_calls.specs.Turns.{CallName}
 use Rattle.group_calls.specs.declared.decision.Decision.{Decision}
 use Rattle.group_calls.specs.declared.decision.Decision.TheVariants as decides
 use Rattle.group_run.specs.Applying.{ProcessStep, Sent, and_then, for_each, head_at, held_at, replica_of, sending, when, with_replica}
-use Rattle.group_run.specs.Asking.{CallStep, Oldest, act_on, ask_head, collect_from, collect_held, found_at, handed_out, is_call, issued, oldest_inherited, retry_block, ticketed, update_of}
+use Rattle.group_run.specs.Asking.{CallStep, Oldest, act_on, ask_head, collect_from, collect_held, found_at, handed_out}
+use Rattle.group_run.specs.Asking.{is_call, issued, oldest_inherited, retry_block, ticketed, update_of}
 use Rattle.group_run.specs.Deciding.{decide}
 use Rattle.group_run.specs.Heading.{judge, rank, partition, tell_stable, to_others}
 use Rattle.group_run.specs.Leaders.{leader_marks, left_of, lost_of, own_mark, rows_of, session_of, session_opened, session_starts, start_session}
@@ -29,7 +31,8 @@ use Rattle.group_run.specs.Rows.{parity_number}
 use Rattle.group_run.proofs.Deciding.{decides-by}
 use Rattle.law_moves.proofs.Moves.{Treats, Asks, Collects, Flushes}
 use Rattle.law_moves.proofs.Members.{IsParity, Sits, SitsWhen, knows_lower, seat_of}
-use Rattle.law_moves.proofs.Cores.{MaySend, SameCore, SentWell, Step, core-refl, core-trans, sent-kept, sent-others, step-each, step-judge, step-mark, step-quiet, step-then, step-when}
+use Rattle.law_moves.proofs.Cores.{MaySend, SameCore, SentWell, Step, core-refl, core-trans, sent-kept, sent-others}
+use Rattle.law_moves.proofs.Cores.{step-each, step-judge, step-mark, step-quiet, step-then, step-when}
 
 -- a call owes no acknowledgement
 abbrev pub Owes : ProcessId → ℕ → ℕ → Type 0
@@ -41,7 +44,8 @@ Wants (decides.NeedBlock b) = Unit {0}
 Wants _ = ⊥
 
 -- a block is wanted at a parity process alone: a data process finds every run
-pub wants_at_parity : (s : Dimensions) (d inherited : ℕ) (op : Asked) (p : Process) (name : ProcessId) → Wants (decide (space_of s) inherited (replica_of p d) op (found_at s d p name)) → IsParity name
+pub wants_at_parity : (s : Dimensions) (d inherited : ℕ) (op : Asked) (p : Process) (name : ProcessId)
+    → Wants (decide (space_of s) inherited (replica_of p d) op (found_at s d p name)) → IsParity name
 wants_at_parity s d inherited op p (ParityNode i) wants = tt
 wants_at_parity s d inherited op p (DataNode e) wants =
     decides-by (space_of s) (replica_of p d) op (found_at s d p (DataNode e)) inherited (λ (decision : Decision). ¬ (Wants decision)) (record {
@@ -60,14 +64,19 @@ wants_at_parity s d inherited op p (DataNode e) wants =
 pub each-filter : (test : ℕ → Bool) (xs : List ℕ) (P : ℕ → Type 0) → Each P xs → Each (λ x. P x × (test x ≡ true)) (filter test xs)
 each-filter test [] P all = tt
 each-filter test (x ∷ xs) P all = by (test x) refl (each-filter test xs P all.1) where
-  by : (b : Bool) → test x ≡ b → Each (λ y. P y × (test y ≡ true)) (filter test xs) → Each (λ y. P y × (test y ≡ true)) (cond b (x ∷ filter test xs) (filter test xs))
+  by : (b : Bool) → test x ≡ b → Each (λ y. P y × (test y ≡ true)) (filter test xs)
+      → Each (λ y. P y × (test y ≡ true)) (cond b (x ∷ filter test xs) (filter test xs))
   by true passes rest = ((all.0, passes), rest)
   by false fails rest = rest
 
 -- the numbers of a range lie in it
 pub each-range : (a n : ℕ) → Each (λ d. d < a + n) (range_with_len a n)
 each-range a zero = tt
-each-range a (suc n) = (omega arith, each-weaker (λ d. d < a + 1 + n) (λ d. d < a + suc n) (λ d low. omega (arith, low)) (range_with_len (a + 1) n) (each-range (a + 1) n))
+each-range a (suc n) = (
+  omega arith,
+  each-weaker (λ d. d < a + 1 + n) (λ d. d < a + suc n) (λ d low. omega (arith, low))
+      (range_with_len (a + 1) n) (each-range (a + 1) n),
+)
 
 pub each-below : (k : ℕ) → Each (λ d. d < k) (range_with_len 0 k)
 each-below k = each-weaker (λ d. d < 0 + k) (λ d. d < k) (λ d low. omega (arith, low)) (range_with_len 0 k) (each-range 0 k)
@@ -150,13 +159,17 @@ module _ (s : Dimensions) where
           each-map P
           (λ j. record { to = ParityNode j; message = tells.Mark (session_of i number) (rank (at 0 p.ranks l)) block (partition l) (replica_of p l).applied })
           (filter (λ j. not (j == i)) (rows_of s p))
-          (each-all (λ j. MaySend Owes s.k q (ParityNode j) (tells.Mark (session_of i number) (rank (at 0 p.ranks l)) block (partition l) (replica_of p l).applied)) (λ j. (at_l.0, seat_l, (λ above. name), tt)) (filter (λ j. not (j == i)) (rows_of s p)))
+          (each-all (λ j. MaySend Owes s.k q (ParityNode j)
+          (tells.Mark (session_of i number) (rank (at 0 p.ranks l)) block (partition l) (replica_of p l).applied))
+          (λ j. (at_l.0, seat_l, (λ above. name), tt)) (filter (λ j. not (j == i)) (rows_of s p)))
 
   -- a leader opens a session
-  pub step-session : (p : Process) (x : ProcessId) (block d r : ℕ) → Seated s p x → IsParity x → d < s.k → seat_of p d ≡ Some r → Step Owes s.k p (start_session s block p)
+  pub step-session : (p : Process) (x : ProcessId) (block d r : ℕ) → Seated s p x → IsParity x → d < s.k
+      → seat_of p d ≡ Some r → Step Owes s.k p (start_session s block p)
   step-session p (DataNode e) block d r seated parity below seat = elim parity [ ]
   step-session p (ParityNode i) block d r seated parity below seat =
-      subst (λ (leader : ℕ). Step Owes s.k p (and_then (sending (session_starts s leader number block p) opened) (for_each (lost_of s p) (own_mark s leader number block)))) (sym leads)
+      subst (λ (leader : ℕ). Step Owes s.k p (and_then (sending (session_starts s leader number block p) opened)
+      (for_each (lost_of s p) (own_mark s leader number block)))) (sym leads)
       (step-then Owes s.k p (sending (session_starts s i number block p) opened) (for_each (lost_of s p) (own_mark s i number block))
       (record { same = same; sent = session-sent p opened i number block same seated d r below seat })
       (step-each Owes s.k (lost_of s p) (own_mark s i number block) opened
@@ -177,10 +190,12 @@ module _ (s : Dimensions) where
       marks : (l : ℕ) (q : Process) → SameCore opened q → Step Owes s.k q (own_mark s i number block l q)
       marks l q core = step-mark Owes s.k s i number (at 0 q.ranks l) block l (replica_of q l).applied q (subst IsParity (sym (core.name ∙ seated.name)) tt)
 
-  step-retry : (p : Process) (x : ProcessId) (block d r : ℕ) (o : Option Oldest) → Seated s p x → IsParity x → d < s.k → seat_of p d ≡ Some r → Step Owes s.k p (retry_block s block o p).step
+  step-retry : (p : Process) (x : ProcessId) (block d r : ℕ) (o : Option Oldest) → Seated s p x → IsParity x → d < s.k
+      → seat_of p d ≡ Some r → Step Owes s.k p (retry_block s block o p).step
   step-retry p x block d r (Some o) seated parity below seat = step-quiet Owes s.k p p (core-refl p)
   step-retry p x block d r None seated parity below seat =
-      step-when Owes s.k (not (list_any (λ g. g.block == block) p.as_leader.sessions)) p (start_session s block p) (step-session p x block d r seated parity below seat)
+      step-when Owes s.k (not (list_any (λ g. g.block == block) p.as_leader.sessions)) p (start_session s block p)
+      (step-session p x block d r seated parity below seat)
 
   -- a head issues an update
   step-issued : (p : Process) (d : ℕ) (h : Head) (u : Update) → d < s.k → head_at p d ≡ Some h → Step Owes s.k p (issued s d h u p)
@@ -188,27 +203,38 @@ module _ (s : Dimensions) where
       let told : Process = with_replica d (with_update u (replica_of p d)) p in
       let m : Message = tells.Update (rank h.rank) (partition d) u (replica_of p d).applied in
       step-then Owes s.k p (sending (to_others s p m) told) (judge s d)
-      (record { same = record { name = refl; known = refl; ranks = refl; seats = λ e. refl }; sent = sent-others Owes s.k s p told m (λ i. (below, seat-head p d h heads, tt)) })
+      (record {
+        same = record { name = refl; known = refl; ranks = refl; seats = λ e. refl };
+        sent = sent-others Owes s.k s p told m (λ i. (below, seat-head p d h heads, tt));
+      })
       (step-judge Owes s.k s d told)
 
   step-ticketed : (b : Bool) (d : ℕ) (u : Update) (p : Process) (t : ProcessStep) → Step Owes s.k p t → Step Owes s.k p (ticketed b d u t).step
   step-ticketed true d u p t step = step
-  step-ticketed false d u p t step = record { same = core-trans step.same (record { name = refl; known = refl; ranks = refl; seats = λ e. refl }); sent = step_sent }
+  step-ticketed false d u p t step =
+      record {
+        same = core-trans step.same (record { name = refl; known = refl; ranks = refl; seats = λ e. refl });
+        sent = step_sent;
+      }
     where
       step_sent : SentWell Owes s.k (ticketed false d u t).step.process t.sent
       step_sent = sent-kept Owes s.k t.process (ticketed false d u t).step.process (record { name = refl; seats = λ e r sits. sits }) t.sent step.sent
 
-  step-act : (name : CallName) (op : Asked) (d : ℕ) (h : Head) (p : Process) (x : ProcessId) (decision : Decision) → Seated s p x → d < s.k → head_at p d ≡ Some h → (Wants decision → IsParity x)
+  step-act : (name : CallName) (op : Asked) (d : ℕ) (h : Head) (p : Process) (x : ProcessId) (decision : Decision)
+      → Seated s p x → d < s.k → head_at p d ≡ Some h → (Wants decision → IsParity x)
       → Step Owes s.k p (act_on s name op d h p decision).step
   step-act name op d h p x (decides.Answer r) seated below heads parity = step-quiet Owes s.k p p (core-refl p)
   step-act name op d h p x (decides.Retry n) seated below heads parity = step-quiet Owes s.k p p (core-refl p)
   step-act name op d h p x decides.NoSpace seated below heads parity = step-quiet Owes s.k p p (core-refl p)
-  step-act name op d h p x (decides.NeedBlock b) seated below heads parity = step-retry p x b d h.rank (oldest_inherited p (range_with_len 0 s.k)) seated (parity tt) below (seat-head p d h heads)
+  step-act name op d h p x (decides.NeedBlock b) seated below heads parity =
+      step-retry p x b d h.rank (oldest_inherited p (range_with_len 0 s.k)) seated (parity tt) below
+      (seat-head p d h heads)
   step-act name op d h p x (decides.Issue body outcome) seated below heads parity =
       let u : Update = update_of name op d body outcome p in
       step-ticketed (nat_le u.number (replica_of (issued s d h u p).process d).applied) d u p (issued s d h u p) (step-issued p d h u below heads)
 
-  step-ask_head : (name : CallName) (op : Asked) (d : ℕ) (p : Process) (x : ProcessId) (h : Option Head) → head_at p d ≡ h → Seated s p x → d < s.k → Step Owes s.k p (ask_head s name op d p h).step
+  step-ask_head : (name : CallName) (op : Asked) (d : ℕ) (p : Process) (x : ProcessId) (h : Option Head)
+      → head_at p d ≡ h → Seated s p x → d < s.k → Step Owes s.k p (ask_head s name op d p h).step
   step-ask_head name op d p x None heads seated below = step-quiet Owes s.k p p (core-refl p)
   step-ask_head name op d p x (Some h) heads seated below =
       step-act name op d h p x (decide (space_of s) h.inherited (replica_of p d) op (found_at s d p p.name)) seated below heads
@@ -218,7 +244,8 @@ module _ (s : Dimensions) where
   step-handed true d h p = step-quiet Owes s.k p _ (record { name = refl; known = refl; ranks = refl; seats = λ e. refl })
   step-handed false d h p = step-quiet Owes s.k p p (core-refl p)
 
-  step-held : (d : ℕ) (h : Option Held) (p : Process) (elsewhere : CallStep) → Step Owes s.k p elsewhere.step → Step Owes s.k p (collect_held d h p elsewhere).step
+  step-held : (d : ℕ) (h : Option Held) (p : Process) (elsewhere : CallStep) → Step Owes s.k p elsewhere.step
+      → Step Owes s.k p (collect_held d h p elsewhere).step
   step-held d None p elsewhere step = step
   step-held d (Some h) p elsewhere step = step-handed (nat_le h.number (replica_of p d).applied) d h p
 
@@ -228,19 +255,23 @@ module _ (s : Dimensions) where
 
   tell-sent : (p : Process) (d : ℕ) (h : Option Head) → head_at p d ≡ h → d < s.k → SentWell Owes s.k p (tell_stable s p d h)
   tell-sent p d None heads below = tt
-  tell-sent p d (Some h) heads below = sent-others Owes s.k s p p (tells.Stable (rank h.rank) (partition d) (replica_of p d).applied) (λ i. (below, seat-head p d h heads, tt))
+  tell-sent p d (Some h) heads below =
+      sent-others Owes s.k s p p (tells.Stable (rank h.rank) (partition d) (replica_of p d).applied)
+      (λ i. (below, seat-head p d h heads, tt))
 
   -- whatever a process treats, its core stays, and it sends what it may
   pub step-treats : (p : Process) (x : ProcessId) (t : ProcessStep) → Seated s p x → Treats s p t → Step Owes s.k p t
-  step-treats p x _ seated (Asks name op bytes) = step-ask_head name op (home_of (key_of op.act) s.k) p x (head_at p (home_of (key_of op.act) s.k)) refl seated below where
-    some : 0 < s.k
-    some = seated.some
+  step-treats p x _ seated (Asks name op bytes) = step-ask_head name op (home_of (key_of op.act) s.k) p x
+      (head_at p (home_of (key_of op.act) s.k)) refl seated below where
+        some : 0 < s.k
+        some = seated.some
 
-    below : fnv1a (key_of op.act) % s.k < s.k
-    below = omega (arith, some)
+        below : fnv1a (key_of op.act) % s.k < s.k
+        below = omega (arith, some)
   step-treats p x _ seated (Collects caller call) = step-collect caller call p (range_with_len 0 s.k)
   step-treats p x _ seated Flushes = record {
     same = core-refl p;
     sent = each-flat_map (λ z. MaySend Owes s.k p z.to z.message) (λ d. tell_stable s p d (head_at p d)) (range_with_len 0 s.k)
-        (each-weaker (λ d. d < s.k) (λ d. SentWell Owes s.k p (tell_stable s p d (head_at p d))) (λ d below. tell-sent p d (head_at p d) refl below) (range_with_len 0 s.k) (each-below s.k));
+        (each-weaker (λ d. d < s.k) (λ d. SentWell Owes s.k p (tell_stable s p d (head_at p d)))
+        (λ d below. tell-sent p d (head_at p d) refl below) (range_with_len 0 s.k) (each-below s.k));
   }

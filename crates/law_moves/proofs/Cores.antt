@@ -54,7 +54,8 @@ pub record KeepsSeats (p q : Process) : Type 0 where
 pub keeps-core : {p q : Process} → SameCore p q → KeepsSeats p q
 keeps-core same = record { name = same.name; seats = λ d r sits. same.seats d ∙ sits }
 
-pub may-kept : (due : ProcessId → ℕ → ℕ → Type 0) (k : ℕ) (p q : Process) → KeepsSeats p q → (to : ProcessId) (m : Message) → MaySend due k p to m → MaySend due k q to m
+pub may-kept : (due : ProcessId → ℕ → ℕ → Type 0) (k : ℕ) (p q : Process) → KeepsSeats p q
+    → (to : ProcessId) (m : Message) → MaySend due k p to m → MaySend due k q to m
 may-kept due k p q keeps to (tells.Update r d u stable) may = (may.0, keeps.seats d.0 r.0 may.1, may.2)
 may-kept due k p q keeps to (tells.Stable r d n) may = (may.0, keeps.seats d.0 r.0 may.1, may.2)
 may-kept due k p q keeps to (tells.Adopt r d base list) may = (may.0, keeps.seats d.0 r.0 may.1, may.2, may.3)
@@ -68,7 +69,8 @@ may-kept due k p q keeps to (tells.Notice dead) may = may
 
 module _ (due : ProcessId → ℕ → ℕ → Type 0) (k : ℕ) where
   pub sent-kept : (p q : Process) → KeepsSeats p q → (sent : List Sent) → SentWell due k p sent → SentWell due k q sent
-  sent-kept p q keeps sent well = each-weaker (λ z. MaySend due k p z.to z.message) (λ z. MaySend due k q z.to z.message) (λ z may. may-kept due k p q keeps z.to z.message may) sent well
+  sent-kept p q keeps sent well = each-weaker (λ z. MaySend due k p z.to z.message)
+      (λ z. MaySend due k q z.to z.message) (λ z may. may-kept due k p q keeps z.to z.message may) sent well
 
   -- a step that leaves the core, and sends what it may
   pub record Step (p : Process) (t : ProcessStep) : Type 0 where
@@ -85,12 +87,14 @@ module _ (due : ProcessId → ℕ → ℕ → Type 0) (k : ℕ) where
         (sent-kept a.process (f a.process).process (keeps-core next.same) a.sent first.sent) next.sent;
   }
 
-  pub step-each : (xs : List ℕ) (f : ℕ → Process → ProcessStep) (p : Process) → Each (λ x. (q : Process) → SameCore p q → Step q (f x q)) xs → Step p (for_each xs f p)
+  pub step-each : (xs : List ℕ) (f : ℕ → Process → ProcessStep) (p : Process)
+      → Each (λ x. (q : Process) → SameCore p q → Step q (f x q)) xs → Step p (for_each xs f p)
   step-each [] f p each = step-quiet p p (core-refl p)
   step-each (x ∷ xs) f p each =
       let here : Step p (f x p) = each.0 p (core-refl p) in
       step-then p (f x p) (for_each xs f) here
-      (step-each xs f (f x p).process (each-weaker (λ y. (q : Process) → SameCore p q → Step q (f y q)) (λ y. (q : Process) → SameCore (f x p).process q → Step q (f y q))
+      (step-each xs f (f x p).process (each-weaker (λ y. (q : Process) → SameCore p q → Step q (f y q))
+      (λ y. (q : Process) → SameCore (f x p).process q → Step q (f y q))
       (λ y steps q same. steps q (core-trans here.same same)) xs each.1))
 
   pub step-when : (b : Bool) (p : Process) (t : ProcessStep) → Step p t → Step p (when b p t)
@@ -121,7 +125,8 @@ module _ (due : ProcessId → ℕ → ℕ → Type 0) (k : ℕ) where
   step-copy_kept : (b : Bool) (s : Dimensions) (copy : Copy) (p : Process) → IsParity p.name → Step p (copy_kept b s copy p)
   step-copy_kept true s copy p parity =
       let q : Process = with_copies (without_copy copy.leader copy.number p.as_row.copies) p in
-      step-from p q (row_finished (same_process p.name (ParityNode copy.leader)) s copy q) (record { name = refl; known = refl; ranks = refl; seats = λ e. refl })
+      step-from p q (row_finished (same_process p.name (ParityNode copy.leader)) s copy q)
+      (record { name = refl; known = refl; ranks = refl; seats = λ e. refl })
       (step-row_finished (same_process p.name (ParityNode copy.leader)) s copy q parity)
   step-copy_kept false s copy p parity = step-quiet p _ (record { name = refl; known = refl; ranks = refl; seats = λ e. refl })
 

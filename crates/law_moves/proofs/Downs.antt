@@ -1,5 +1,6 @@
 -- A group that is down: the words of its nodes, and that its log stands still.
-use Rattle.std.proofs.Common.{ℕ, zero, suc, ◌≡◌, ◌<◌, ◌≤◌, ◌+◌, Bool, true, false, nat_lt, List, [], ◌∷◌, length, map, Option, Some, None, if◌then◌else◌, refl, sym, ap, subst, ◌∙◌, arith}
+use Rattle.std.proofs.Common.{ℕ, zero, suc, ◌≡◌, ◌<◌, ◌≤◌, ◌+◌, Bool, true, false, nat_lt, List, [], ◌∷◌, length, map}
+use Rattle.std.proofs.Common.{Option, Some, None, if◌then◌else◌, refl, sym, ap, subst, ◌∙◌, arith}
 use Rattle.std.proofs.lemmas.Grind.{common_steps}
 use Rattle.std.specs.List.{range_with_len}
 use Rattle.group_types.specs.Dimensions.{Dimensions}
@@ -18,7 +19,10 @@ use Rattle.group_run.specs.Headline.{IsRun, MayCome}
 use Rattle.group_run.specs.History.{History, history_of, no_history}
 use Rattle.group_run.specs.Meaning.{IsDown}
 use Rattle.group_run.specs.Process.{Node}
-use Rattle.group_run.specs.World.{Call, DeliveryStep, GroupStep, Ledger, NodeStep, Ticket, World, after, all_change, call_of, dead_nodes, deliver_nodes, delivered, flush_process, group_step, grown, if_up, ledger_after, logged_at_once, next_name, node_failed, node_in, node_of, nodes_told, opening_node, step, tickets_after, treated, unchanged, with_node}
+use Rattle.group_run.specs.World.{Call, DeliveryStep, GroupStep, Ledger, NodeStep, Ticket, World, after, all_change}
+use Rattle.group_run.specs.World.{call_of, dead_nodes, deliver_nodes, delivered, flush_process, group_step, grown}
+use Rattle.group_run.specs.World.{if_up, ledger_after, logged_at_once, next_name, node_failed, node_in, node_of}
+use Rattle.group_run.specs.World.{nodes_told, opening_node, step, tickets_after, treated, unchanged, with_node}
 use Rattle.law_moves.specs.Down.{DownAlways, WordsAlways}
 use Rattle.law_moves.proofs.Events.{Framed, FramedHistory, told-lost}
 use Rattle.law_moves.proofs.Reading.{node-back}
@@ -41,7 +45,8 @@ quiet-ledger tickets [] ledger = refl
 quiet-ledger tickets (d ∷ ds) ledger = quiet-ledger tickets ds _
 
 -- whoever is put dead makes no fewer dead
-more-dead : (e : Node) (xs : List Node) (i : ℕ) (y : Node) → y.dead ≡ true → count_dead (map (λ (n : Node). n.dead) xs) ≤ count_dead (map (λ (n : Node). n.dead) (put e xs i y))
+more-dead : (e : Node) (xs : List Node) (i : ℕ) (y : Node) → y.dead ≡ true → count_dead (map (λ (n : Node). n.dead) xs)
+    ≤ count_dead (map (λ (n : Node). n.dead) (put e xs i y))
 more-dead e [] i y dead = omega arith
 more-dead e (x ∷ xs) zero y dead = by x.dead where
   by : (b : Bool) → (if b then 1 else 0) + count_dead (map (λ (n : Node). n.dead) xs) ≤ (if y.dead then 1 else 0) + count_dead (map (λ (n : Node). n.dead) xs)
@@ -67,7 +72,10 @@ module _ (w : World) (settled : List (List Update)) (framed : Framed w.shape w.n
   nothing-logged : (e : Event) → (group_step w e).settled ≡ [] → logged_at_once (call_of w e) (group_step w e).answer ≡ [] → (step w e).world.log ≡ w.log
   nothing-logged e quiet none =
       let tickets : List Ticket = tickets_after (length w.log) (call_of w e) (group_step w e).answer w.tickets in
-      ap (grown w.log) (ap (λ (t : List Settlement). (ledger_after tickets t (range_with_len 0 w.shape.k) (record { logged = logged_at_once (call_of w e) (group_step w e).answer; places = w.places })).logged) quiet
+      ap (grown w.log)
+      (ap (λ (t : List Settlement).
+      (ledger_after tickets t (range_with_len 0 w.shape.k)
+      (record { logged = logged_at_once (call_of w e) (group_step w e).answer; places = w.places })).logged) quiet
       ∙ quiet-ledger tickets (range_with_len 0 w.shape.k) (record { logged = logged_at_once (call_of w e) (group_step w e).answer; places = w.places }) ∙ none)
 
   none-at-once : (call : Option Call) → logged_at_once call says.Down ≡ []
@@ -97,25 +105,44 @@ module _ (w : World) (settled : List (List Update)) (framed : Framed w.shape w.n
   one e p t pin is answers = record {
     answer = ap (λ (g : GroupStep). g.answer) is ∙ answers.answer;
     quiet = ap (λ (g : GroupStep). g.settled) is ∙ answers.quiet;
-    nodes = ap (λ (g : GroupStep). g.nodes) is ∙ ap (λ (n : Node). with_node w.shape p n w.nodes) answers.node_same ∙ node-back w.shape w.nodes p pin framed.nodes_many;
+    nodes = ap (λ (g : GroupStep). g.nodes) is ∙ ap (λ (n : Node). with_node w.shape p n w.nodes) answers.node_same
+        ∙ node-back w.shape w.nodes p pin framed.nodes_many;
   }
 
   stands : (e : Event) → MayCome w e → StandsStill w e
   stands (Ask caller op p) may =
       still (Ask caller op p)
-      (one (Ask caller op p) p _ may.1 refl (answers-down (node_of w p) (treated w.shape (node_of w p) (ask_process w.shape (next_name w caller) op (node_of w p).process)) (node_of w p).down (told p may.1)))
+      (one (Ask caller op p) p _ may.1 refl
+      (answers-down (node_of w p)
+      (treated w.shape (node_of w p) (ask_process w.shape (next_name w caller) op (node_of w p).process))
+      (node_of w p).down (told p may.1)))
   stands (Collect caller call p) may =
       still (Collect caller call p)
-      (one (Collect caller call p) p _ may.1 refl (answers-down (node_of w p) (treated w.shape (node_of w p) (collect_from caller call (node_of w p).process (range_with_len 0 w.shape.k))) (node_of w p).down (told p may.1)))
+      (one (Collect caller call p) p _ may.1 refl
+      (answers-down (node_of w p)
+      (treated w.shape (node_of w p) (collect_from caller call (node_of w p).process (range_with_len 0 w.shape.k)))
+      (node_of w p).down (told p may.1)))
   stands (Flush p) may =
-      still (Flush p) (one (Flush p) p _ may refl (answers-down (node_of w p) (treated w.shape (node_of w p) (flush_process w.shape (node_of w p).process)) (node_of w p).down (told p may)))
+      still (Flush p)
+      (one (Flush p) p _ may refl
+      (answers-down (node_of w p) (treated w.shape (node_of w p) (flush_process w.shape (node_of w p).process))
+      (node_of w p).down (told p may)))
   stands (Trace caller call d p) may =
       still (Trace caller call d p)
-      (one (Trace caller call d p) p _ may.3 refl (answers-down (node_of w p) (unchanged (fate_of w.shape caller call d.0 (node_of w p).process (head_at (node_of w p).process d.0)) (node_of w p)) (node_of w p).down (told p may.3)))
+      (one (Trace caller call d p) p _ may.3 refl
+      (answers-down (node_of w p)
+      (unchanged (fate_of w.shape caller call d.0 (node_of w p).process (head_at (node_of w p).process d.0))
+      (node_of w p)) (node_of w p).down (told p may.3)))
   stands (Deliver from to) may = still (Deliver from to) (by (node_of w to).down (told to may.1)) where
-    answers : (b : Bool) → b ≡ true → (t : DeliveryStep) → t ≡ delivered b (node_of w to).dead w.shape from to (node_of w from) (node_of w to) (at [] (node_of w from).links (index_of w.shape to))
+    answers : (b : Bool) → b ≡ true → (t : DeliveryStep) → t ≡ delivered b (node_of w to).dead w.shape from to
+        (node_of w from) (node_of w to) (at [] (node_of w from).links (index_of w.shape to))
         → (t.receiver.answer ≡ says.Down) × (t.receiver.settled ≡ []) × (t.sender ≡ node_of w from) × (t.receiver.node ≡ node_of w to)
-    answers true is t same = (ap (λ (x : DeliveryStep). x.receiver.answer) same, ap (λ (x : DeliveryStep). x.receiver.settled) same, ap (λ (x : DeliveryStep). x.sender) same, ap (λ (x : DeliveryStep). x.receiver.node) same)
+    answers true is t same = (
+      ap (λ (x : DeliveryStep). x.receiver.answer) same,
+      ap (λ (x : DeliveryStep). x.receiver.settled) same,
+      ap (λ (x : DeliveryStep). x.sender) same,
+      ap (λ (x : DeliveryStep). x.receiver.node) same,
+    )
     answers false is t same = cc is
 
     by : (b : Bool) → b ≡ true → Nothing (Deliver from to)
@@ -124,7 +151,8 @@ module _ (w : World) (settled : List (List Update)) (framed : Framed w.shape w.n
           answer = got.0;
           quiet = got.1;
           nodes = (λ i. with_node w.shape to (got.3 i) (with_node w.shape from (got.2 i) w.nodes))
-              ∙ ap (with_node w.shape to (node_of w to)) (node-back w.shape w.nodes from may.0 framed.nodes_many) ∙ node-back w.shape w.nodes to may.1 framed.nodes_many;
+              ∙ ap (with_node w.shape to (node_of w to)) (node-back w.shape w.nodes from may.0 framed.nodes_many)
+              ∙ node-back w.shape w.nodes to may.1 framed.nodes_many;
         }
   stands (Fail p keep) may = record {
     down = λ no. absurd (no tt);
@@ -140,7 +168,8 @@ module _ (w : World) (settled : List (List Update)) (framed : Framed w.shape w.n
     stays false =
         let cut : List Node = with_node w.shape p (node_failed w.shape p keep (node_in w.shape w.nodes p)) w.nodes in
         let same : dead_nodes (nodes_told w.shape.m cut) ≡ dead_nodes cut = ap count_dead (told-lost cut (nat_lt w.shape.m (dead_nodes cut))) in
-        let more : dead_nodes w.nodes ≤ dead_nodes cut = more-dead (opening_node w.shape p) w.nodes (index_of w.shape p) (node_failed w.shape p keep (node_in w.shape w.nodes p)) refl in
+        let more : dead_nodes w.nodes ≤ dead_nodes cut = more-dead (opening_node w.shape p) w.nodes (index_of w.shape p)
+        (node_failed w.shape p keep (node_in w.shape w.nodes p)) refl in
         let above : w.shape.m < dead_nodes w.nodes = isdown in
         omega (arith, same, more, above)
 

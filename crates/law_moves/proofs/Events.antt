@@ -1,5 +1,6 @@
 -- Each event of a history makes a move, and the frame of the group stays.
-use Rattle.std.proofs.Common.{ℕ, ◌≡◌, ◌≢◌, ◌<◌, ◌≤◌, ◌+◌, ◌⊎◌, inl, inr, Bool, true, false, nat_lt, List, [], ◌∷◌, length, map, refl, sym, ap, subst, ◌∙◌, arith}
+use Rattle.std.proofs.Common.{ℕ, ◌≡◌, ◌≢◌, ◌<◌, ◌≤◌, ◌+◌, ◌⊎◌, inl, inr, Bool, true, false, nat_lt, List, [], ◌∷◌}
+use Rattle.std.proofs.Common.{length, map, refl, sym, ap, subst, ◌∙◌, arith}
 use Rattle.std.proofs.lemmas.Grind.{common_steps}
 use Rattle.std.proofs.lemmas.List.{length-map}
 use Rattle.std.specs.List.{range_with_len}
@@ -21,7 +22,9 @@ use Rattle.group_run.specs.Headline.{MayCome}
 use Rattle.group_run.specs.History.{History, prolonged, settled_after, settled_with}
 use Rattle.group_run.specs.Process.{Node}
 use Rattle.group_run.specs.Receiving.{receive}
-use Rattle.group_run.specs.World.{NodeStep, DeliveryStep, all_change, treated, unchanged, delivered, if_up, flush_process, link_emptied, node_after, node_failed, node_in, node_of, nodes_told, dead_nodes, next_name, opening_node, with_down, with_link, with_node}
+use Rattle.group_run.specs.World.{NodeStep, DeliveryStep, all_change, treated, unchanged, delivered, if_up}
+use Rattle.group_run.specs.World.{flush_process, link_emptied, node_after, node_failed, node_in, node_of, nodes_told}
+use Rattle.group_run.specs.World.{dead_nodes, next_name, opening_node, with_down, with_link, with_node}
 use Rattle.law_moves.proofs.Moves.{Moves, Stays, Treated, Received, Failed, Treats, Asks, Collects, Flushes}
 use Rattle.law_moves.specs.State.{IsUp, lost_in, state_from}
 use Rattle.law_moves.proofs.Reading.{node-back, node-here, node-other, size-with_node}
@@ -35,7 +38,8 @@ pub record Framed (s : Dimensions) (nodes : List Node) (settled : List (List Upd
   pub down : (p : ProcessId) → IsProcess s p → (node_in s nodes p).down ≡ nat_lt s.m (dead_nodes nodes)
 
 -- who of the nodes is dead, told by the state
-pub lost-nodes : (s : Dimensions) (nodes : List Node) (settled : List (List Update)) → length nodes ≡ s.k + s.m → lost_in s (state_from s nodes settled) ≡ dead_nodes nodes
+pub lost-nodes : (s : Dimensions) (nodes : List Node) (settled : List (List Update)) → length nodes ≡ s.k + s.m
+    → lost_in s (state_from s nodes settled) ≡ dead_nodes nodes
 lost-nodes s nodes settled size = ap count_dead (sym words) where
   word : (i : ℕ) → i < length nodes → (at (opening_node s (process_at s 0)) nodes i).dead ≡ (node_in s nodes (process_at s (0 + i))).dead
   word i below =
@@ -57,7 +61,8 @@ module _ (s : Dimensions) (nodes : List Node) (settled : List (List Update)) (fr
       let same = lost-nodes s nodes settled framed.nodes_many in omega (arith, few, same)
 
   -- one node changes, and its words stay
-  pub framed-one : (new : List (List Update)) (p : ProcessId) (node : Node) → IsProcess s p → node.dead ≡ (node_in s nodes p).dead → node.down ≡ (node_in s nodes p).down
+  pub framed-one : (new : List (List Update)) (p : ProcessId) (node : Node) → IsProcess s p
+      → node.dead ≡ (node_in s nodes p).dead → node.down ≡ (node_in s nodes p).down
       → length new ≡ length settled → Framed s (with_node s p node nodes) new
   framed-one new p node pin dead down many = record {
     nodes_many = size-with_node s nodes p node pin framed.nodes_many;
@@ -83,7 +88,8 @@ module _ (s : Dimensions) (nodes : List Node) (settled : List (List Update)) (fr
   -- nothing changed
   pub comes_same : (new : List Node) → new ≡ nodes → Comes new (settled_after [] (range_with_len 0 s.k) settled)
   comes_same new same = record {
-    frame = subst (λ (ns : List Node). Framed s ns (settled_after [] (range_with_len 0 s.k) settled)) (sym same) (subst (λ (us : List (List Update)). Framed s nodes us) (sym stays) framed);
+    frame = subst (λ (ns : List Node). Framed s ns (settled_after [] (range_with_len 0 s.k) settled)) (sym same)
+        (subst (λ (us : List (List Update)). Framed s nodes us) (sym stays) framed);
     move = Stays (λ i. state_from s (same i) (stays i));
   } where
     stays : settled_after [] (range_with_len 0 s.k) settled ≡ settled
@@ -104,9 +110,11 @@ module _ (s : Dimensions) (nodes : List Node) (settled : List (List Update)) (fr
   comes_treated p call pin true dead isdown isdead treats = comes_same _ (node-back s nodes p pin framed.nodes_many)
   comes_treated p call pin false true isdown isdead treats = comes_same _ (node-back s nodes p pin framed.nodes_many)
   comes_treated p call pin false false isdown isdead treats = record {
-    frame = framed-one (settled_after call.step.settled (range_with_len 0 s.k) settled) p (node_after s call.step (node_in s nodes p)) pin refl refl (many_after call.step.settled);
+    frame = framed-one (settled_after call.step.settled (range_with_len 0 s.k) settled) p
+        (node_after s call.step (node_in s nodes p)) pin refl refl (many_after call.step.settled);
     move = Treated p call.step pin (up_from p pin isdown) isdead treats
-        (acted s nodes framed.nodes_many settled (settled_after call.step.settled (range_with_len 0 s.k) settled) p (node_after s call.step (node_in s nodes p)) call.step pin
+        (acted s nodes framed.nodes_many settled (settled_after call.step.settled (range_with_len 0 s.k) settled) p
+        (node_after s call.step (node_in s nodes p)) call.step pin
         (node_acts s call.step (node_in s nodes p)) (grows call.step.settled));
   }
 
@@ -153,10 +161,12 @@ module _ (s : Dimensions) (nodes : List Node) (settled : List (List Update)) (fr
   back_two x p xin pin = ap (with_node s p (node_in s nodes p)) (node-back s nodes x xin framed.nodes_many) ∙ node-back s nodes p pin framed.nodes_many
 
   -- a message is delivered, or nothing
-  pub comes_delivered : (x p : ProcessId) → IsProcess s x → IsProcess s p → x ≢ p → (down dead : Bool) → (node_in s nodes p).down ≡ down → (node_in s nodes p).dead ≡ dead
+  pub comes_delivered : (x p : ProcessId) → IsProcess s x → IsProcess s p → x ≢ p → (down dead : Bool)
+      → (node_in s nodes p).down ≡ down → (node_in s nodes p).dead ≡ dead
       → (link : List Message) → at [] (node_in s nodes x).links (index_of s p) ≡ link
       → let b : DeliveryStep = delivered down dead s x p (node_in s nodes x) (node_in s nodes p) link in
-      Comes s nodes settled framed (with_node s p b.receiver.node (with_node s x b.sender nodes)) (settled_after b.receiver.settled (range_with_len 0 s.k) settled)
+      Comes s nodes settled framed (with_node s p b.receiver.node (with_node s x b.sender nodes))
+      (settled_after b.receiver.settled (range_with_len 0 s.k) settled)
   comes_delivered x p xin pin apart true dead isdown isdead link is = comes_same s nodes settled framed _ (back_two x p xin pin)
   comes_delivered x p xin pin apart false true isdown isdead link is = comes_same s nodes settled framed _ (back_two x p xin pin)
   comes_delivered x p xin pin apart false false isdown isdead [] is = comes_same s nodes settled framed _ (back_two x p xin pin)
@@ -164,7 +174,8 @@ module _ (s : Dimensions) (nodes : List Node) (settled : List (List Update)) (fr
     frame = frame_two;
     move = Received (state_from s popped_nodes settled) x p m xin pin apart (up_from s nodes settled framed p pin isdown) isdead
         (popped s nodes framed.nodes_many settled x p m rest xin pin is)
-        (acted s popped_nodes popped_many settled (settled_after step.settled (range_with_len 0 s.k) settled) p received step pin here_acts (grows s nodes settled framed step.settled));
+        (acted s popped_nodes popped_many settled (settled_after step.settled (range_with_len 0 s.k) settled) p received
+        step pin here_acts (grows s nodes settled framed step.settled));
   } where
     step : ProcessStep
     step = receive s x m (node_in s nodes p).process
@@ -195,10 +206,12 @@ module _ (s : Dimensions) (nodes : List Node) (settled : List (List Update)) (fr
 
   -- a process dies, or was dead
   pub comes_failed : (p : ProcessId) (keep : ℕ) → IsProcess s p → (dead : Bool) → (node_in s nodes p).dead ≡ dead
-      → Comes s nodes settled framed (all_change dead s nodes p keep).nodes (settled_after (all_change dead s nodes p keep).settled (range_with_len 0 s.k) settled)
+      → Comes s nodes settled framed (all_change dead s nodes p keep).nodes
+      (settled_after (all_change dead s nodes p keep).settled (range_with_len 0 s.k) settled)
   comes_failed p keep pin true isdead = comes_same s nodes settled framed nodes refl
   comes_failed p keep pin false isdead =
-      subst (λ (us : List (List Update)). Comes s nodes settled framed (nodes_told s.m cut) us) (sym (settled-quiet s.k 0 settled (let many = framed.settled_many in omega (arith, many))))
+      subst (λ (us : List (List Update)). Comes s nodes settled framed (nodes_told s.m cut) us)
+      (sym (settled-quiet s.k 0 settled (let many = framed.settled_many in omega (arith, many))))
       (record {
         frame = record {
           nodes_many = length-map cut (with_down down) ∙ size-with_node s nodes p failed pin framed.nodes_many;
@@ -226,7 +239,8 @@ abbrev pub FramedHistory : History → Type 0
 FramedHistory h = Framed h.world.shape h.world.nodes h.settled
 
 -- each event that may come makes a move, and the frame stays
-pub event_comes : (h : History) (e : Event) (framed : FramedHistory h) → MayCome h.world e → Comes h.world.shape h.world.nodes h.settled framed (prolonged h e).world.nodes (prolonged h e).settled
+pub event_comes : (h : History) (e : Event) (framed : FramedHistory h) → MayCome h.world e
+    → Comes h.world.shape h.world.nodes h.settled framed (prolonged h e).world.nodes (prolonged h e).settled
 event_comes h (Ask caller op p) framed may =
     comes_treated h.world.shape h.world.nodes h.settled framed p (ask_process h.world.shape (next_name h.world caller) op (node_of h.world p).process) may.1
     (node_of h.world p).down (node_of h.world p).dead refl refl (Asks (next_name h.world caller) op may.2)
@@ -243,7 +257,8 @@ event_comes h (Trace caller call d p) framed may =
     answer : NodeStep
     answer = unchanged (fate_of h.world.shape caller call d.0 (node_of h.world p).process (head_at (node_of h.world p).process d.0)) (node_of h.world p)
 
-    traced : (down dead : Bool) → ((if_up down dead (node_of h.world p) answer).node ≡ node_of h.world p) × ((if_up down dead (node_of h.world p) answer).settled ≡ [])
+    traced : (down dead : Bool) → ((if_up down dead (node_of h.world p) answer).node ≡ node_of h.world p)
+        × ((if_up down dead (node_of h.world p) answer).settled ≡ [])
     traced true dead = (refl, refl)
     traced false true = (refl, refl)
     traced false false = (refl, refl)

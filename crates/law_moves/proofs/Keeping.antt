@@ -1,5 +1,7 @@
 -- The members of a group, kept by every move.
-use Rattle.std.proofs.Common.{ℕ, zero, suc, ◌≡◌, ◌≢◌, ◌<◌, ◌≤◌, ◌+◌, ◌==◌, Bool, true, false, ◌&&◌, List, [], ◌∷◌, ◌++◌, take, replicate, Option, Some, None, ◌⊎◌, inl, inr, refl, sym, ap, subst, ◌∙◌, if◌then◌else◌, arith}
+use Rattle.std.proofs.Common.{ℕ, zero, suc, ◌≡◌, ◌≢◌, ◌<◌, ◌≤◌, ◌+◌, ◌==◌, Bool, true, false, ◌&&◌, List, [], ◌∷◌, ◌++◌}
+use Rattle.std.proofs.Common.{take, replicate, Option, Some, None, ◌⊎◌, inl, inr, refl, sym, ap, subst, ◌∙◌}
+use Rattle.std.proofs.Common.{if◌then◌else◌, arith}
 use Rattle.std.proofs.lemmas.Bool.{cases_eq, cases_lt}
 use Rattle.std.proofs.lemmas.Grind.{common_steps}
 use Rattle.std.specs.Prelude.{option_map}
@@ -55,17 +57,22 @@ of_rank-in s d (suc r) below within = omega (arith, within)
 rank-of : (d : ℕ) (e : ℕ) → (seat : Option ℕ) (r : ℕ) → seat ≡ (if d == e then Some 0 else None) → seat ≡ Some r → (r ≡ 0) × (d ≡ e)
 rank-of d e seat r is sits = by (cases_eq d e) where
   by : (d ≡ e) ⊎ (d ≢ e) → (r ≡ 0) × (d ≡ e)
-  by (inl same) = let own : (d == e) ≡ true = grind (arith, common_steps) in let first : seat ≡ Some 0 = is ∙ ap (λ (b : Bool). if b then Some 0 else None) own in (cc (sits, first), same)
-  by (inr other) = let not_own : (d == e) ≡ false = grind (arith, common_steps) in let none : seat ≡ None = is ∙ ap (λ (b : Bool). if b then Some 0 else None) not_own in absurd (cc (sits, none))
+  by (inl same) = let own : (d == e) ≡ true = grind (arith, common_steps) in let first : seat ≡ Some 0 =
+      is ∙ ap (λ (b : Bool). if b then Some 0 else None) own in (cc (sits, first), same)
+  by (inr other) = let not_own : (d == e) ≡ false = grind (arith, common_steps) in let none : seat ≡ None =
+      is ∙ ap (λ (b : Bool). if b then Some 0 else None) not_own in absurd (cc (sits, none))
 
 -- what is known of all of lower rank
-pub lower-each : (known : Membership) (j a n : ℕ) → list_all (λ j. knows_dead known (ParityNode j)) (range_with_len a n) ≡ true → a ≤ j → j < a + n → knows_dead known (ParityNode j) ≡ true
+pub lower-each : (known : Membership) (j a n : ℕ) → list_all (λ j. knows_dead known (ParityNode j)) (range_with_len a n)
+    ≡ true → a ≤ j → j < a + n → knows_dead known (ParityNode j) ≡ true
 lower-each known j a zero all low high = absurd (omega (arith, low, high))
 lower-each known j a (suc n) all low high =
     by (knows_dead known (ParityNode a)) refl all (cases_eq j a) (λ rest above. lower-each known j (a + 1) n rest above (omega (arith, high)))
   where
-    by : (b : Bool) → knows_dead known (ParityNode a) ≡ b → (b && list_all (λ j. knows_dead known (ParityNode j)) (range_with_len (a + 1) n)) ≡ true → (j ≡ a) ⊎ (j ≢ a)
-        → (list_all (λ j. knows_dead known (ParityNode j)) (range_with_len (a + 1) n) ≡ true → a + 1 ≤ j → knows_dead known (ParityNode j) ≡ true) → knows_dead known (ParityNode j) ≡ true
+    by : (b : Bool) → knows_dead known (ParityNode a) ≡ b
+        → (b && list_all (λ j. knows_dead known (ParityNode j)) (range_with_len (a + 1) n)) ≡ true → (j ≡ a) ⊎ (j ≢ a)
+        → (list_all (λ j. knows_dead known (ParityNode j)) (range_with_len (a + 1) n) ≡ true → a + 1 ≤ j
+        → knows_dead known (ParityNode j) ≡ true) → knows_dead known (ParityNode j) ≡ true
     by true is rest (inl same) later = ap (λ (x : ℕ). knows_dead known (ParityNode x)) same ∙ is
     by true is rest (inr other) later = later rest (omega (arith, low, other))
     by false is rest which later = cc rest
@@ -74,7 +81,8 @@ lower-each known j a (suc n) all low high =
 pub record Ground (s : Dimensions) (v : State) : Type 0 where
   pub named : (p : ProcessId) → IsProcess s p → (v.process p).name ≡ p
   pub not_self : (p : ProcessId) → IsProcess s p → v.dead p ≡ false → knows_dead (v.process p).known p ≡ false
-  pub stands : (x q : ProcessId) → IsProcess s x → IsProcess s q → x ≢ q → v.dead q ≡ false → Stands x (v.dead x) (knows_dead (v.process q).known x) (v.link x q)
+  pub stands : (x q : ProcessId) → IsProcess s x → IsProcess s q → x ≢ q → v.dead q ≡ false
+      → Stands x (v.dead x) (knows_dead (v.process q).known x) (v.link x q)
   pub sits : (p : ProcessId) (d : ℕ) → IsProcess s p → v.dead p ≡ false → d < s.k → Sits (v.process p) d p
 
 pub ground_of : (s : Dimensions) (v : State) → Members s v → Ground s v
@@ -116,7 +124,8 @@ sent-plain due k p to (tells.Notice dead) may = absurd may
 
 module _ (s : Dimensions) where
   -- whoever sits in a partition reigns there
-  pub seat-from : (v : State) → Ground s v → (x : ProcessId) (d r : ℕ) → IsProcess s x → v.dead x ≡ false → d < s.k → seat_of (v.process x) d ≡ Some r → IsFrom s v x d r
+  pub seat-from : (v : State) → Ground s v → (x : ProcessId) (d r : ℕ) → IsProcess s x → v.dead x ≡ false → d < s.k
+      → seat_of (v.process x) d ≡ Some r → IsFrom s v x d r
   seat-from v ground (DataNode e) d r xin lives below seat =
       let at_start = rank-of d e (seat_of (v.process (DataNode e)) d) r (ground.sits (DataNode e) d xin lives below).0 seat in
       let is : DataNode e ≡ of_rank d r = ap DataNode (sym at_start.1) ∙ ap (of_rank d) (sym at_start.0) in (
@@ -148,15 +157,18 @@ module _ (s : Dimensions) where
       parts false b e = cc e
 
       known-dead : (y : ProcessId) → IsProcess s y → y ≢ ParityNode i → knows_dead (v.process (ParityNode i)).known y ≡ true → v.dead y ≡ true
-      known-dead y yin other knows = known-is-dead y (v.dead y) (knows_dead (v.process (ParityNode i)).known y) (v.link y (ParityNode i)) (ground.stands y (ParityNode i) yin xin other lives) knows
+      known-dead y yin other knows = known-is-dead y (v.dead y) (knows_dead (v.process (ParityNode i)).known y)
+          (v.link y (ParityNode i)) (ground.stands y (ParityNode i) yin xin other lives) knows
 
       dead : (j : ℕ) → j < suc i → knows_lower (v.process (ParityNode i)).known d i ≡ true → v.dead (of_rank d j) ≡ true
       dead zero low lower =
           known-dead (DataNode d) below (λ same. cc same)
-          (parts (knows_dead (v.process (ParityNode i)).known (DataNode d)) (list_all (λ j. knows_dead (v.process (ParityNode i)).known (ParityNode j)) (range_with_len 0 i)) lower).0
+          (parts (knows_dead (v.process (ParityNode i)).known (DataNode d))
+          (list_all (λ j. knows_dead (v.process (ParityNode i)).known (ParityNode j)) (range_with_len 0 i)) lower).0
       dead (suc j) low lower =
           let knows = lower-each (v.process (ParityNode i)).known j 0 i
-          (parts (knows_dead (v.process (ParityNode i)).known (DataNode d)) (list_all (λ j. knows_dead (v.process (ParityNode i)).known (ParityNode j)) (range_with_len 0 i)) lower).1
+          (parts (knows_dead (v.process (ParityNode i)).known (DataNode d))
+          (list_all (λ j. knows_dead (v.process (ParityNode i)).known (ParityNode j)) (range_with_len 0 i)) lower).1
           (omega arith) (omega (arith, low)) in
           known-dead (ParityNode j) (omega (arith, low, xin)) (λ same. let equal : j ≡ i = cc same in absurd (omega (arith, low, equal))) knows
 
@@ -189,14 +201,17 @@ module _ (s : Dimensions) where
   may-on v w goes x q (tells.Notice dead) may = tt
 
   -- what a process may send may stand in its link
-  sent-stands : (due : ProcessId → ℕ → ℕ → Type 0) (w : State) → Ground s w → (p : ProcessId) → IsProcess s p → w.dead p ≡ false → ((to : ProcessId) (r d : ℕ) → due to r d → IsFrom s w to d r)
+  sent-stands : (due : ProcessId → ℕ → ℕ → Type 0) (w : State) → Ground s w → (p : ProcessId) → IsProcess s p
+      → w.dead p ≡ false → ((to : ProcessId) (r d : ℕ) → due to r d → IsFrom s w to d r)
       → (q : ProcessId) (m : Message) → MaySend due s.k (w.process p) q m → MayStand s w p q m
   sent-stands due w ground p pin lives owed q (tells.Update r d u stable) may = (seat-from w ground p d.0 r.0 pin lives may.0 may.1, may.2)
   sent-stands due w ground p pin lives owed q (tells.Stable r d n) may = (seat-from w ground p d.0 r.0 pin lives may.0 may.1, may.2)
   sent-stands due w ground p pin lives owed q (tells.Adopt r d base list) may = (seat-from w ground p d.0 r.0 pin lives may.0 may.1, may.2, may.3)
   sent-stands due w ground p pin lives owed q (tells.Ack r d n) may = owed q r.0 d.0 may
-  sent-stands due w ground p pin lives owed q (tells.Mark session r block d n) may = (seat-from w ground p d.0 r.0 pin lives may.0 may.1, (λ above. may.2 above ∙ ground.named p pin), may.3)
-  sent-stands due w ground p pin lives owed q (tells.ReadBlock session block rows) may = (may.0 ∙ ground.named p pin, subst IsParity (ground.named p pin) may.1, may.2)
+  sent-stands due w ground p pin lives owed q (tells.Mark session r block d n) may =
+      (seat-from w ground p d.0 r.0 pin lives may.0 may.1, (λ above. may.2 above ∙ ground.named p pin), may.3)
+  sent-stands due w ground p pin lives owed q (tells.ReadBlock session block rows) may =
+      (may.0 ∙ ground.named p pin, subst IsParity (ground.named p pin) may.1, may.2)
   sent-stands due w ground p pin lives owed q (tells.Block session bytes n) may = (may.0, subst IsData (ground.named p pin) may.1, may.2)
   sent-stands due w ground p pin lives owed q (tells.Row session bytes stamp) may = (may.0, subst IsParity (ground.named p pin) may.1, may.2)
   sent-stands due w ground p pin lives owed q (tells.Cease upto) may = may
@@ -229,13 +244,19 @@ module _ (s : Dimensions) where
     seat-kept q d r qin (inr other) seat = ap (λ (y : Process). seat_of y d) (change.others q qin other) ∙ seat
 
     goes : Goes v w
-    goes = record { dead = λ q qin dies. change.dead q qin ∙ dies; lives = λ q qin living. sym (change.dead q qin) ∙ living; seats = λ q d r qin living seat. seat-kept q d r qin (same-cases q p) seat }
+    goes = record {
+      dead = λ q qin dies. change.dead q qin ∙ dies;
+      lives = λ q qin living. sym (change.dead q qin)
+          ∙ living;
+      seats = λ q d r qin living seat. seat-kept q d r qin (same-cases q p) seat;
+    }
 
     living : w.dead p ≡ false
     living = change.dead p pin ∙ lives
 
     -- of the process that changed, and of the others
-    at_p : (P : Process → ProcessId → Type 0) (q : ProcessId) → IsProcess s q → (q ≡ p) ⊎ (q ≢ p) → P t.process p → (q ≢ p → P (v.process q) q) → P (w.process q) q
+    at_p : (P : Process → ProcessId → Type 0) (q : ProcessId) → IsProcess s q → (q ≡ p) ⊎ (q ≢ p) → P t.process p
+        → (q ≢ p → P (v.process q) q) → P (w.process q) q
     at_p P q qin (inl same) here there = subst (λ (y : ProcessId). P (w.process y) y) (sym same) (subst (λ (y : Process). P y p) (sym change.process) here)
     at_p P q qin (inr other) here there = subst (λ (y : Process). P y q) (sym (change.others q qin other)) (there other)
 
@@ -254,10 +275,14 @@ module _ (s : Dimensions) where
     stands_by x q xin qin apart here (inl xp) (inr qother) =
         subst (λ (y : ProcessId). Stands y (w.dead y) (knows_dead (w.process q).known y) (w.link y q)) (sym xp)
         (plain-stands p (w.dead p) (knows_dead (w.process q).known p) (w.link p q) living
-        (ap (λ (y : Process). knows_dead y.known p) (change.others q qin qother) ∙ living-unknown p (v.dead p) (knows_dead (v.process q).known p) (v.link p q) old lives)
+        (ap (λ (y : Process). knows_dead y.known p) (change.others q qin qother)
+        ∙ living-unknown p (v.dead p) (knows_dead (v.process q).known p) (v.link p q) old lives)
         (subst IsPlain (sym (change.goes q qin qother unknown))
-        (each-append (λ m. is_notice m ≡ false) (v.link p q) (sent_to q t.sent) (living-plain p (v.dead p) (knows_dead (v.process q).known p) (v.link p q) old lives)
-        (each-sent_to (λ to m. is_notice m ≡ false) q t.sent (each-weaker (λ z. MaySend due s.k t.process z.to z.message) (λ z. is_notice z.message ≡ false) (λ z may. sent-plain due s.k t.process z.to z.message may) t.sent change.sent)))))
+        (each-append (λ m. is_notice m ≡ false) (v.link p q) (sent_to q t.sent)
+        (living-plain p (v.dead p) (knows_dead (v.process q).known p) (v.link p q) old lives)
+        (each-sent_to (λ to m. is_notice m ≡ false) q t.sent
+        (each-weaker (λ z. MaySend due s.k t.process z.to z.message) (λ z. is_notice z.message ≡ false)
+        (λ z may. sent-plain due s.k t.process z.to z.message may) t.sent change.sent)))))
       where
         lives_q : v.dead q ≡ false
         lives_q = sym (change.dead q qin) ∙ here
@@ -274,31 +299,40 @@ module _ (s : Dimensions) where
     ground : Ground s w
     ground = record {
       named = λ q qin. at_p (λ y z. y.name ≡ z) q qin (same-cases q p) change.name (λ other. members.named q qin);
-      not_self = λ q qin here. at_p (λ y z. knows_dead y.known z ≡ false) q qin (same-cases q p) change.not_self (λ other. members.not_self q qin (sym (change.dead q qin) ∙ here));
+      not_self = λ q qin here. at_p (λ y z. knows_dead y.known z ≡ false) q qin (same-cases q p) change.not_self
+          (λ other. members.not_self q qin (sym (change.dead q qin) ∙ here));
       stands = λ x q xin qin apart here. stands_by x q xin qin apart here (same-cases x p) (same-cases q p);
-      sits = λ q d qin here below. at_p (λ y z. Sits y d z) q qin (same-cases q p) (change.sits d below) (λ other. members.sits q d qin (sym (change.dead q qin) ∙ here) below);
+      sits = λ q d qin here below. at_p (λ y z. Sits y d z) q qin (same-cases q p) (change.sits d below)
+          (λ other. members.sits q d qin (sym (change.dead q qin) ∙ here) below);
     }
 
-    rank_here : (d : ℕ) → d < s.k → Reigns s v d (at 0 t.process.ranks d) ⊎ (seat_of t.process d ≡ Some (at 0 t.process.ranks d)) → Reigns s w d (at 0 t.process.ranks d)
+    rank_here : (d : ℕ) → d < s.k → Reigns s v d (at 0 t.process.ranks d)
+        ⊎ (seat_of t.process d ≡ Some (at 0 t.process.ranks d)) → Reigns s w d (at 0 t.process.ranks d)
     rank_here d below (inl reigns) = reigns-on v w goes d (at 0 t.process.ranks d) reigns
-    rank_here d below (inr seat) = (seat-from w ground p d (at 0 t.process.ranks d) pin living below (ap (λ (y : Process). seat_of y d) change.process ∙ seat)).1
+    rank_here d below (inr seat) =
+        (seat-from w ground p d (at 0 t.process.ranks d) pin living below
+        (ap (λ (y : Process). seat_of y d) change.process ∙ seat)).1
 
-    may_by : (x q : ProcessId) → IsProcess s x → IsProcess s q → x ≢ q → w.dead q ≡ false → (x ≡ p) ⊎ (x ≢ p) → (q ≡ p) ⊎ (q ≢ p) → Each (MayStand s w x q) (w.link x q)
+    may_by : (x q : ProcessId) → IsProcess s x → IsProcess s q → x ≢ q → w.dead q ≡ false → (x ≡ p) ⊎ (x ≢ p)
+        → (q ≡ p) ⊎ (q ≢ p) → Each (MayStand s w x q) (w.link x q)
     may_by x q xin qin apart here (inl xp) (inl qp) = absurd (apart (xp ∙ sym qp))
     may_by x q xin qin apart here (inr other) (inl qp) =
         subst (λ (y : ProcessId). Each (MayStand s w x y) (w.link x y)) (sym qp)
         (each-weaker (MayStand s v x p) (MayStand s w x p) (λ m may. may-on v w goes x p m may) (w.link x p) (change.may x xin other))
     may_by x q xin qin apart here (inr other) (inr qother) =
         subst (λ (link : List Message). Each (MayStand s w x q) link) (sym (change.between x q xin qin other qother))
-        (each-weaker (MayStand s v x q) (MayStand s w x q) (λ m may. may-on v w goes x q m may) (v.link x q) (members.may x q xin qin apart (sym (change.dead q qin) ∙ here)))
+        (each-weaker (MayStand s v x q) (MayStand s w x q) (λ m may. may-on v w goes x q m may) (v.link x q)
+        (members.may x q xin qin apart (sym (change.dead q qin) ∙ here)))
     may_by x q xin qin apart here (inl xp) (inr qother) =
         subst (λ (y : ProcessId). Each (MayStand s w y q) (w.link y q)) (sym xp)
         (subst (λ (link : List Message). Each (MayStand s w p q) link) (sym (change.goes q qin qother unknown))
         (each-append (MayStand s w p q) (v.link p q) (sent_to q t.sent)
-        (each-weaker (MayStand s v p q) (MayStand s w p q) (λ m may. may-on v w goes p q m may) (v.link p q) (members.may p q pin qin (λ same. qother (sym same)) lives_q))
+        (each-weaker (MayStand s v p q) (MayStand s w p q) (λ m may. may-on v w goes p q m may) (v.link p q)
+        (members.may p q pin qin (λ same. qother (sym same)) lives_q))
         (each-sent_to (λ to m. MayStand s w p to m) q t.sent
         (each-weaker (λ z. MaySend due s.k t.process z.to z.message) (λ z. MayStand s w p z.to z.message)
-        (λ z may. sent-stands due w ground p pin living (λ to r d owes. let from = change.owed to r d owes in (from.0, reigns-on v w goes d r from.1)) z.to z.message
+        (λ z may. sent-stands due w ground p pin living (λ to r d owes. let from = change.owed to r d owes in
+        (from.0, reigns-on v w goes d r from.1)) z.to z.message
         (subst (λ (y : Process). MaySend due s.k y z.to z.message) (sym change.process) may)) t.sent change.sent))))
       where
         lives_q : v.dead q ≡ false
@@ -367,7 +401,8 @@ module _ (s : Dimensions) (shaped : IsShape s) where
     stands = λ x q xin qin apart lives. plain-stands x (v.dead x) (knows_dead (v.process q).known x) (v.link x q) (starts.living x xin)
         (ap (λ (y : Process). knows_dead y.known x) (starts.process q qin) ∙ none-known s x) (subst IsPlain (sym (starts.links x q xin qin)) tt);
     sits = λ p d pin lives below. sits p d pin;
-    ranks = λ p d pin lives below. subst (λ (r : ℕ). Reigns s v d r) (sym (ap (λ (y : Process). at 0 y.ranks d) (starts.process p pin) ∙ at-replicate 0 s.k d)) (first d below);
+    ranks = λ p d pin lives below. subst (λ (r : ℕ). Reigns s v d r)
+        (sym (ap (λ (y : Process). at 0 y.ranks d) (starts.process p pin) ∙ at-replicate 0 s.k d)) (first d below);
     may = λ x q xin qin apart lives. subst (Each (MayStand s v x q)) (sym (starts.links x q xin qin)) tt;
   } where
     sits : (p : ProcessId) (d : ℕ) → IsProcess s p → Sits (v.process p) d p
@@ -378,17 +413,21 @@ module _ (s : Dimensions) (shaped : IsShape s) where
       partition = below;
       rank = omega arith;
       below = λ j low. absurd (omega (arith, low));
-      leads = λ lives. (sits (DataNode d) d below).0 ∙ (let own : (d == d) ≡ true = grind (arith, common_steps) in ap (λ (b : Bool). if b then Some 0 else None) own);
+      leads = λ lives. (sits (DataNode d) d below).0 ∙ (let own : (d == d) ≡ true = grind (arith, common_steps) in
+          ap (λ (b : Bool). if b then Some 0 else None) own);
     }
 
   seated : (v : State) → Members s v → (p : ProcessId) → IsProcess s p → v.dead p ≡ false → Seated s (v.process p) p
   seated v members p pin lives = record { name = members.named p pin; some = some; sits = λ d below. members.sits p d pin lives below }
 
   -- whoever a living process knows to be dead is
-  known-dead : (v : State) → Members s v → (p q : ProcessId) → IsProcess s p → IsProcess s q → q ≢ p → v.dead p ≡ false → knows_dead (v.process p).known q ≡ true → v.dead q ≡ true
-  known-dead v members p q pin qin other lives knows = known-is-dead q (v.dead q) (knows_dead (v.process p).known q) (v.link q p) (members.stands q p qin pin other lives) knows
+  known-dead : (v : State) → Members s v → (p q : ProcessId) → IsProcess s p → IsProcess s q → q ≢ p → v.dead p ≡ false
+      → knows_dead (v.process p).known q ≡ true → v.dead q ≡ true
+  known-dead v members p q pin qin other lives knows = known-is-dead q (v.dead q) (knows_dead (v.process p).known q)
+      (v.link q p) (members.stands q p qin pin other lives) knows
 
-  treats : (v w : State) (p : ProcessId) (t : ProcessStep) → IsProcess s p → IsUp s v → v.dead p ≡ false → Treats s (v.process p) t → Members s v → Acted s v w p t → Members s w
+  treats : (v w : State) (p : ProcessId) (t : ProcessStep) → IsProcess s p → IsUp s v → v.dead p ≡ false
+      → Treats s (v.process p) t → Members s v → Acted s v w p t → Members s w
   treats v w p t pin up lives treated members acts = changed s Owes v w p t pin lives members (record {
     process = acts.process;
     others = acts.others;
@@ -411,7 +450,8 @@ module _ (s : Dimensions) (shaped : IsShape s) where
     step = step-treats s (v.process p) p t (seated v members p pin lives) treated
 
   -- links after one message was taken out and a step was made
-  module _ (v u w : State) (x p : ProcessId) (m : Message) (t : ProcessStep) (xin : IsProcess s x) (pin : IsProcess s p) (apart : x ≢ p) (pops : Popped s v u x p m) (acts : Acted s u w p t) where
+  module _ (v u w : State) (x p : ProcessId) (m : Message) (t : ProcessStep) (xin : IsProcess s x) (pin : IsProcess s p)
+      (apart : x ≢ p) (pops : Popped s v u x p m) (acts : Acted s u w p t) where
     link_else : (y q : ProcessId) → IsProcess s y → IsProcess s q → y ≢ p → (y ≢ x) ⊎ (q ≢ p) → w.link y q ≡ v.link y q
     link_else y q yin qin other apart_from = acts.links y q yin qin other ∙ pops.links y q yin qin apart_from
 
@@ -458,7 +498,8 @@ module _ (s : Dimensions) (shaped : IsShape s) where
 
     comes_by : (y : ProcessId) → IsProcess s y → y ≢ p → (y ≡ x) ⊎ (y ≢ x) → Stands y (v.dead y) (knows_dead t.process.known y) (w.link y p)
     comes_by y yin other (inr yother) =
-        subst (λ (link : List Message). Stands y (v.dead y) (knows_dead t.process.known y) link) (sym (link_else v u w x p m t xin pin apart pops acts y p yin pin other (inl yother)))
+        subst (λ (link : List Message). Stands y (v.dead y) (knows_dead t.process.known y) link)
+        (sym (link_else v u w x p m t xin pin apart pops acts y p yin pin other (inl yother)))
         (subst (λ (known : Membership). Stands y (v.dead y) (knows_dead known y) (v.link y p)) (sym got.known) (members.stands y p yin pin other lives))
     comes_by y yin other (inl same) =
         subst (λ (z : ProcessId). Stands z (v.dead z) (knows_dead t.process.known z) (w.link z p)) (sym same)
@@ -468,15 +509,23 @@ module _ (s : Dimensions) (shaped : IsShape s) where
         (subst (Stands x (v.dead x) (knows_dead (v.process p).known x)) pops.first (members.stands x p xin pin apart lives)))))
 
     may_in : (y : ProcessId) → IsProcess s y → y ≢ p → (y ≡ x) ⊎ (y ≢ x) → Each (MayStand s v y p) (w.link y p)
-    may_in y yin other (inr yother) = subst (Each (MayStand s v y p)) (sym (link_else v u w x p m t xin pin apart pops acts y p yin pin other (inl yother))) (members.may y p yin pin other lives)
+    may_in y yin other (inr yother) =
+        subst (Each (MayStand s v y p))
+        (sym (link_else v u w x p m t xin pin apart pops acts y p yin pin other (inl yother)))
+        (members.may y p yin pin other lives)
     may_in y yin other (inl same) =
-        subst (λ (z : ProcessId). Each (MayStand s v z p) (w.link z p)) (sym same) (subst (Each (MayStand s v x p)) (sym (link_here v u w x p m t xin pin apart pops acts)) may_first.1)
+        subst (λ (z : ProcessId). Each (MayStand s v z p) (w.link z p)) (sym same)
+        (subst (Each (MayStand s v x p)) (sym (link_here v u w x p m t xin pin apart pops acts)) may_first.1)
 
     owed_by : (n : Message) → MayStand s v x p n → (to : ProcessId) (r d : ℕ) → DueTo x n to r d → IsFrom s v to d r
     owed_by (tells.Update r d u stable) may to rank part due =
-        subst (λ (y : ProcessId). IsFrom s v y part rank) (sym due.0) (subst (λ (e : ℕ). IsFrom s v x e rank) (sym due.2) (subst (λ (e : ℕ). IsFrom s v x d.0 e) (sym due.1) may.0))
+        subst (λ (y : ProcessId). IsFrom s v y part rank) (sym due.0)
+        (subst (λ (e : ℕ). IsFrom s v x e rank) (sym due.2)
+        (subst (λ (e : ℕ). IsFrom s v x d.0 e) (sym due.1) may.0))
     owed_by (tells.Adopt r d base list) may to rank part due =
-        subst (λ (y : ProcessId). IsFrom s v y part rank) (sym due.0) (subst (λ (e : ℕ). IsFrom s v x e rank) (sym due.2) (subst (λ (e : ℕ). IsFrom s v x d.0 e) (sym due.1) may.0))
+        subst (λ (y : ProcessId). IsFrom s v y part rank) (sym due.0)
+        (subst (λ (e : ℕ). IsFrom s v x e rank) (sym due.2)
+        (subst (λ (e : ℕ). IsFrom s v x d.0 e) (sym due.1) may.0))
     owed_by (tells.Ack r d n) may to rank part due = absurd due
     owed_by (tells.Stable r d n) may to rank part due = absurd due
     owed_by (tells.ReadBlock session block rows) may to rank part due = absurd due
@@ -524,22 +573,27 @@ module _ (s : Dimensions) (shaped : IsShape s) where
         → (at 0 t.process.ranks d ≡ at 0 (v.process p).ranks d) ⊎ Brings m d (at 0 (v.process p).ranks d) (at 0 t.process.ranks d) → Sits (v.process p) d y
         → Sits t.process d y
     sits_by (DataNode e) is d (inl same) sits = (got.seats d ∙ sits.0, same ∙ sits.1)
-    sits_by (DataNode e) is d (inr brings) sits = absurd (subst IsParity is (brings_by m may_first.0 d (at 0 (v.process p).ranks d) (at 0 t.process.ranks d) brings).2)
+    sits_by (DataNode e) is d (inr brings) sits =
+        absurd (subst IsParity is (brings_by m may_first.0 d (at 0 (v.process p).ranks d) (at 0 t.process.ranks d)
+        brings).2)
     sits_by (ParityNode i) is d (inl same) sits =
         subst (λ (rank : ℕ). SitsWhen (knows_lower t.process.known d i) i (seat_of t.process d) rank) (sym same)
         (subst (λ (seat : Option ℕ). SitsWhen (knows_lower t.process.known d i) i seat (at 0 (v.process p).ranks d)) (sym (got.seats d))
         (subst (λ (known : Membership). SitsWhen (knows_lower known d i) i (seat_of (v.process p) d) (at 0 (v.process p).ranks d)) (sym got.known) sits))
     sits_by (ParityNode i) is d (inr brings) sits =
         subst (λ (seat : Option ℕ). SitsWhen (knows_lower t.process.known d i) i seat (at 0 t.process.ranks d)) (sym (got.seats d))
-        (subst (λ (known : Membership). SitsWhen (knows_lower known d i) i (seat_of (v.process p) d) (at 0 t.process.ranks d)) (sym got.known) (brought (knows_lower (v.process p).known d i) sits))
+        (subst (λ (known : Membership). SitsWhen (knows_lower known d i) i (seat_of (v.process p) d)
+        (at 0 t.process.ranks d)) (sym got.known) (brought (knows_lower (v.process p).known d i) sits))
       where
-        facts : Reigns s v d (at 0 t.process.ranks d) × (x ≡ of_rank d (at 0 t.process.ranks d)) × IsParity p × (at 0 (v.process p).ranks d ≤ at 0 t.process.ranks d)
+        facts : Reigns s v d (at 0 t.process.ranks d) × (x ≡ of_rank d (at 0 t.process.ranks d)) × IsParity p
+            × (at 0 (v.process p).ranks d ≤ at 0 t.process.ranks d)
         facts = brings_by m may_first.0 d (at 0 (v.process p).ranks d) (at 0 t.process.ranks d) brings
 
         low : at 0 t.process.ranks d ≤ i
         low = own-rank i d (at 0 t.process.ranks d) is facts.0 facts.1
 
-        brought : (b : Bool) → SitsWhen b i (seat_of (v.process p) d) (at 0 (v.process p).ranks d) → SitsWhen b i (seat_of (v.process p) d) (at 0 t.process.ranks d)
+        brought : (b : Bool) → SitsWhen b i (seat_of (v.process p) d) (at 0 (v.process p).ranks d)
+            → SitsWhen b i (seat_of (v.process p) d) (at 0 t.process.ranks d)
         brought true sits = absurd (let own = sits.1 in let rises = facts.3 in omega (arith, own, rises, low))
         brought false sits = (sits.0, low)
 
@@ -555,7 +609,8 @@ module _ (s : Dimensions) (shaped : IsShape s) where
     dead = dead_same v u w x p (tells.Notice dead) t xin pin apart pops acts;
     name = got.name ∙ members.named p pin;
     keeps = got.keeps;
-    not_self = ap (λ (known : Membership). knows_dead known p) got.known ∙ knows-other (v.process p).known dead p (λ same. apart (sym (same ∙ facts.2))) ∙ members.not_self p pin lives;
+    not_self = ap (λ (known : Membership). knows_dead known p) got.known ∙ knows-other (v.process p).known dead p
+        (λ same. apart (sym (same ∙ facts.2))) ∙ members.not_self p pin lives;
     knows = λ q qin other knows. knows_by q qin other (same-cases q x) (ap (λ (known : Membership). knows_dead known q) (sym got.known) ∙ knows);
     sits = got.sits;
     comes = λ y yin other. comes_by y yin other (same-cases y x);
@@ -579,17 +634,23 @@ module _ (s : Dimensions) (shaped : IsShape s) where
 
     knows_by : (q : ProcessId) → IsProcess s q → q ≢ p → (q ≡ x) ⊎ (q ≢ x) → knows_dead (with_dead (v.process p).known dead) q ≡ true → v.dead q ≡ true
     knows_by q qin other (inl same) knows = ap v.dead same ∙ facts.0
-    knows_by q qin other (inr qother) knows = known-dead v members p q pin qin other lives (sym (knows-other (v.process p).known dead q (λ same. qother (same ∙ facts.2))) ∙ knows)
+    knows_by q qin other (inr qother) knows = known-dead v members p q pin qin other lives
+        (sym (knows-other (v.process p).known dead q (λ same. qother (same ∙ facts.2))) ∙ knows)
 
     comes_by : (y : ProcessId) → IsProcess s y → y ≢ p → (y ≡ x) ⊎ (y ≢ x) → Stands y (v.dead y) (knows_dead t.process.known y) (w.link y p)
     comes_by y yin other (inr yother) =
         subst (λ (link : List Message). Stands y (v.dead y) (knows_dead t.process.known y) link)
         (sym (link_else v u w x p (tells.Notice dead) t xin pin apart pops acts y p yin pin other (inl yother)))
-        (subst (λ (b : Bool). Stands y (v.dead y) b (v.link y p)) (sym (ap (λ (known : Membership). knows_dead known y) got.known ∙ knows-other (v.process p).known dead y (λ same. yother (same ∙ facts.2)))) (members.stands y p yin pin other lives))
+        (subst (λ (b : Bool). Stands y (v.dead y) b (v.link y p))
+        (sym (ap (λ (known : Membership). knows_dead known y) got.known ∙ knows-other (v.process p).known dead y
+        (λ same. yother (same ∙ facts.2)))) (members.stands y p yin pin other lives))
     comes_by y yin other (inl same) =
         subst (λ (z : ProcessId). Stands z (v.dead z) (knows_dead t.process.known z) (w.link z p)) (sym same)
         (subst (λ (b : Bool). Stands x b (knows_dead t.process.known x) (w.link x p)) (sym facts.0)
-        (subst (λ (b : Bool). Stands x true b (w.link x p)) (sym (ap (λ (known : Membership). knows_dead known x) got.known ∙ ap (knows_dead (with_dead (v.process p).known dead)) (sym facts.2) ∙ knows-with_dead (v.process p).known dead))
+        (subst (λ (b : Bool). Stands x true b (w.link x p))
+        (sym (ap (λ (known : Membership). knows_dead known x) got.known
+        ∙ ap (knows_dead (with_dead (v.process p).known dead)) (sym facts.2) ∙ knows-with_dead (v.process p).known
+        dead))
         (link_here v u w x p (tells.Notice dead) t xin pin apart pops acts ∙ facts.3)))
 
     ranks_by : (d : ℕ) → d < s.k → (at 0 t.process.ranks d ≡ at 0 (v.process p).ranks d) ⊎ (seat_of t.process d ≡ Some (at 0 t.process.ranks d))
@@ -599,7 +660,9 @@ module _ (s : Dimensions) (shaped : IsShape s) where
 
     may_in : (y : ProcessId) → IsProcess s y → y ≢ p → (y ≡ x) ⊎ (y ≢ x) → Each (MayStand s v y p) (w.link y p)
     may_in y yin other (inr yother) =
-        subst (Each (MayStand s v y p)) (sym (link_else v u w x p (tells.Notice dead) t xin pin apart pops acts y p yin pin other (inl yother))) (members.may y p yin pin other lives)
+        subst (Each (MayStand s v y p))
+        (sym (link_else v u w x p (tells.Notice dead) t xin pin apart pops acts y p yin pin other (inl yother)))
+        (members.may y p yin pin other lives)
     may_in y yin other (inl same) =
         subst (λ (z : ProcessId). Each (MayStand s v z p) (w.link z p)) (sym same)
         (subst (Each (MayStand s v x p)) (sym (link_here v u w x p (tells.Notice dead) t xin pin apart pops acts ∙ facts.3)) tt)
@@ -607,16 +670,24 @@ module _ (s : Dimensions) (shaped : IsShape s) where
   receives : (v u w : State) (x p : ProcessId) (m : Message) → IsProcess s x → IsProcess s p → x ≢ p → IsUp s v → v.dead p ≡ false → Members s v
       → Popped s v u x p m → Acted s u w p (receive s x m (v.process p)) → Members s w
   receives v u w x p (tells.Notice dead) xin pin apart up lives members pops acts = receives_notice v u w x p dead xin pin apart lives members pops acts
-  receives v u w x p (tells.Update r d un stable) xin pin apart up lives members pops acts = receives_plain v u w x p (tells.Update r d un stable) xin pin apart lives members pops acts refl
-  receives v u w x p (tells.Ack r d n) xin pin apart up lives members pops acts = receives_plain v u w x p (tells.Ack r d n) xin pin apart lives members pops acts refl
-  receives v u w x p (tells.Stable r d n) xin pin apart up lives members pops acts = receives_plain v u w x p (tells.Stable r d n) xin pin apart lives members pops acts refl
-  receives v u w x p (tells.Adopt r d base list) xin pin apart up lives members pops acts = receives_plain v u w x p (tells.Adopt r d base list) xin pin apart lives members pops acts refl
+  receives v u w x p (tells.Update r d un stable) xin pin apart up lives members pops acts =
+      receives_plain v u w x p (tells.Update r d un stable) xin pin apart lives members pops acts refl
+  receives v u w x p (tells.Ack r d n) xin pin apart up lives members pops acts =
+      receives_plain v u w x p (tells.Ack r d n) xin pin apart lives members pops acts refl
+  receives v u w x p (tells.Stable r d n) xin pin apart up lives members pops acts =
+      receives_plain v u w x p (tells.Stable r d n) xin pin apart lives members pops acts refl
+  receives v u w x p (tells.Adopt r d base list) xin pin apart up lives members pops acts =
+      receives_plain v u w x p (tells.Adopt r d base list) xin pin apart lives members pops acts refl
   receives v u w x p (tells.ReadBlock session block rows) xin pin apart up lives members pops acts =
       receives_plain v u w x p (tells.ReadBlock session block rows) xin pin apart lives members pops acts refl
-  receives v u w x p (tells.Block session bytes n) xin pin apart up lives members pops acts = receives_plain v u w x p (tells.Block session bytes n) xin pin apart lives members pops acts refl
-  receives v u w x p (tells.Mark session r block d n) xin pin apart up lives members pops acts = receives_plain v u w x p (tells.Mark session r block d n) xin pin apart lives members pops acts refl
-  receives v u w x p (tells.Row session bytes stamp) xin pin apart up lives members pops acts = receives_plain v u w x p (tells.Row session bytes stamp) xin pin apart lives members pops acts refl
-  receives v u w x p (tells.Cease upto) xin pin apart up lives members pops acts = receives_plain v u w x p (tells.Cease upto) xin pin apart lives members pops acts refl
+  receives v u w x p (tells.Block session bytes n) xin pin apart up lives members pops acts =
+      receives_plain v u w x p (tells.Block session bytes n) xin pin apart lives members pops acts refl
+  receives v u w x p (tells.Mark session r block d n) xin pin apart up lives members pops acts =
+      receives_plain v u w x p (tells.Mark session r block d n) xin pin apart lives members pops acts refl
+  receives v u w x p (tells.Row session bytes stamp) xin pin apart up lives members pops acts =
+      receives_plain v u w x p (tells.Row session bytes stamp) xin pin apart lives members pops acts refl
+  receives v u w x p (tells.Cease upto) xin pin apart up lives members pops acts =
+      receives_plain v u w x p (tells.Cease upto) xin pin apart lives members pops acts refl
 
   -- a death
   dies : (v w : State) (p : ProcessId) (keep : ℕ) → IsProcess s p → Members s v → Died s v w p keep → Members s w
@@ -641,34 +712,49 @@ module _ (s : Dimensions) (shaped : IsShape s) where
     dead_on q qin (inr other) was = died.others q qin other ∙ was
 
     goes : Goes s v w
-    goes = record { dead = λ q qin was. dead_on q qin (same-cases q p) was; lives = lived; seats = λ q d r qin here seat. ap (λ (y : Process). seat_of y d) (died.processes q qin) ∙ seat }
+    goes = record {
+      dead = λ q qin was. dead_on q qin (same-cases q p) was;
+      lives = lived;
+      seats = λ q d r qin here seat. ap (λ (y : Process). seat_of y d) (died.processes q qin) ∙ seat;
+    }
 
-    stands_by : (x q : ProcessId) → IsProcess s x → IsProcess s q → x ≢ q → w.dead q ≡ false → (x ≡ p) ⊎ (x ≢ p) → Stands x (w.dead x) (knows_dead (w.process q).known x) (w.link x q)
+    stands_by : (x q : ProcessId) → IsProcess s x → IsProcess s q → x ≢ q → w.dead q ≡ false → (x ≡ p) ⊎ (x ≢ p)
+        → Stands x (w.dead x) (knows_dead (w.process q).known x) (w.link x q)
     stands_by x q xin qin apart here (inr other) =
         subst (λ (b : Bool). Stands x b (knows_dead (w.process q).known x) (w.link x q)) (sym (died.others x xin other))
         (subst (λ (y : Process). Stands x (v.dead x) (knows_dead y.known x) (w.link x q)) (sym (died.processes q qin))
-        (subst (λ (link : List Message). Stands x (v.dead x) (knows_dead (v.process q).known x) link) (sym (died.links x q xin qin other)) (members.stands x q xin qin apart (lived q qin here))))
+        (subst (λ (link : List Message). Stands x (v.dead x) (knows_dead (v.process q).known x) link)
+        (sym (died.links x q xin qin other)) (members.stands x q xin qin apart (lived q qin here))))
     stands_by x q xin qin apart here (inl same) =
         subst (λ (z : ProcessId). Stands z (w.dead z) (knows_dead (w.process q).known z) (w.link z q)) (sym same)
         (subst (λ (b : Bool). Stands p b (knows_dead (w.process q).known p) (w.link p q)) (sym died.dead)
         (subst (λ (b : Bool). Stands p true b (w.link p q)) (sym unknown)
-        (record { front = take keep (v.link p q); is = died.cut q qin; plain = each-take (λ m. is_notice m ≡ false) keep (v.link p q) (living-plain p (v.dead p) (knows_dead (v.process q).known p) (v.link p q) old died.lived) })))
+        (record {
+          front = take keep (v.link p q);
+          is = died.cut q qin;
+          plain = each-take (λ m. is_notice m ≡ false) keep
+              (v.link p q) (living-plain p (v.dead p) (knows_dead (v.process q).known p) (v.link p q) old died.lived);
+        })))
       where
         old : Stands p (v.dead p) (knows_dead (v.process q).known p) (v.link p q)
         old = members.stands p q pin qin (λ e. other_than q here (sym e)) (lived q qin here)
 
         unknown : knows_dead (w.process q).known p ≡ false
-        unknown = ap (λ (y : Process). knows_dead y.known p) (died.processes q qin) ∙ living-unknown p (v.dead p) (knows_dead (v.process q).known p) (v.link p q) old died.lived
+        unknown = ap (λ (y : Process). knows_dead y.known p) (died.processes q qin)
+            ∙ living-unknown p (v.dead p) (knows_dead (v.process q).known p) (v.link p q) old died.lived
 
     may_by : (x q : ProcessId) → IsProcess s x → IsProcess s q → x ≢ q → w.dead q ≡ false → (x ≡ p) ⊎ (x ≢ p) → Each (MayStand s w x q) (w.link x q)
     may_by x q xin qin apart here (inr other) =
         subst (Each (MayStand s w x q)) (sym (died.links x q xin qin other))
-        (each-weaker (MayStand s v x q) (MayStand s w x q) (λ m may. may-on s v w goes x q m may) (v.link x q) (members.may x q xin qin apart (lived q qin here)))
+        (each-weaker (MayStand s v x q) (MayStand s w x q) (λ m may. may-on s v w goes x q m may) (v.link x q)
+        (members.may x q xin qin apart (lived q qin here)))
     may_by x q xin qin apart here (inl same) =
         subst (λ (z : ProcessId). Each (MayStand s w z q) (w.link z q)) (sym same)
         (subst (Each (MayStand s w p q)) (sym (died.cut q qin))
         (each-append (MayStand s w p q) (take keep (v.link p q)) (tells.Notice p ∷ [])
-        (each-take (MayStand s w p q) keep (v.link p q) (each-weaker (MayStand s v p q) (MayStand s w p q) (λ m may. may-on s v w goes p q m may) (v.link p q) (members.may p q pin qin (λ e. other_than q here (sym e)) (lived q qin here))))
+        (each-take (MayStand s w p q) keep (v.link p q)
+        (each-weaker (MayStand s v p q) (MayStand s w p q) (λ m may. may-on s v w goes p q m may) (v.link p q)
+        (members.may p q pin qin (λ e. other_than q here (sym e)) (lived q qin here))))
         (tt, tt)))
 
   pub keeps : Keeps s (Members s)

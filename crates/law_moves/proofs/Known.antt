@@ -19,9 +19,11 @@ use Rattle.group_calls.specs.Turns.{CallName}
 use Rattle.group_calls.specs.declared.decision.Decision.{Decision}
 use Rattle.group_calls.specs.declared.decision.Decision.TheVariants as decides
 use Rattle.group_run.specs.Applying.{ProcessStep, apply_to, for_each, held_at, replica_of, when, head_at, with_head}
-use Rattle.group_run.specs.Asking.{CallStep, Oldest, act_on, ask_head, collect_from, collect_held, handed_out, is_call, issued, oldest_inherited, retry_block, ticketed, update_of}
+use Rattle.group_run.specs.Asking.{CallStep, Oldest, act_on, ask_head, collect_from, collect_held, handed_out, is_call}
+use Rattle.group_run.specs.Asking.{issued, oldest_inherited, retry_block, ticketed, update_of}
 use Rattle.group_run.specs.Heading.{acknowledge, acknowledged, judge, judge_head}
-use Rattle.group_run.specs.Leaders.{close_sessions, copy_kept, copy_marked, lost_of, mark_comes, mark_taken, own_mark, row_finished, session_opened, start_session}
+use Rattle.group_run.specs.Leaders.{close_sessions, copy_kept, copy_marked, lost_of, mark_comes, mark_taken, own_mark}
+use Rattle.group_run.specs.Leaders.{row_finished, session_opened, start_session}
 use Rattle.group_run.specs.Process.{Copy, Process, Head, Held, Gathering}
 use Rattle.group_run.specs.Receiving.{ack_to, death_known, notice_comes, read_comes, receive, take_over_if, taken_over, takes_over, update_taken}
 use Rattle.group_run.specs.Rows.{accepts_mark, begin_copy, copy_begun, copy_in, is_marked, marked, parity_number, with_copies, without_copy}
@@ -38,7 +40,8 @@ known-judge_head s d p (Some h) = refl
 pub known-judge : (s : Dimensions) (d : ℕ) (p : Process) → (judge s d p).process.known ≡ p.known
 known-judge s d p = known-judge_head s d p (head_at p d)
 
-pub known-for_each : (f : ℕ → Process → ProcessStep) → ((x : ℕ) (p : Process) → (f x p).process.known ≡ p.known) → (xs : List ℕ) (p : Process) → (for_each xs f p).process.known ≡ p.known
+pub known-for_each : (f : ℕ → Process → ProcessStep) → ((x : ℕ) (p : Process) → (f x p).process.known ≡ p.known)
+    → (xs : List ℕ) (p : Process) → (for_each xs f p).process.known ≡ p.known
 known-for_each f each [] p = refl
 known-for_each f each (x ∷ xs) p = known-for_each f each xs (f x p).process ∙ each x p
 
@@ -74,7 +77,8 @@ known-row_finished true s copy p = refl
 known-row_finished false s copy p = refl
 
 known-copy_kept : (b : Bool) (s : Dimensions) (copy : Copy) (p : Process) → (copy_kept b s copy p).process.known ≡ p.known
-known-copy_kept true s copy p = known-row_finished (same_process p.name (ParityNode copy.leader)) s copy (with_copies (without_copy copy.leader copy.number p.as_row.copies) p)
+known-copy_kept true s copy p = known-row_finished (same_process p.name (ParityNode copy.leader)) s copy
+    (with_copies (without_copy copy.leader copy.number p.as_row.copies) p)
 known-copy_kept false s copy p = refl
 
 known-copy_marked : (s : Dimensions) (d n : ℕ) (copy : Option Copy) (p : Process) → (copy_marked s d n copy p).process.known ≡ p.known
@@ -94,7 +98,9 @@ known-mark s leader number r block d n p =
 -- a head takes an acknowledgement
 known-acknowledge : (s : Dimensions) (i r d n : ℕ) (h : Option Head) (p : Process) → (acknowledge s i r d n h p).process.known ≡ p.known
 known-acknowledge s i r d n None p = refl
-known-acknowledge s i r d n (Some h) p = known-when (r == h.rank) p (judge s d (with_head d (Some (acknowledged i n h)) p)) (known-judge s d (with_head d (Some (acknowledged i n h)) p))
+known-acknowledge s i r d n (Some h) p =
+    known-when (r == h.rank) p (judge s d (with_head d (Some (acknowledged i n h)) p))
+    (known-judge s d (with_head d (Some (acknowledged i n h)) p))
 
 -- every message but a notice
 known-received : (s : Dimensions) (from : ProcessId) (m : Message) (p : Process) → is_notice m ≡ false → (receive s from m p).process.known ≡ p.known
@@ -131,7 +137,8 @@ known-ticketed : (b : Bool) (d : ℕ) (u : Update) (t : ProcessStep) → (ticket
 known-ticketed true d u t = refl
 known-ticketed false d u t = refl
 
-known-acts : (s : Dimensions) (name : CallName) (op : Asked) (d : ℕ) (h : Head) (p : Process) (decision : Decision) → (act_on s name op d h p decision).step.process.known ≡ p.known
+known-acts : (s : Dimensions) (name : CallName) (op : Asked) (d : ℕ) (h : Head) (p : Process) (decision : Decision)
+    → (act_on s name op d h p decision).step.process.known ≡ p.known
 known-acts s name op d h p (decides.Answer r) = refl
 known-acts s name op d h p (decides.Retry n) = refl
 known-acts s name op d h p decides.NoSpace = refl
@@ -156,7 +163,8 @@ known-held d (Some h) p elsewhere same = known-handed (nat_le h.number (replica_
 
 known-collected : (caller call : ℕ) (p : Process) (ds : List ℕ) → (collect_from caller call p ds).step.process.known ≡ p.known
 known-collected caller call p [] = refl
-known-collected caller call p (d ∷ ds) = known-held d (find (is_call caller call) (held_at p d)) p (collect_from caller call p ds) (known-collected caller call p ds)
+known-collected caller call p (d ∷ ds) = known-held d (find (is_call caller call) (held_at p d)) p
+    (collect_from caller call p ds) (known-collected caller call p ds)
 
 pub known_stays : KnownStays
 known_stays s p = record {

@@ -90,7 +90,8 @@ MayStand s v x q (tells.Notice dead) = Unit {0}
 pub record Members (s : Dimensions) (v : State) : Type 0 where
   pub named : (p : ProcessId) → IsProcess s p → (v.process p).name ≡ p
   pub not_self : (p : ProcessId) → IsProcess s p → v.dead p ≡ false → knows_dead (v.process p).known p ≡ false
-  pub stands : (x q : ProcessId) → IsProcess s x → IsProcess s q → x ≢ q → v.dead q ≡ false → Stands x (v.dead x) (knows_dead (v.process q).known x) (v.link x q)
+  pub stands : (x q : ProcessId) → IsProcess s x → IsProcess s q → x ≢ q → v.dead q ≡ false
+      → Stands x (v.dead x) (knows_dead (v.process q).known x) (v.link x q)
   pub sits : (p : ProcessId) (d : ℕ) → IsProcess s p → v.dead p ≡ false → d < s.k → Sits (v.process p) d p
   pub ranks : (p : ProcessId) (d : ℕ) → IsProcess s p → v.dead p ≡ false → d < s.k → Reigns s v d (at 0 (v.process p).ranks d)
   pub may : (x q : ProcessId) → IsProcess s x → IsProcess s q → x ≢ q → v.dead q ≡ false → Each (MayStand s v x q) (v.link x q)

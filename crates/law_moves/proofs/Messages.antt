@@ -1,6 +1,7 @@
 -- What a process makes of each message but a notice: its name, its known dead and its seats stay, and only an
 -- adoption changes a rank.
-use Rattle.std.proofs.Common.{ℕ, ◌≡◌, ◌≢◌, ◌≤◌, ◌+◌, ◌==◌, nat_le, Bool, true, false, List, length, Option, Some, None, ◌⊎◌, inl, inr, refl, sym, ap, subst, ◌∙◌, if◌then◌else◌, arith}
+use Rattle.std.proofs.Common.{ℕ, ◌≡◌, ◌≢◌, ◌≤◌, ◌+◌, ◌==◌, nat_le, Bool, true, false, List, length, Option, Some, None}
+use Rattle.std.proofs.Common.{◌⊎◌, inl, inr, refl, sym, ap, subst, ◌∙◌, if◌then◌else◌, arith}
 use Rattle.std.proofs.lemmas.Bool.{cases_eq}
 use Rattle.std.proofs.lemmas.Grind.{common_steps}
 use Rattle.std.specs.Prelude.{option_map}
@@ -72,7 +73,9 @@ module _ (s : Dimensions) (x : ProcessId) where
   acked m p i r d n (Some h) heads =
       let q : Process = with_head d (Some (acknowledged i n h)) p in
       by-step m p (when (r == h.rank) p (judge s d q))
-      (step-when (DueTo x m) s.k (r == h.rank) p (judge s d q) (step-from (DueTo x m) s.k p q (judge s d q) (core-acknowledged p i d n h heads) (step-judge (DueTo x m) s.k s d q)))
+      (step-when (DueTo x m) s.k (r == h.rank) p (judge s d q)
+      (step-from (DueTo x m) s.k p q (judge s d q) (core-acknowledged p i d n h heads)
+      (step-judge (DueTo x m) s.k s d q)))
 
   -- a new head's log: the rank is its rank, unless that is lower
   adopted : (b : Bool) (p : Process) (r d base : ℕ) (list : List Update) → nat_le (at 0 p.ranks d) r ≡ b
@@ -91,7 +94,8 @@ module _ (s : Dimensions) (x : ProcessId) where
     here : at 0 (put 0 p.ranks d r) d ≡ r
     here = at-put 0 0 p.ranks d r
 
-    new_rank : (e : ℕ) → (e ≡ d) ⊎ (e ≢ d) → (at 0 (put 0 p.ranks d r) e ≡ at 0 p.ranks e) ⊎ ((e ≡ d) × (at 0 (put 0 p.ranks d r) e ≡ r) × (at 0 p.ranks e ≤ at 0 (put 0 p.ranks d r) e))
+    new_rank : (e : ℕ) → (e ≡ d) ⊎ (e ≢ d) → (at 0 (put 0 p.ranks d r) e ≡ at 0 p.ranks e)
+        ⊎ ((e ≡ d) × (at 0 (put 0 p.ranks d r) e ≡ r) × (at 0 p.ranks e ≤ at 0 (put 0 p.ranks d r) e))
     new_rank e (inr other) = inl (at-put-other 0 p.ranks d e r other)
     new_rank e (inl same) =
         let now : at 0 (put 0 p.ranks d r) e ≡ r = ap (at 0 (put 0 p.ranks d r)) same ∙ here in
@@ -106,8 +110,15 @@ module _ (s : Dimensions) (x : ProcessId) where
     same = core-refl p;
     sent = (
       (refl, subst IsData (sym name) tt, leader),
-      each-map (λ z. MaySend (DueTo x m) s.k p z.to z.message) (λ i. record { to = ParityNode i; message = tells.Mark session (rank 0) block (partition d) (replica_of p d).applied }) rows
-          (each-all (λ i. MaySend (DueTo x m) s.k p (ParityNode i) (tells.Mark session (rank 0) block (partition d) (replica_of p d).applied)) (λ i. (inside, seat, (λ above. absurd (omega (arith, above))), tt)) rows),
+      each-map (λ z. MaySend (DueTo x m) s.k p z.to z.message)
+          (λ i. record {
+            to = ParityNode i;
+            message = tells.Mark session (rank 0) block (partition d)
+                (replica_of p d).applied;
+          }) rows
+          (each-all (λ i. MaySend (DueTo x m) s.k p (ParityNode i)
+          (tells.Mark session (rank 0) block (partition d) (replica_of p d).applied))
+          (λ i. (inside, seat, (λ above. absurd (omega (arith, above))), tt)) rows),
     );
   }) where
     own : (d == d) ≡ true
@@ -123,14 +134,17 @@ module _ (s : Dimensions) (x : ProcessId) where
   MarksRow _ y = Unit {0}
 
   -- every message but a notice
-  pub received : (y : ProcessId) (m : Message) (p : Process) → is_notice m ≡ false → IsProcess s y → Seated s p y → MarksRow m y → Received s.k x m p (receive s x m p)
+  pub received : (y : ProcessId) (m : Message) (p : Process) → is_notice m ≡ false → IsProcess s y → Seated s p y
+      → MarksRow m y → Received s.k x m p (receive s x m p)
   received y (tells.Update r d u stable) p plain inside seated marks =
       by-step (tells.Update r d u stable) p (receive s x (tells.Update r d u stable) p)
       (step-when (DueTo x (tells.Update r d u stable)) s.k (nat_le (at 0 p.ranks d.0) r.0) p (ack_to x r.0 d.0 u.number (update_taken s d.0 u stable p))
       (record { same = record { name = refl; known = refl; ranks = refl; seats = λ e. refl }; sent = ((refl, refl, refl), tt) }))
   received y (tells.Stable r d n) p plain inside seated marks =
       by-step (tells.Stable r d n) p (receive s x (tells.Stable r d n) p)
-      (step-when (DueTo x (tells.Stable r d n)) s.k (nat_le (at 0 p.ranks d.0) r.0) p _ (step-quiet (DueTo x (tells.Stable r d n)) s.k p _ (record { name = refl; known = refl; ranks = refl; seats = λ e. refl })))
+      (step-when (DueTo x (tells.Stable r d n)) s.k (nat_le (at 0 p.ranks d.0) r.0) p _
+      (step-quiet (DueTo x (tells.Stable r d n)) s.k p _
+      (record { name = refl; known = refl; ranks = refl; seats = λ e. refl })))
   received y (tells.Adopt r d base list) p plain inside seated marks = adopted (nat_le (at 0 p.ranks d.0) r.0) p r.0 d.0 base list refl
   received y (tells.Ack r d n) p plain inside seated marks = from_ack x refl where
     from_ack : (z : ProcessId) → x ≡ z → Received s.k x (tells.Ack r d n) p (receive s z (tells.Ack r d n) p)
@@ -145,7 +159,8 @@ module _ (s : Dimensions) (x : ProcessId) where
     from_block (ParityNode i) = still (tells.Block session bytes n) p p (core-refl p)
   received y (tells.Mark session r block d n) p plain inside seated marks =
       by-step (tells.Mark session r block d n) p (receive s x (tells.Mark session r block d n) p)
-      (step-mark (DueTo x (tells.Mark session r block d n)) s.k s (parity_number session.leader) session.number r.0 block d.0 n p (subst IsParity (sym seated.name) marks))
+      (step-mark (DueTo x (tells.Mark session r block d n)) s.k s (parity_number session.leader) session.number r.0
+      block d.0 n p (subst IsParity (sym seated.name) marks))
   received y (tells.Row session bytes stamp) p plain inside seated marks = from_row x where
     from_row : (z : ProcessId) → Received s.k x (tells.Row session bytes stamp) p (receive s z (tells.Row session bytes stamp) p)
     from_row (DataNode e) = still (tells.Row session bytes stamp) p p (core-refl p)

@@ -75,7 +75,8 @@ pub data Moves (s : Dimensions) (v w : State) : Type 0 where
 -- a run begins in an opening state, and each event that may come makes a move
 pub record RunMoves (s : Dimensions) : Type 0 where
   pub opens : Opens s (state_of (no_history s))
-  pub moves : (es : List Event) (e : Event) → IsRun s es → MayCome (after s es) e → Moves s (state_of (history_of s es)) (state_of (prolonged (history_of s es) e))
+  pub moves : (es : List Event) (e : Event) → IsRun s es → MayCome (after s es) e
+      → Moves s (state_of (history_of s es)) (state_of (prolonged (history_of s es) e))
 
 -- so it is for every shape
 abbrev pub RunsMove : Type 0

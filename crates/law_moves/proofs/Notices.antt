@@ -1,5 +1,6 @@
 -- What a process makes of the notice of a death: it knows it, and sits where it should.
-use Rattle.std.proofs.Common.{ℕ, zero, suc, ◌≡◌, ◌≢◌, ◌<◌, ◌≤◌, ◌+◌, Bool, true, false, not, ◌&&◌, List, [], ◌∷◌, Option, Some, None, ◌⊎◌, inl, inr, refl, sym, ap, subst, ◌∙◌, arith}
+use Rattle.std.proofs.Common.{ℕ, zero, suc, ◌≡◌, ◌≢◌, ◌<◌, ◌≤◌, ◌+◌, Bool, true, false, not, ◌&&◌, List, [], ◌∷◌}
+use Rattle.std.proofs.Common.{Option, Some, None, ◌⊎◌, inl, inr, refl, sym, ap, subst, ◌∙◌, arith}
 use Rattle.std.proofs.lemmas.Bool.{cases_eq}
 use Rattle.std.specs.Prelude.{is_some, option_map}
 use Rattle.std.specs.List.{list_all, range_with_len}
@@ -20,7 +21,8 @@ use Rattle.group_run.specs.Receiving.{death_known, enthroned, notice_comes, take
 use Rattle.group_run.specs.Rows.{parity_number}
 use Rattle.law_moves.proofs.Members.{Sits, SitsWhen, knows_lower, seat_of}
 use Rattle.law_moves.proofs.Calls.{Owes, Seated}
-use Rattle.law_moves.proofs.Cores.{KeepsSeats, MaySend, SameCore, SentWell, Step, core-refl, sent-kept, sent-others, step-each, step-judge, step-quiet, step-then}
+use Rattle.law_moves.proofs.Cores.{KeepsSeats, MaySend, SameCore, SentWell, Step, core-refl, sent-kept, sent-others}
+use Rattle.law_moves.proofs.Cores.{step-each, step-judge, step-quiet, step-then}
 
 -- the others are known as before
 pub knows-other : (known : Membership) (x y : ProcessId) → y ≢ x → knows_dead (with_dead known x) y ≡ knows_dead known y
@@ -50,7 +52,8 @@ both false b e = cc e
 and-true : (a b : Bool) → a ≡ true → b ≡ true → (a && b) ≡ true
 and-true a b ea eb = ap (λ (x : Bool). x && b) ea ∙ eb
 
-pub all-still : (known : Membership) (x : ProcessId) (js : List ℕ) → list_all (λ j. knows_dead known (ParityNode j)) js ≡ true → list_all (λ j. knows_dead (with_dead known x) (ParityNode j)) js ≡ true
+pub all-still : (known : Membership) (x : ProcessId) (js : List ℕ) → list_all (λ j. knows_dead known (ParityNode j)) js
+    ≡ true → list_all (λ j. knows_dead (with_dead known x) (ParityNode j)) js ≡ true
 all-still known x [] all = refl
 all-still known x (j ∷ js) all =
     let parts = both (knows_dead known (ParityNode j)) (list_all (λ j. knows_dead known (ParityNode j)) js) all in
@@ -107,7 +110,15 @@ module _ (s : Dimensions) (i : ℕ) where
         assoc false b c = refl
 
   quiet-takes : (p : Process) (d : ℕ) → Took i p p d → TakesOver s i p (quiet p) d
-  quiet-takes p d took = record { name = refl; known = refl; here = took; others = λ e other. record { seat = refl; rank = refl }; keeps = record { name = refl; seats = λ e r sits. sits }; sent = tt }
+  quiet-takes p d took =
+      record {
+        name = refl;
+        known = refl;
+        here = took;
+        others = λ e other. record { seat = refl; rank = refl };
+        keeps = record { name = refl; seats = λ e r sits. sits };
+        sent = tt;
+      }
 
   -- a partition is taken over
   taken : (p : Process) (d : ℕ) → p.name ≡ ParityNode i → d < s.k → is_some (seat_of p d) ≡ false → (t : ProcessStep) → t ≡ taken_over s d p
@@ -115,7 +126,9 @@ module _ (s : Dimensions) (i : ℕ) where
       ((e : ℕ) → e ≢ d → Stays p t.process e) × SentWell Owes s.k t.process t.sent
   taken p d name below none t is =
       subst
-      (λ (y : ProcessStep). (y.process.name ≡ p.name) × (y.process.known ≡ p.known) × (seat_of y.process d ≡ Some (suc i)) × (at 0 y.process.ranks d ≡ suc i) × ((e : ℕ) → e ≢ d → Stays p y.process e) × SentWell Owes s.k y.process y.sent)
+      (λ (y : ProcessStep). (y.process.name ≡ p.name) × (y.process.known ≡ p.known)
+      × (seat_of y.process d ≡ Some (suc i)) × (at 0 y.process.ranks d ≡ suc i)
+      × ((e : ℕ) → e ≢ d → Stays p y.process e) × SentWell Owes s.k y.process y.sent)
       (sym is) made
     where
       r : ℕ
@@ -134,7 +147,10 @@ module _ (s : Dimensions) (i : ℕ) where
       rank_q = at-put 0 0 p.ranks d r ∙ rank_is
 
       other_q : (e : ℕ) → e ≢ d → Stays p q e
-      other_q e other = record { seat = ap (option_map (λ (y : Head). y.rank)) (at-put-other None p.heads d e _ other); rank = at-put-other 0 p.ranks d e r other }
+      other_q e other = record {
+        seat = ap (option_map (λ (y : Head). y.rank)) (at-put-other None p.heads d e _ other);
+        rank = at-put-other 0 p.ranks d e r other;
+      }
 
       m : Message
       m = tells.Adopt (rank r) (partition d) (replica_of p d).applied (replica_of p d).log
@@ -145,13 +161,19 @@ module _ (s : Dimensions) (i : ℕ) where
       whole : Step Owes s.k q (and_then (sending (to_others s p m) q) (judge s d))
       whole = step-then Owes s.k q (sending (to_others s p m) q) (judge s d) first (step-judge Owes s.k s d q)
 
-      made : ((taken_over s d p).process.name ≡ p.name) × ((taken_over s d p).process.known ≡ p.known) × (seat_of (taken_over s d p).process d ≡ Some (suc i)) × (at 0 (taken_over s d p).process.ranks d ≡ suc i) × ((e : ℕ) → e ≢ d → Stays p (taken_over s d p).process e) × SentWell Owes s.k (taken_over s d p).process (taken_over s d p).sent
+      made : ((taken_over s d p).process.name ≡ p.name) × ((taken_over s d p).process.known ≡ p.known)
+          × (seat_of (taken_over s d p).process d ≡ Some (suc i)) × (at 0 (taken_over s d p).process.ranks d ≡ suc i)
+          × ((e : ℕ) → e ≢ d → Stays p (taken_over s d p).process e) × SentWell Owes s.k (taken_over s d p).process
+          (taken_over s d p).sent
       made = (
         whole.same.name,
         whole.same.known,
         whole.same.seats d ∙ seat_q,
         ap (λ (ranks : List ℕ). at 0 ranks d) whole.same.ranks ∙ rank_q,
-        (λ e other. record { seat = whole.same.seats e ∙ (other_q e other).seat; rank = ap (λ (ranks : List ℕ). at 0 ranks e) whole.same.ranks ∙ (other_q e other).rank }),
+        (λ e other. record {
+          seat = whole.same.seats e ∙ (other_q e other).seat;
+          rank = ap (λ (ranks : List ℕ). at 0 ranks e) whole.same.ranks ∙ (other_q e other).rank;
+        }),
         whole.sent,
       )
 
@@ -162,7 +184,9 @@ module _ (s : Dimensions) (i : ℕ) where
     where
       by : (had lower : Bool) → is_some (seat_of p d) ≡ had → knows_lower p.known d i ≡ lower → TakesOver s i p (when (not had && lower) p (taken_over s d p)) d
       by true lower ishad islower =
-          quiet-takes p d (subst (λ (b : Bool). AfterTake b (knows_lower p.known d i) i (seat_of p d) (at 0 p.ranks d) (seat_of p d) (at 0 p.ranks d)) (sym ishad) (refl, refl))
+          quiet-takes p d
+          (subst (λ (b : Bool). AfterTake b (knows_lower p.known d i) i (seat_of p d) (at 0 p.ranks d) (seat_of p d)
+          (at 0 p.ranks d)) (sym ishad) (refl, refl))
       by false false ishad islower = quiet-takes p d
           (subst (λ (b : Bool). AfterTake b (knows_lower p.known d i) i (seat_of p d) (at 0 p.ranks d) (seat_of p d) (at 0 p.ranks d)) (sym ishad)
           (subst (λ (b : Bool). AfterTake false b i (seat_of p d) (at 0 p.ranks d) (seat_of p d) (at 0 p.ranks d)) (sym islower) (refl, refl)))
@@ -170,8 +194,11 @@ module _ (s : Dimensions) (i : ℕ) where
           let made = taken p d name below ishad (taken_over s d p) refl in record {
             name = made.0;
             known = made.1;
-            here = subst (λ (b : Bool). AfterTake b (knows_lower p.known d i) i (seat_of p d) (at 0 p.ranks d) (seat_of (taken_over s d p).process d) (at 0 (taken_over s d p).process.ranks d)) (sym ishad)
-                (subst (λ (b : Bool). AfterTake false b i (seat_of p d) (at 0 p.ranks d) (seat_of (taken_over s d p).process d) (at 0 (taken_over s d p).process.ranks d)) (sym islower) (made.2, made.3));
+            here = subst (λ (b : Bool). AfterTake b (knows_lower p.known d i) i (seat_of p d) (at 0 p.ranks d)
+                (seat_of (taken_over s d p).process d) (at 0 (taken_over s d p).process.ranks d)) (sym ishad)
+                (subst (λ (b : Bool). AfterTake false b i (seat_of p d) (at 0 p.ranks d)
+                (seat_of (taken_over s d p).process d) (at 0 (taken_over s d p).process.ranks d)) (sym islower)
+                (made.2, made.3));
             others = made.4;
             keeps = record { name = made.0; seats = λ e r sits. kept e r sits (cases_eq e d) };
             sent = made.5;
@@ -194,37 +221,54 @@ module _ (s : Dimensions) (i : ℕ) where
     pub sent : SentWell Owes s.k t.process t.sent
 
   pub takes-all : (n a : ℕ) (p : Process) → p.name ≡ ParityNode i → a + n ≤ s.k → TakesAll p (for_each (range_with_len a n) (take_over_if s) p) a n
-  takes-all zero a p name within = record { name = refl; known = refl; due = λ d low high. absurd (omega (arith, low, high)); before = λ d low. record { seat = refl; rank = refl }; keeps = record { name = refl; seats = λ e r sits. sits }; sent = tt }
-  takes-all (suc n) a p name within = joined (takes p a name (omega arith)) (takes-all n (a + 1) (take_over_if s a p).process ((takes p a name (omega arith)).name ∙ name) (omega arith)) where
-    t : ProcessStep
-    t = take_over_if s a p
+  takes-all zero a p name within =
+      record {
+        name = refl;
+        known = refl;
+        due = λ d low high. absurd (omega (arith, low, high));
+        before = λ d low. record { seat = refl; rank = refl };
+        keeps = record { name = refl; seats = λ e r sits. sits };
+        sent = tt;
+      }
+  takes-all (suc n) a p name within =
+      joined (takes p a name (omega arith))
+      (takes-all n (a + 1) (take_over_if s a p).process ((takes p a name (omega arith)).name ∙ name)
+      (omega arith)) where
+        t : ProcessStep
+        t = take_over_if s a p
 
-    rest : ProcessStep
-    rest = for_each (range_with_len (a + 1) n) (take_over_if s) t.process
+        rest : ProcessStep
+        rest = for_each (range_with_len (a + 1) n) (take_over_if s) t.process
 
-    joined : TakesOver s i p t a → TakesAll t.process rest (a + 1) n → TakesAll p (for_each (range_with_len a (suc n)) (take_over_if s) p) a (suc n)
-    joined first later = record {
-      name = later.name ∙ first.name;
-      known = later.known ∙ first.known;
-      due = λ d low high. due_at d low high (cases_eq d a);
-      before =
-          λ d low. let there = later.before d (omega (arith, low)) in let here = first.others d
-          (λ same. absurd (omega (arith, same, low))) in record { seat = there.seat ∙ here.seat; rank = there.rank ∙ here.rank };
-      keeps = record { name = later.keeps.name ∙ first.keeps.name; seats = λ e r sits. later.keeps.seats e r (first.keeps.seats e r sits) };
-      sent = each-append (λ z. MaySend Owes s.k rest.process z.to z.message) t.sent rest.sent (sent-kept Owes s.k t.process rest.process later.keeps t.sent first.sent) later.sent;
-    } where
-      due_at : (d : ℕ) → a ≤ d → d < a + suc n → (d ≡ a) ⊎ (d ≢ a) → Took i p rest.process d
-      due_at d low high (inl same) =
-          let there = later.before d (omega (arith, same)) in
-          let moved : Took i p t.process d = subst (λ (e : ℕ). Took i p t.process e) (sym same) first.here in
-          subst (λ (x : ℕ). AfterTake (is_some (seat_of p d)) (knows_lower p.known d i) i (seat_of p d) (at 0 p.ranks d) (seat_of rest.process d) x) (sym there.rank)
-          (subst (λ (x : Option ℕ). AfterTake (is_some (seat_of p d)) (knows_lower p.known d i) i (seat_of p d) (at 0 p.ranks d) x (at 0 t.process.ranks d)) (sym there.seat) moved)
-      due_at d low high (inr other) =
-          let here = first.others d other in
-          let took : Took i t.process rest.process d = later.due d (omega (arith, low, other)) (omega (arith, high)) in
-          subst (λ (x : ℕ). AfterTake (is_some (seat_of p d)) (knows_lower p.known d i) i (seat_of p d) x (seat_of rest.process d) (at 0 rest.process.ranks d)) here.rank
-          (subst (λ (known : Membership). AfterTake (is_some (seat_of p d)) (knows_lower known d i) i (seat_of p d) (at 0 t.process.ranks d) (seat_of rest.process d) (at 0 rest.process.ranks d)) first.known
-          (subst (λ (x : Option ℕ). AfterTake (is_some x) (knows_lower t.process.known d i) i x (at 0 t.process.ranks d) (seat_of rest.process d) (at 0 rest.process.ranks d)) here.seat took))
+        joined : TakesOver s i p t a → TakesAll t.process rest (a + 1) n → TakesAll p (for_each (range_with_len a (suc n)) (take_over_if s) p) a (suc n)
+        joined first later = record {
+          name = later.name ∙ first.name;
+          known = later.known ∙ first.known;
+          due = λ d low high. due_at d low high (cases_eq d a);
+          before =
+              λ d low. let there = later.before d (omega (arith, low)) in let here = first.others d
+              (λ same. absurd (omega (arith, same, low))) in record { seat = there.seat ∙ here.seat; rank = there.rank ∙ here.rank };
+          keeps = record { name = later.keeps.name ∙ first.keeps.name; seats = λ e r sits. later.keeps.seats e r (first.keeps.seats e r sits) };
+          sent = each-append (λ z. MaySend Owes s.k rest.process z.to z.message) t.sent rest.sent
+              (sent-kept Owes s.k t.process rest.process later.keeps t.sent first.sent) later.sent;
+        } where
+          due_at : (d : ℕ) → a ≤ d → d < a + suc n → (d ≡ a) ⊎ (d ≢ a) → Took i p rest.process d
+          due_at d low high (inl same) =
+              let there = later.before d (omega (arith, same)) in
+              let moved : Took i p t.process d = subst (λ (e : ℕ). Took i p t.process e) (sym same) first.here in
+              subst (λ (x : ℕ). AfterTake (is_some (seat_of p d)) (knows_lower p.known d i) i (seat_of p d) (at 0 p.ranks d)
+              (seat_of rest.process d) x) (sym there.rank)
+              (subst (λ (x : Option ℕ). AfterTake (is_some (seat_of p d)) (knows_lower p.known d i) i (seat_of p d)
+              (at 0 p.ranks d) x (at 0 t.process.ranks d)) (sym there.seat) moved)
+          due_at d low high (inr other) =
+              let here = first.others d other in
+              let took : Took i t.process rest.process d = later.due d (omega (arith, low, other)) (omega (arith, high)) in
+              subst (λ (x : ℕ). AfterTake (is_some (seat_of p d)) (knows_lower p.known d i) i (seat_of p d) x
+              (seat_of rest.process d) (at 0 rest.process.ranks d)) here.rank
+              (subst (λ (known : Membership). AfterTake (is_some (seat_of p d)) (knows_lower known d i) i (seat_of p d)
+              (at 0 t.process.ranks d) (seat_of rest.process d) (at 0 rest.process.ranks d)) first.known
+              (subst (λ (x : Option ℕ). AfterTake (is_some x) (knows_lower t.process.known d i) i x (at 0 t.process.ranks d)
+              (seat_of rest.process d) (at 0 rest.process.ranks d)) here.seat took))
 
 -- what a process is after a notice
 pub record Noticed (s : Dimensions) (dead : ProcessId) (p : Process) (t : ProcessStep) (y : ProcessId) : Type 0 where
@@ -254,7 +298,9 @@ module _ (s : Dimensions) (dead : ProcessId) (p : Process) where
   step-before =
       let closed : ProcessStep = close_sessions s known.as_leader.sessions known in
       step-then Owes s.k known closed (for_each (range_with_len 0 s.k) (judge s)) (step-close known.as_leader.sessions known)
-      (step-each Owes s.k (range_with_len 0 s.k) (judge s) closed.process (each-all (λ d. (q : Process) → SameCore closed.process q → Step Owes s.k q (judge s d q)) (λ d q same. step-judge Owes s.k s d q) (range_with_len 0 s.k)))
+      (step-each Owes s.k (range_with_len 0 s.k) (judge s) closed.process
+      (each-all (λ d. (q : Process) → SameCore closed.process q → Step Owes s.k q (judge s d q))
+      (λ d q same. step-judge Owes s.k s d q) (range_with_len 0 s.k)))
 
   -- the notice alone
   core-known : (x : ProcessId) → (death_known x p).name ≡ p.name
@@ -270,7 +316,12 @@ module _ (s : Dimensions) (dead : ProcessId) (p : Process) where
   stays-known (ParityNode e) d = record { seat = refl; rank = refl }
 
   stays-before : (d : ℕ) → Stays p before.process d
-  stays-before d = let here = stays-known dead d in record { seat = step-before.same.seats d ∙ here.seat; rank = ap (λ (ranks : List ℕ). at 0 ranks d) step-before.same.ranks ∙ here.rank }
+  stays-before d = let here = stays-known dead d in
+      record {
+        seat = step-before.same.seats d ∙ here.seat;
+        rank = ap (λ (ranks : List ℕ). at 0 ranks d)
+            step-before.same.ranks ∙ here.rank;
+      }
 
   name-before : before.process.name ≡ p.name
   name-before = step-before.same.name ∙ core-known dead
@@ -283,7 +334,8 @@ module _ (s : Dimensions) (dead : ProcessId) (p : Process) where
 
   -- a data process takes nothing over
   none-taken : (e : ℕ) (q : Process) → q.name ≡ DataNode e → (d : ℕ) → Step Owes s.k q (take_over_if s d q)
-  none-taken e q name d = subst (λ (b : Bool). Step Owes s.k q (when b q (taken_over s d q))) (sym (ap (takes_over q d) name)) (step-quiet Owes s.k q q (core-refl q))
+  none-taken e q name d = subst (λ (b : Bool). Step Owes s.k q (when b q (taken_over s d q)))
+      (sym (ap (takes_over q d) name)) (step-quiet Owes s.k q q (core-refl q))
 
   noticed_data : (e : ℕ) → Seated s p (DataNode e) → Noticed s dead p (notice_comes s dead p) (DataNode e)
   noticed_data e seated = record {
@@ -298,7 +350,8 @@ module _ (s : Dimensions) (dead : ProcessId) (p : Process) where
   } where
     whole : Step Owes s.k known (and_then before (for_each (range_with_len 0 s.k) (take_over_if s)))
     whole = step-then Owes s.k known before (for_each (range_with_len 0 s.k) (take_over_if s)) step-before
-        (step-each Owes s.k (range_with_len 0 s.k) (take_over_if s) before.process (each-all (λ d. (q : Process) → SameCore before.process q → Step Owes s.k q (take_over_if s d q))
+        (step-each Owes s.k (range_with_len 0 s.k) (take_over_if s) before.process
+        (each-all (λ d. (q : Process) → SameCore before.process q → Step Owes s.k q (take_over_if s d q))
         (λ d q same. none-taken e q (same.name ∙ name-before ∙ seated.name) d) (range_with_len 0 s.k)))
 
   noticed_parity : (i : ℕ) → Seated s p (ParityNode i) → Noticed s dead p (notice_comes s dead p) (ParityNode i)
@@ -308,7 +361,8 @@ module _ (s : Dimensions) (dead : ProcessId) (p : Process) where
     sits = sits_at;
     ranks = ranks_at;
     keeps = record { name = all.keeps.name ∙ name-before; seats = λ d r sits. all.keeps.seats d r (keeps-before.seats d r sits) };
-    sent = each-append (λ z. MaySend Owes s.k rest.process z.to z.message) before.sent rest.sent (sent-kept Owes s.k before.process rest.process all.keeps before.sent step-before.sent) all.sent;
+    sent = each-append (λ z. MaySend Owes s.k rest.process z.to z.message) before.sent rest.sent
+        (sent-kept Owes s.k before.process rest.process all.keeps before.sent step-before.sent) all.sent;
   } where
     rest : ProcessStep
     rest = for_each (range_with_len 0 s.k) (take_over_if s) before.process
@@ -319,12 +373,17 @@ module _ (s : Dimensions) (dead : ProcessId) (p : Process) where
     final : rest.process.known ≡ with_dead p.known dead
     final = all.known ∙ known-before
 
-    took : (d : ℕ) → d < s.k → AfterTake (is_some (seat_of p d)) (knows_lower (with_dead p.known dead) d i) i (seat_of p d) (at 0 p.ranks d) (seat_of rest.process d) (at 0 rest.process.ranks d)
+    took : (d : ℕ) → d < s.k → AfterTake (is_some (seat_of p d)) (knows_lower (with_dead p.known dead) d i) i
+        (seat_of p d) (at 0 p.ranks d) (seat_of rest.process d) (at 0 rest.process.ranks d)
     took d below =
         let here = stays-before d in
-        subst (λ (x : ℕ). AfterTake (is_some (seat_of p d)) (knows_lower (with_dead p.known dead) d i) i (seat_of p d) x (seat_of rest.process d) (at 0 rest.process.ranks d)) here.rank
-        (subst (λ (x : Membership). AfterTake (is_some (seat_of p d)) (knows_lower x d i) i (seat_of p d) (at 0 before.process.ranks d) (seat_of rest.process d) (at 0 rest.process.ranks d)) known-before
-        (subst (λ (x : Option ℕ). AfterTake (is_some x) (knows_lower before.process.known d i) i x (at 0 before.process.ranks d) (seat_of rest.process d) (at 0 rest.process.ranks d)) here.seat (all.due d (omega arith) (omega (arith, below)))))
+        subst (λ (x : ℕ). AfterTake (is_some (seat_of p d)) (knows_lower (with_dead p.known dead) d i) i (seat_of p d) x
+        (seat_of rest.process d) (at 0 rest.process.ranks d)) here.rank
+        (subst (λ (x : Membership). AfterTake (is_some (seat_of p d)) (knows_lower x d i) i (seat_of p d)
+        (at 0 before.process.ranks d) (seat_of rest.process d) (at 0 rest.process.ranks d)) known-before
+        (subst (λ (x : Option ℕ). AfterTake (is_some x) (knows_lower before.process.known d i) i x
+        (at 0 before.process.ranks d) (seat_of rest.process d) (at 0 rest.process.ranks d)) here.seat
+        (all.due d (omega arith) (omega (arith, below)))))
 
     -- by who is known dead before and after, and by the seat before
     sits_by : (d : ℕ) (old new : Bool) → (old ≡ true → new ≡ true) → SitsWhen old i (seat_of p d) (at 0 p.ranks d)
@@ -334,7 +393,9 @@ module _ (s : Dimensions) (dead : ProcessId) (p : Process) where
         let moved : AfterTake true new i (seat_of p d) (at 0 p.ranks d) (seat_of rest.process d) (at 0 rest.process.ranks d) = subst
         (λ (x : Option ℕ). AfterTake (is_some x) new i (seat_of p d) (at 0 p.ranks d) (seat_of rest.process d) (at 0 rest.process.ranks d)) sits.0 after in
         subst (λ (b : Bool). SitsWhen b i (seat_of rest.process d) (at 0 rest.process.ranks d)) (sym (rises refl)) (moved.0 ∙ sits.0, moved.1 ∙ sits.1)
-    sits_by d false true rises sits after = subst (λ (x : Option ℕ). AfterTake (is_some x) true i (seat_of p d) (at 0 p.ranks d) (seat_of rest.process d) (at 0 rest.process.ranks d)) sits.0 after
+    sits_by d false true rises sits after =
+        subst (λ (x : Option ℕ). AfterTake (is_some x) true i (seat_of p d) (at 0 p.ranks d) (seat_of rest.process d)
+        (at 0 rest.process.ranks d)) sits.0 after
     sits_by d false false rises sits after =
         let moved : AfterTake false false i (seat_of p d) (at 0 p.ranks d) (seat_of rest.process d) (at 0 rest.process.ranks d) = subst
         (λ (x : Option ℕ). AfterTake (is_some x) false i (seat_of p d) (at 0 p.ranks d) (seat_of rest.process d) (at 0 rest.process.ranks d)) sits.0 after in

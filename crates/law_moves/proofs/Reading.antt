@@ -1,5 +1,6 @@
 -- What is read of nodes and links after one of them changed.
-use Rattle.std.proofs.Common.{ℕ, ◌≡◌, ◌≢◌, ◌+◌, Bool, false, List, [], ◌∷◌, ◌++◌, length, take, map, if◌then◌else◌, refl, sym, ap, ◌∙◌, arith, Option, Some, None}
+use Rattle.std.proofs.Common.{ℕ, ◌≡◌, ◌≢◌, ◌+◌, Bool, false, List, [], ◌∷◌, ◌++◌, length, take, map, if◌then◌else◌}
+use Rattle.std.proofs.Common.{refl, sym, ap, ◌∙◌, arith, Option, Some, None}
 use Rattle.std.proofs.lemmas.List.{append-nil}
 use Rattle.std.specs.List.{range_with_len}
 use Rattle.group_types.specs.Dimensions.{Dimensions}
@@ -29,9 +30,11 @@ module _ (s : Dimensions) (nodes : List Node) where
   node-here p node = at-put (opening_node s p) (opening_node s p) nodes (index_of s p) node
 
   -- the nodes of the others
-  pub node-other : (p q : ProcessId) (node : Node) → IsProcess s p → IsProcess s q → q ≢ p → length nodes ≡ s.k + s.m → node_in s (with_node s p node nodes) q ≡ node_in s nodes q
+  pub node-other : (p q : ProcessId) (node : Node) → IsProcess s p → IsProcess s q → q ≢ p → length nodes ≡ s.k + s.m
+      → node_in s (with_node s p node nodes) q ≡ node_in s nodes q
   node-other p q node pin qin other size =
-      at-put-within (opening_node s q) (opening_node s p) nodes (index_of s p) (index_of s q) node (index-apart s p q pin qin other) (let low = index-below s q qin in omega arith)
+      at-put-within (opening_node s q) (opening_node s p) nodes (index_of s p) (index_of s q) node
+      (index-apart s p q pin qin other) (let low = index-below s q qin in omega arith)
 
   -- the nodes where one was put back
   pub node-back : (p : ProcessId) → IsProcess s p → length nodes ≡ s.k + s.m → with_node s p (node_in s nodes p) nodes ≡ nodes
@@ -41,7 +44,8 @@ module _ (s : Dimensions) (nodes : List Node) where
   size-with_node p node pin size = length-put (opening_node s p) nodes (index_of s p) node (let low = index-below s p pin in omega arith) ∙ size
 
 -- what is made for each index, read at a process
-pub at-indices : {X : Type 0} (s : Dimensions) (d : X) (f : ℕ → X) (q : ProcessId) → IsProcess s q → at d (map f (range_with_len 0 (s.k + s.m))) (index_of s q) ≡ f (index_of s q)
+pub at-indices : {X : Type 0} (s : Dimensions) (d : X) (f : ℕ → X) (q : ProcessId) → IsProcess s q
+    → at d (map f (range_with_len 0 (s.k + s.m))) (index_of s q) ≡ f (index_of s q)
 at-indices s d f q qin = at-map-range d f (s.k + s.m) 0 (index_of s q) (index-below s q qin) ∙ ap f (omega arith)
 
 -- the link to a process, after messages were sent
@@ -52,7 +56,8 @@ link-sent s known sent links q qin =
     ∙ ap (λ (x : ProcessId). link_after (knows_dead known x) (at [] links (index_of s q)) (sent_to x sent)) (process_at-index s q qin)
 
 -- to one that isn't known to be dead they stand behind
-pub link-living : (s : Dimensions) (known : Membership) (sent : List Sent) (links : List (List Message)) (q : ProcessId) → IsProcess s q → knows_dead known q ≡ false
+pub link-living : (s : Dimensions) (known : Membership) (sent : List Sent) (links : List (List Message)) (q : ProcessId)
+    → IsProcess s q → knows_dead known q ≡ false
     → at [] (links_after s known sent links) (index_of s q) ≡ at [] links (index_of s q) ++ sent_to q sent
 link-living s known sent links q qin living =
     link-sent s known sent links q qin

@@ -22,7 +22,8 @@ use Rattle.law_moves.proofs.State.{Opens}
 use Rattle.law_moves.proofs.Events.{Comes, FramedHistory, event_comes}
 use Rattle.law_moves.proofs.Reading.{at-indices}
 
-node-opening : (s : Dimensions) (p : ProcessId) → IsProcess s p → node_in s (map (λ x. opening_node s (process_at s x)) (range_with_len 0 (s.k + s.m))) p ≡ opening_node s p
+node-opening : (s : Dimensions) (p : ProcessId) → IsProcess s p
+    → node_in s (map (λ x. opening_node s (process_at s x)) (range_with_len 0 (s.k + s.m))) p ≡ opening_node s p
 node-opening s p pin = at-indices s (opening_node s p) (λ x. opening_node s (process_at s x)) p pin ∙ ap (opening_node s) (process_at-index s p pin)
 
 none-dead : (s : Dimensions) (xs : List ℕ) → count_dead (map (λ (n : Node). n.dead) (map (λ x. opening_node s (process_at s x)) xs)) ≡ 0
@@ -66,7 +67,8 @@ runs_move s = record {
   moves = λ es e run may.
       let h : History = history_of s es in
       let may_come : MayCome h.world e = subst (λ (w : World). MayCome w e) (sym (world-from (no_history s) es)) may in
-      let move : Moves h.world.shape (state_of h) (state_of (prolonged h e)) = (event_comes h e (framed-from (no_history s) es (framed-opening s) run.1) may_come).move in
+      let move : Moves h.world.shape (state_of h) (state_of (prolonged h e)) =
+      (event_comes h e (framed-from (no_history s) es (framed-opening s) run.1) may_come).move in
       subst (λ (t : Dimensions). Moves t (state_of h) (state_of (prolonged h e))) (shape-from (no_history s) es) move;
 }
 
@@ -82,7 +84,8 @@ module _ (s : Dimensions) (P : State → Type 0) (keeps : Keeps s P) where
   kept-from h [] shape framed run holds = holds
   kept-from h (e ∷ es) shape framed run holds =
       let comes : Comes h.world.shape h.world.nodes h.settled framed (prolonged h e).world.nodes (prolonged h e).settled = event_comes h e framed run.0 in
-      let move : Moves s (state_of h) (state_of (prolonged h e)) = subst (λ (t : Dimensions). Moves t (state_of h) (state_of (prolonged h e))) shape comes.move in
+      let move : Moves s (state_of h) (state_of (prolonged h e)) =
+      subst (λ (t : Dimensions). Moves t (state_of h) (state_of (prolonged h e))) shape comes.move in
       kept-from (prolonged h e) es shape comes.frame run.1 (kept (state_of h) (state_of (prolonged h e)) move holds)
 
   -- a sentence that every move keeps holds along every run

@@ -20,7 +20,8 @@ each-sent_to P q (z ∷ zs) a = by (same_process z.to q) refl (each-sent_to P q 
   by false other rest = rest
 
 -- a message that isn't a notice is taken out of a link
-pub stands-popped : (x : ProcessId) (dead known : Bool) (m : Message) (rest : List Message) → is_notice m ≡ false → Stands x dead known (m ∷ rest) → Stands x dead known rest
+pub stands-popped : (x : ProcessId) (dead known : Bool) (m : Message) (rest : List Message) → is_notice m ≡ false
+    → Stands x dead known (m ∷ rest) → Stands x dead known rest
 stands-popped x false false m rest plain stands = stands.1
 stands-popped x false true m rest plain stands = absurd stands
 stands-popped x true true m rest plain stands = absurd (cc stands)

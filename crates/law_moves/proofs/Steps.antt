@@ -14,7 +14,8 @@ use Rattle.group_run.specs.Applying.{ProcessStep}
 use Rattle.group_run.specs.History.{settled_with}
 use Rattle.group_run.specs.Process.{Node}
 use Rattle.group_run.specs.Receiving.{receive}
-use Rattle.group_run.specs.World.{link_emptied, links_after, node_after, node_failed, node_in, opening_node, nodes_told, dead_nodes, sent_to, with_down, with_link, with_node}
+use Rattle.group_run.specs.World.{link_emptied, links_after, node_after, node_failed, node_in, opening_node, nodes_told}
+use Rattle.group_run.specs.World.{dead_nodes, sent_to, with_down, with_link, with_node}
 use Rattle.law_moves.proofs.Moves.{Acted, Popped, Died}
 use Rattle.law_moves.specs.State.{state_from}
 use Rattle.law_moves.proofs.Known.{known-notice, knows-with_dead}
@@ -24,7 +25,8 @@ use Rattle.law_moves.proofs.Reading.{index-apart, link-cut, link-living, link-ot
 pub record NodeActs (s : Dimensions) (old new : Node) (t : ProcessStep) : Type 0 where
   pub process : new.process ≡ t.process
   pub dead : new.dead ≡ old.dead
-  pub sends : (q : ProcessId) → IsProcess s q → knows_dead t.process.known q ≡ false → at [] new.links (index_of s q) ≡ at [] old.links (index_of s q) ++ sent_to q t.sent
+  pub sends : (q : ProcessId) → IsProcess s q → knows_dead t.process.known q ≡ false → at [] new.links (index_of s q)
+      ≡ at [] old.links (index_of s q) ++ sent_to q t.sent
 
 pub node_acts : (s : Dimensions) (t : ProcessStep) (node : Node) → NodeActs s node (node_after s t node) t
 node_acts s t node = record {
@@ -34,13 +36,16 @@ node_acts s t node = record {
 }
 
 -- whoever isn't known to be dead after a notice isn't the one that it names
-not_the_dead : (s : Dimensions) (x dead : ProcessId) (node : Node) (q : ProcessId) → knows_dead (receive s x (tells.Notice dead) node.process).process.known q ≡ false → q ≢ dead
+not_the_dead : (s : Dimensions) (x dead : ProcessId) (node : Node) (q : ProcessId)
+    → knows_dead (receive s x (tells.Notice dead) node.process).process.known q ≡ false → q ≢ dead
 not_the_dead s x dead node q living same =
     let knows : knows_dead (receive s x (tells.Notice dead) node.process).process.known q ≡ true =
-    ap (λ (known : Membership). knows_dead known q) (known-notice s dead node.process) ∙ ap (knows_dead (with_dead node.process.known dead)) same ∙ knows-with_dead node.process.known dead in
+    ap (λ (known : Membership). knows_dead known q) (known-notice s dead node.process)
+    ∙ ap (knows_dead (with_dead node.process.known dead)) same ∙ knows-with_dead node.process.known dead in
     cc (living, knows)
 
-pub node_receives : (s : Dimensions) (x : ProcessId) (m : Message) (node : Node) → NodeActs s node (link_emptied s m (node_after s (receive s x m node.process) node)) (receive s x m node.process)
+pub node_receives : (s : Dimensions) (x : ProcessId) (m : Message) (node : Node)
+    → NodeActs s node (link_emptied s m (node_after s (receive s x m node.process) node)) (receive s x m node.process)
 node_receives s x (tells.Notice dead) node =
     let t : ProcessStep = receive s x (tells.Notice dead) node.process in record {
       process = refl;

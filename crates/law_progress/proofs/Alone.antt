@@ -29,7 +29,8 @@ Alone s v = (p : ProcessId) → IsProcess s p → v.dead p ≡ false → v.link 
 
 module _ (s : Dimensions) where
   -- a process that sends to others alone acts
-  acted-alone : (v w : State) (p : ProcessId) (t : ProcessStep) → IsProcess s p → Acted s v w p t → knows_dead t.process.known p ≡ false → Others p t.sent → Alone s v → Alone s w
+  acted-alone : (v w : State) (p : ProcessId) (t : ProcessStep) → IsProcess s p → Acted s v w p t
+      → knows_dead t.process.known p ≡ false → Others p t.sent → Alone s v → Alone s w
   acted-alone v w p t pin acts unknown others alone q qin lives = by (same-cases q p) where
     lived : v.dead q ≡ false
     lived = sym (acts.dead q qin) ∙ lives
@@ -47,15 +48,19 @@ module _ (s : Dimensions) where
     by (inl same) = inr (λ is. apart (sym same ∙ is))
 
   -- the members after a step say that the process doesn't take itself for dead
-  unknown-self : (v w : State) (p : ProcessId) (t : ProcessStep) → IsProcess s p → v.dead p ≡ false → Acted s v w p t → Members s w → knows_dead t.process.known p ≡ false
+  unknown-self : (v w : State) (p : ProcessId) (t : ProcessStep) → IsProcess s p → v.dead p ≡ false → Acted s v w p t
+      → Members s w → knows_dead t.process.known p ≡ false
   unknown-self v w p t pin lives acts after = ap (λ (q : Process). knows_dead q.known p) (sym acts.process) ∙ after.not_self p pin (acts.dead p pin ∙ lives)
 
   keeps-alone : IsShape s → Keeps s (λ v. Members s v × Alone s v)
   keeps-alone shaped = record {
     opens = λ v starts. ((members.keeps s shaped).opens v starts, λ p pin lives. starts.links p p pin pin);
     treats = λ v w p t pin up lives treats both acts.
-        let after = (members.keeps s shaped).treats v w p t pin up lives treats both.0 acts in
-        (after, acted-alone v w p t pin acts (unknown-self v w p t pin lives acts after) (treated-out p s (v.process p) t (both.0.named p pin) treats).others both.1);
+        let after = (members.keeps s shaped).treats v w p t pin up lives treats both.0 acts in (
+          after,
+          acted-alone v w p t pin acts (unknown-self v w p t pin lives acts after)
+              (treated-out p s (v.process p) t (both.0.named p pin) treats).others both.1,
+        );
     receives = λ v u w x p m xin pin apart up lives both pops acts.
         let after = (members.keeps s shaped).receives v u w x p m xin pin apart up lives both.0 pops acts in
         let may = subst (Each (MayStand s v x p)) pops.first (both.0.may x p xin pin apart lives) in (
@@ -65,7 +70,8 @@ module _ (s : Dimensions) where
         );
     dies = λ v w p keep pin both died. (
       (members.keeps s shaped).dies v w p keep pin both.0 died,
-      λ q qin lives. by v w p q (died.dead) lives (λ other. died.links q q qin qin other ∙ both.1 q qin (sym (died.others q qin other) ∙ lives)) (same-cases q p),
+      λ q qin lives. by v w p q (died.dead) lives (λ other. died.links q q qin qin other
+          ∙ both.1 q qin (sym (died.others q qin other) ∙ lives)) (same-cases q p),
     );
   } where
     by : (v w : State) (p q : ProcessId) → w.dead p ≡ true → w.dead q ≡ false → (q ≢ p → w.link q q ≡ []) → (q ≡ p) ⊎ (q ≢ p) → w.link q q ≡ []

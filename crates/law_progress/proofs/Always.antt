@@ -17,7 +17,8 @@ use Rattle.group_run.specs.History.{History, history_of, no_history}
 use Rattle.group_run.specs.Process.{Node}
 use Rattle.group_run.specs.Progress.{DeliveryLowers}
 use Rattle.group_run.specs.Receiving.{receive}
-use Rattle.group_run.specs.World.{DeliveryStep, World, delivered, link_emptied, node_after, node_in, node_of, opening, sent_to, step, with_link, with_node, world_after}
+use Rattle.group_run.specs.World.{DeliveryStep, World, delivered, link_emptied, node_after, node_in, node_of, opening}
+use Rattle.group_run.specs.World.{sent_to, step, with_link, with_node, world_after}
 use Rattle.law_moves.proofs.Events.{emptied-dead}
 use Rattle.law_moves.specs.State.{state_from, state_of}
 use Rattle.law_moves.proofs.Events.{FramedHistory}
@@ -37,7 +38,8 @@ use Rattle.law_progress.proofs.Sending.{FewRows, receive-sends}
 module _ (s : Dimensions) (shaped : IsShape s) (nodes : List Node) (size : length nodes ≡ s.k + s.m) where
   -- a delivery with which a message comes
   delivery-lowers : (x p : ProcessId) → IsProcess s x → IsProcess s p → x ≢ p → (down dead : Bool) → (node_in s nodes p).dead ≡ dead
-      → (link : List Message) → at [] (node_in s nodes x).links (index_of s p) ≡ link → ((m : Message) (rest : List Message) → dead ≡ false → link ≡ m ∷ rest → FewRows m)
+      → (link : List Message) → at [] (node_in s nodes x).links (index_of s p) ≡ link
+      → ((m : Message) (rest : List Message) → dead ≡ false → link ≡ m ∷ rest → FewRows m)
       → (delivered down dead s x p (node_in s nodes x) (node_in s nodes p) link).receiver.answer ≡ says.Done
       → let b : DeliveryStep = delivered down dead s x p (node_in s nodes x) (node_in s nodes p) link in
       way_of s (state_from s (with_node s p b.receiver.node (with_node s x b.sender nodes)) []) < way_of s (state_from s nodes [])
@@ -67,7 +69,8 @@ module _ (s : Dimensions) (shaped : IsShape s) (nodes : List Node) (size : lengt
       stays = node-other s nodes x p (with_link s p rest (node_in s nodes x)) xin pin (λ same. apart (sym same)) size
 
       adds : Adds s (state_from s left []) (state_from s (with_node s p received left) []) p (λ q. weights (sent_to q turn.sent))
-      adds = node-adds s left p received (λ q. weights (sent_to q turn.sent)) many pin (emptied-dead s m (node_after s turn (node_in s nodes p)) ∙ ap (λ (n : Node). n.dead) (sym stays))
+      adds = node-adds s left p received (λ q. weights (sent_to q turn.sent)) many pin
+          (emptied-dead s m (node_after s turn (node_in s nodes p)) ∙ ap (λ (n : Node). n.dead) (sym stays))
           (λ q qin.
           let before = ap (λ (n : Node). weights (at [] n.links (index_of s q))) stays in
           let less = received-weighs s m turn (node_in s nodes p) q qin in
@@ -75,7 +78,8 @@ module _ (s : Dimensions) (shaped : IsShape s) (nodes : List Node) (size : lengt
 
 -- the questions for blocks that are on their way to the living name few rows
 few-from : (s : Dimensions) → IsShape s → (x : ProcessId) (m : Message) → Sound s x m → FewRows m
-few-from s shaped x (tells.ReadBlock session block rows) sound = let few = differ-below s.m rows sound.in_group sound.differ in let most = shaped.m in omega (arith, few, most)
+few-from s shaped x (tells.ReadBlock session block rows) sound = let few =
+    differ-below s.m rows sound.in_group sound.differ in let most = shaped.m in omega (arith, few, most)
 few-from s shaped x (tells.Update r d u stable) sound = tt
 few-from s shaped x (tells.Ack r d n) sound = tt
 few-from s shaped x (tells.Stable r d n) sound = tt
@@ -89,18 +93,23 @@ few-from s shaped x (tells.Notice dead) sound = tt
 -- in a group of which the messages are sound
 group-lowers : (h : History) → IsShape h.world.shape → FramedHistory h → LinksSound h.world.shape (state_of h) → DeliveryLowers h.world
 group-lowers h shaped framed sound from to may done =
-    let less = delivery-lowers h.world.shape shaped h.world.nodes framed.nodes_many from to may.0 may.1 may.2 (node_of h.world to).down (node_of h.world to).dead refl
+    let less = delivery-lowers h.world.shape shaped h.world.nodes framed.nodes_many from to may.0 may.1 may.2
+    (node_of h.world to).down (node_of h.world to).dead refl
     (at [] (node_of h.world from).links (index_of h.world.shape to)) refl few done in
     let before = load-is h.world in
     let after = load-is (step h.world (Deliver from to)).world in
     omega (arith, less, before, after)
   where
-    few : (m : Message) (rest : List Message) → (node_of h.world to).dead ≡ false → at [] (node_of h.world from).links (index_of h.world.shape to) ≡ m ∷ rest → FewRows m
-    few m rest lives first = few-from h.world.shape shaped from m (subst (Each (Sound h.world.shape from)) first (sound.links from to may.0 may.1 may.2 lives)).0
+    few : (m : Message) (rest : List Message) → (node_of h.world to).dead ≡ false
+        → at [] (node_of h.world from).links (index_of h.world.shape to) ≡ m ∷ rest → FewRows m
+    few m rest lives first =
+        few-from h.world.shape shaped from m
+        (subst (Each (Sound h.world.shape from)) first (sound.links from to may.0 may.1 may.2 lives)).0
 
 pub deliveries_lower : LowersAlways
 deliveries_lower s es run = subst DeliveryLowers (world-from (no_history s) es)
-    (group-lowers h (subst IsShape (sym shape) run.0) (framed-from (no_history s) es (framed-opening s) run.1) (subst (λ (t : Dimensions). LinksSound t (state_of h)) (sym shape) sound))
+    (group-lowers h (subst IsShape (sym shape) run.0) (framed-from (no_history s) es (framed-opening s) run.1)
+    (subst (λ (t : Dimensions). LinksSound t (state_of h)) (sym shape) sound))
   where
     h : History
     h = history_of s es
@@ -124,7 +133,8 @@ ends w always (Fail p keep ∷ es) run all = absurd all.0
 ends w always (Flush p ∷ es) run all = absurd all.0
 ends w always (Trace caller call d p ∷ es) run all = absurd all.0
 
-ends-after : (w : World) → ((gs : List Event) → IsRunFrom w gs → DeliveryLowers (world_after w gs)) → (es : List Event) → IsRunFrom w es → DrainsEnd (world_after w es)
+ends-after : (w : World) → ((gs : List Event) → IsRunFrom w gs → DeliveryLowers (world_after w gs)) → (es : List Event)
+    → IsRunFrom w es → DrainsEnd (world_after w es)
 ends-after w always [] run = ends w always
 ends-after w always (e ∷ es) run = ends-after (step w e).world (λ gs more. always (e ∷ gs) (run.0, more)) es run.1
 

@@ -28,13 +28,15 @@ module _ (s : Dimensions) (v : State) (starts : Opens s v) where
   pub began : Ending s v
   began = record {
     waited = record {
-      rows = λ l n r d lin rin low l_lives r_lives wants may. absurd (subst (λ (y : Process). WantsRow r (opened y n)) (starts.process (ParityNode l) lin) wants);
+      rows = λ l n r d lin rin low l_lives r_lives wants may.
+          absurd (subst (λ (y : Process). WantsRow r (opened y n)) (starts.process (ParityNode l) lin) wants);
       blocks = λ l n d lin low l_lives d_lives wants. absurd (subst (λ (y : Process). WantsBlock d (opened y n)) (starts.process (ParityNode l) lin) wants);
     };
     rows = λ p pin lives. began-rows p pin;
     leaders = λ p pin lives. began-leaders p pin;
     ceased = λ l r n lin rin l_lives r_lives fresh. (
-      subst (λ (y : Process). at 0 y.as_row.ceased l < n) (sym (starts.process (ParityNode r) rin)) (zero-below l n (subst (λ (y : Process). Fresh y n) (starts.process (ParityNode l) lin) fresh)),
+      subst (λ (y : Process). at 0 y.as_row.ceased l < n) (sym (starts.process (ParityNode r) rin))
+          (zero-below l n (subst (λ (y : Process). Fresh y n) (starts.process (ParityNode l) lin) fresh)),
       λ apart. subst (Each (Leaves n)) (sym (starts.links (ParityNode l) (ParityNode r) lin rin)) tt,
     );
     pends = λ l n r lin rin l_lives r_lives pend. absurd (nothing_pends l n r lin rin pend);

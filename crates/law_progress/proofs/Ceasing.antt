@@ -1,5 +1,6 @@
 -- What a process makes of a close notice.
-use Rattle.std.proofs.Common.{◌≡◌, ◌≢◌, ℕ, ◌<◌, ◌≤◌, ◌==◌, ◌&&◌, nat_le, max, Bool, true, false, not, List, [], ◌∷◌, is_some, None, option_map, ◌⊎◌, inl, inr, refl, sym, ap, ap₂, subst, ◌∙◌, arith}
+use Rattle.std.proofs.Common.{◌≡◌, ◌≢◌, ℕ, ◌<◌, ◌≤◌, ◌==◌, ◌&&◌, nat_le, max, Bool, true, false, not, List, [], ◌∷◌}
+use Rattle.std.proofs.Common.{is_some, None, option_map, ◌⊎◌, inl, inr, refl, sym, ap, ap₂, subst, ◌∙◌, arith}
 use Rattle.std.proofs.lemmas.Bool.{cases_eq, cases_lt, eq-eqb, ne_eqb}
 use Rattle.std.proofs.lemmas.Grind.{common_steps}
 use Rattle.group_types.specs.Dimensions.{Dimensions}
@@ -15,7 +16,9 @@ use Rattle.law_bytes.proofs.Finding.{found-filter}
 use Rattle.law_bytes.proofs.Local.{copy-parts}
 use Rattle.law_progress.proofs.Waiting.{Has, Marked, marks_in}
 use Rattle.law_progress.proofs.Sides as sides
-use Rattle.law_progress.proofs.Sides.{After, Calm, CalmSent, CopyFine, Fair, Fresh, IsCease, LeaderFine, LeaderSide, Leaves, NoMore, RowFine, RowSide, SentSide, calm-ask, calm-leaves, calm-mark, calm-none, calm-sent, leaves-each, opened, same-leader}
+use Rattle.law_progress.proofs.Sides.{After, Calm, CalmSent, CopyFine, Fair, Fresh, IsCease, LeaderFine, LeaderSide}
+use Rattle.law_progress.proofs.Sides.{Leaves, NoMore, RowFine, RowSide, SentSide, calm-ask, calm-leaves, calm-mark}
+use Rattle.law_progress.proofs.Sides.{calm-none, calm-sent, leaves-each, opened, same-leader}
 use Rattle.law_progress.proofs.Taking.{nothing, parity-one}
 
 -- a session of a leader up to a number
@@ -72,7 +75,13 @@ module _ (i upto : ℕ) (p : Process) where
 
     by : ((l ≡ i) × (n ≤ upto)) ⊎ (not (l == i && nat_le n upto) ≡ true × (l ≡ i → upto < n))
         → ((l ≡ i) × (n ≤ upto) × (marks_in without l n ≡ None)) ⊎ ((marks_in without l n ≡ marks_in p l n) × (l ≡ i → upto < n))
-    by (inr both) = inr (ap (option_map (λ c. c.marks)) (found-filter (is_copy l n) (λ c. not (c.leader == i && nat_le c.number upto)) true p.as_row.copies (λ c is. same c is ∙ both.0)), both.1)
+    by (inr both) =
+        inr (
+          ap (option_map (λ c. c.marks))
+              (found-filter (is_copy l n) (λ c. not (c.leader == i && nat_le c.number upto)) true p.as_row.copies
+              (λ c is. same c is ∙ both.0)),
+          both.1,
+        )
     by (inl both) =
         let low : nat_le n upto ≡ true = le-test n upto both.1 in
         inl (
@@ -88,13 +97,17 @@ module _ (i upto : ℕ) (p : Process) where
   -- so are marks in it
   pub marked-left : (l n e : ℕ) → Marked e (marks_in p l n) → Marked e (marks_in without l n) ⊎ (n ≤ at 0 without.as_row.ceased l)
   marked-left l n e held = by (marks-left l n) where
-    by : ((l ≡ i) × (n ≤ upto) × (marks_in without l n ≡ None)) ⊎ ((marks_in without l n ≡ marks_in p l n) × (l ≡ i → upto < n)) → Marked e (marks_in without l n) ⊎ (n ≤ at 0 without.as_row.ceased l)
+    by : ((l ≡ i) × (n ≤ upto) × (marks_in without l n ≡ None))
+        ⊎ ((marks_in without l n ≡ marks_in p l n) × (l ≡ i → upto < n)) → Marked e (marks_in without l n)
+        ⊎ (n ≤ at 0 without.as_row.ceased l)
     by (inr same) = inl (subst (Marked e) (sym same.0) held)
-    by (inl gone) = inr (let own = ceased-own in let low = gone.1 in let here : at 0 without.as_row.ceased l ≡ at 0 without.as_row.ceased i = ap (at 0 without.as_row.ceased) gone.0 in omega (arith, own, low, here))
+    by (inl gone) = inr (let own = ceased-own in let low = gone.1 in let here : at 0 without.as_row.ceased l
+        ≡ at 0 without.as_row.ceased i = ap (at 0 without.as_row.ceased) gone.0 in omega (arith, own, low, here))
 
   pub some-left : (l n : ℕ) → is_some (marks_in without l n) ≡ true → is_some (marks_in p l n) ≡ true
   some-left l n some = by (marks-left l n) where
-    by : ((l ≡ i) × (n ≤ upto) × (marks_in without l n ≡ None)) ⊎ ((marks_in without l n ≡ marks_in p l n) × (l ≡ i → upto < n)) → is_some (marks_in p l n) ≡ true
+    by : ((l ≡ i) × (n ≤ upto) × (marks_in without l n ≡ None))
+        ⊎ ((marks_in without l n ≡ marks_in p l n) × (l ≡ i → upto < n)) → is_some (marks_in p l n) ≡ true
     by (inr same) = ap is_some (sym same.0) ∙ some
     by (inl gone) = cc (sym (ap is_some gone.2) ∙ some)
 
@@ -111,7 +124,8 @@ module _ (s : Dimensions) (i : ℕ) (p : Process) (upto : ℕ) where
   heard-it : (l n : ℕ) → l ≡ i → Has (IsCease n) came → n ≤ at 0 (copies_ceased i upto p).as_row.ceased l
   heard-it l n same (inl low) =
       let own = ceased-own i upto p in
-      let here : at 0 (copies_ceased i upto p).as_row.ceased l ≡ at 0 (copies_ceased i upto p).as_row.ceased i = ap (at 0 (copies_ceased i upto p).as_row.ceased) same in
+      let here : at 0 (copies_ceased i upto p).as_row.ceased l ≡ at 0 (copies_ceased i upto p).as_row.ceased i =
+      ap (at 0 (copies_ceased i upto p).as_row.ceased) same in
       omega (arith, own, low, here)
   heard-it l n same (inr none) = absurd none
 
@@ -127,7 +141,8 @@ module _ (s : Dimensions) (i : ℕ) (p : Process) (upto : ℕ) where
       heard = λ l n r name from has. heard-it l n (parity-one l i (sym from)) has;
       fine = λ within fine. fine-left i upto p s fine;
     };
-    leader = same-leader s (ParityNode i) came p (quiet (copies_ceased i upto p)) refl refl refl (λ l n r name from has. nothing has) (λ l n d name from has. nothing has);
+    leader = same-leader s (ParityNode i) came p (quiet (copies_ceased i upto p)) refl refl refl
+        (λ l n r name from has. nothing has) (λ l n d name from has. nothing has);
     sent = calm-sent s (ParityNode i) came p (quiet (copies_ceased i upto p)) (λ l n r e name has. nothing has) (λ l n e name has. nothing has) tt;
   } where
     by : (l n r e : ℕ) → Marked e (marks_in (copies_ceased i upto p) l n) ⊎ (n ≤ at 0 (copies_ceased i upto p).as_row.ceased l)

@@ -1,5 +1,6 @@
 -- Different numbers below a bound are no more than that.
-use Rattle.std.proofs.Common.{◌≡◌, ◌≢◌, ℕ, zero, suc, ◌<◌, ◌≤◌, ◌==◌, Bool, true, false, not, List, [], ◌∷◌, length, filter, cond, inl, inr, refl, sym, ap, subst, ◌∙◌, arith}
+use Rattle.std.proofs.Common.{◌≡◌, ◌≢◌, ℕ, zero, suc, ◌<◌, ◌≤◌, ◌==◌, Bool, true, false, not, List, [], ◌∷◌, length}
+use Rattle.std.proofs.Common.{filter, cond, inl, inr, refl, sym, ap, subst, ◌∙◌, arith}
 use Rattle.std.proofs.lemmas.Bool.{eq-eqb}
 use Rattle.std.proofs.lemmas.Grind.{common_steps}
 use Rattle.law_progress.proofs.Waiting.{Has}
@@ -23,7 +24,8 @@ few-out : (n : ℕ) (xs : List ℕ) → NoRepeat xs → length xs ≤ suc (lengt
 few-out n [] differ = omega arith
 few-out n (x ∷ xs) differ = by (x == n) refl (few-out n xs differ.1) where
   by : (b : Bool) → (x == n) ≡ b → length xs ≤ suc (length (others n xs)) → suc (length xs) ≤ suc (length (cond (not b) (x ∷ others n xs) (others n xs)))
-  by true is rest = let same : x ≡ n = grind (arith, common_steps) in let all = all-left n xs (λ there. differ.0 (subst (λ (y : ℕ). Has (λ i. i ≡ y) xs) (sym same) there)) in omega (arith, all)
+  by true is rest = let same : x ≡ n = grind (arith, common_steps) in let all =
+      all-left n xs (λ there. differ.0 (subst (λ (y : ℕ). Has (λ i. i ≡ y) xs) (sym same) there)) in omega (arith, all)
   by false is rest = omega (arith, rest)
 
 others-differ : (n : ℕ) (xs : List ℕ) → NoRepeat xs → NoRepeat (others n xs)

@@ -28,7 +28,8 @@ module _ (s : Dimensions) where
       → node.dead ≡ (node_in s nodes p).dead → (node_in s (with_node s p node nodes) q).dead ≡ (node_in s nodes q).dead
   one-dead nodes p q node many pin qin same = by (same-cases q p) where
     by : (q ≡ p) ⊎ (q ≢ p) → (node_in s (with_node s p node nodes) q).dead ≡ (node_in s nodes q).dead
-    by (inl is) = subst (λ (y : ProcessId). (node_in s (with_node s p node nodes) y).dead ≡ (node_in s nodes y).dead) (sym is) (ap (λ (n : Node). n.dead) (node-here s nodes p node) ∙ same)
+    by (inl is) = subst (λ (y : ProcessId). (node_in s (with_node s p node nodes) y).dead ≡ (node_in s nodes y).dead)
+        (sym is) (ap (λ (n : Node). n.dead) (node-here s nodes p node) ∙ same)
     by (inr other) = ap (λ (n : Node). n.dead) (node-other s nodes p q node pin qin other many)
 
   treated-dead : (down dead : Bool) (node : Node) (call : CallStep) → (if_up down dead node (treated s node call)).node.dead ≡ node.dead
@@ -47,31 +48,44 @@ module _ (s : Dimensions) where
   sender-dead false false from to a b [] = refl
   sender-dead false false from to a b (m ∷ rest) = refl
 
-  receiver-dead : (down dead : Bool) (from to : ProcessId) (a b : Node) (link : List Message) → (delivered down dead s from to a b link).receiver.node.dead ≡ b.dead
+  receiver-dead : (down dead : Bool) (from to : ProcessId) (a b : Node) (link : List Message)
+      → (delivered down dead s from to a b link).receiver.node.dead ≡ b.dead
   receiver-dead true dead from to a b link = refl
   receiver-dead false true from to a b link = refl
   receiver-dead false false from to a b [] = refl
   receiver-dead false false from to a b (m ∷ rest) = emptied-dead s m (node_after s (receive s from m b.process) b)
 
 -- an event that is no failure
-pub dead-same : (h : History) (e : Event) → FramedHistory h → MayCome h.world e → IsNoFailure e → (q : ProcessId) → IsProcess h.world.shape q → (state_of (prolonged h e)).dead q ≡ (state_of h).dead q
+pub dead-same : (h : History) (e : Event) → FramedHistory h → MayCome h.world e → IsNoFailure e → (q : ProcessId)
+    → IsProcess h.world.shape q → (state_of (prolonged h e)).dead q ≡ (state_of h).dead q
 dead-same h (Fail p keep) framed may goes q qin = absurd goes
 dead-same h (Ask caller op p) framed may goes q qin = one-dead h.world.shape h.world.nodes p q _ framed.nodes_many may.1 qin
-    (treated-dead h.world.shape (node_of h.world p).down (node_of h.world p).dead (node_of h.world p) (ask_process h.world.shape (next_name h.world caller) op (node_of h.world p).process))
+    (treated-dead h.world.shape (node_of h.world p).down (node_of h.world p).dead (node_of h.world p)
+    (ask_process h.world.shape (next_name h.world caller) op (node_of h.world p).process))
 dead-same h (Collect caller call p) framed may goes q qin = one-dead h.world.shape h.world.nodes p q _ framed.nodes_many may.1 qin
-    (treated-dead h.world.shape (node_of h.world p).down (node_of h.world p).dead (node_of h.world p) (collect_from caller call (node_of h.world p).process (range_with_len 0 h.world.shape.k)))
+    (treated-dead h.world.shape (node_of h.world p).down (node_of h.world p).dead (node_of h.world p)
+    (collect_from caller call (node_of h.world p).process (range_with_len 0 h.world.shape.k)))
 dead-same h (Flush p) framed may goes q qin = one-dead h.world.shape h.world.nodes p q _ framed.nodes_many may qin
     (treated-dead h.world.shape (node_of h.world p).down (node_of h.world p).dead (node_of h.world p) (flush_process h.world.shape (node_of h.world p).process))
 dead-same h (Trace caller call d p) framed may goes q qin = one-dead h.world.shape h.world.nodes p q _ framed.nodes_many may.3 qin
-    (unchanged-dead h.world.shape (node_of h.world p).down (node_of h.world p).dead (node_of h.world p) (fate_of h.world.shape caller call d.0 (node_of h.world p).process (head_at (node_of h.world p).process d.0)))
+    (unchanged-dead h.world.shape (node_of h.world p).down (node_of h.world p).dead (node_of h.world p)
+    (fate_of h.world.shape caller call d.0 (node_of h.world p).process (head_at (node_of h.world p).process d.0)))
 dead-same h (Deliver from to) framed may goes q qin = by
-    (delivered (node_of h.world to).down (node_of h.world to).dead h.world.shape from to (node_of h.world from) (node_of h.world to) (at [] (node_of h.world from).links (index_of h.world.shape to)))
-    (sender-dead h.world.shape (node_of h.world to).down (node_of h.world to).dead from to (node_of h.world from) (node_of h.world to) (at [] (node_of h.world from).links (index_of h.world.shape to)))
-    (receiver-dead h.world.shape (node_of h.world to).down (node_of h.world to).dead from to (node_of h.world from) (node_of h.world to) (at [] (node_of h.world from).links (index_of h.world.shape to)))
+    (delivered (node_of h.world to).down (node_of h.world to).dead h.world.shape from to (node_of h.world from)
+    (node_of h.world to) (at [] (node_of h.world from).links (index_of h.world.shape to)))
+    (sender-dead h.world.shape (node_of h.world to).down (node_of h.world to).dead from to (node_of h.world from)
+    (node_of h.world to) (at [] (node_of h.world from).links (index_of h.world.shape to)))
+    (receiver-dead h.world.shape (node_of h.world to).down (node_of h.world to).dead from to (node_of h.world from)
+    (node_of h.world to) (at [] (node_of h.world from).links (index_of h.world.shape to)))
   where
     by : (t : DeliveryStep) → t.sender.dead ≡ (node_of h.world from).dead → t.receiver.node.dead ≡ (node_of h.world to).dead
-        → (node_in h.world.shape (with_node h.world.shape to t.receiver.node (with_node h.world.shape from t.sender h.world.nodes)) q).dead ≡ (node_in h.world.shape h.world.nodes q).dead
+        → (node_in h.world.shape
+        (with_node h.world.shape to t.receiver.node (with_node h.world.shape from t.sender h.world.nodes)) q).dead
+        ≡ (node_in h.world.shape h.world.nodes q).dead
     by t sender receiver =
-        one-dead h.world.shape (with_node h.world.shape from t.sender h.world.nodes) to q t.receiver.node (size-with_node h.world.shape h.world.nodes from t.sender may.0 framed.nodes_many) may.1 qin
-        (receiver ∙ ap (λ (n : Node). n.dead) (sym (node-other h.world.shape h.world.nodes from to t.sender may.0 may.1 (λ same. may.2 (sym same)) framed.nodes_many)))
+        one-dead h.world.shape (with_node h.world.shape from t.sender h.world.nodes) to q t.receiver.node
+        (size-with_node h.world.shape h.world.nodes from t.sender may.0 framed.nodes_many) may.1 qin
+        (receiver ∙ ap (λ (n : Node). n.dead)
+        (sym (node-other h.world.shape h.world.nodes from to t.sender may.0 may.1 (λ same. may.2 (sym same))
+        framed.nodes_many)))
         ∙ one-dead h.world.shape h.world.nodes from q t.sender framed.nodes_many may.0 qin sender

@@ -37,7 +37,8 @@ no-more (x ∷ xs) ys differ inside =
     first = inside x (inl refl)
 
     absent : ¬ (Among x xs)
-    absent there = let at : Contains xs x = among-contains xs x there in differ zero (suc at.0) x (omega arith) (let below = at.1 in omega (arith, below)) (sym at.2)
+    absent there = let at : Contains xs x = among-contains xs x there in
+        differ zero (suc at.0) x (omega arith) (let below = at.1 in omega (arith, below)) (sym at.2)
 
 pub differ-below : (m : ℕ) (xs : List ℕ) → All (λ i. i < m) xs → AllPairs (λ i j. i ≢ j) xs → length xs ≤ m
 differ-below m xs below differ =

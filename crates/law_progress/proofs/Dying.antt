@@ -12,7 +12,8 @@ use Rattle.group_message.specs.declared.message.Message.TheVariants as tells
 use Rattle.group_run.specs.Process.{Process}
 use Rattle.law_moves.proofs.Moves.{Died}
 use Rattle.law_moves.specs.State.{State}
-use Rattle.law_progress.proofs.Waiting.{Asked, BlockComes, Copied, Given, Has, AsksForBlock, IsBlock, IsMark, IsRead, IsRow, Marked, Marking, RowComes, WantsBlock, WantsRow, marks_in}
+use Rattle.law_progress.proofs.Waiting.{Asked, BlockComes, Copied, Given, Has, AsksForBlock, IsBlock, IsMark, IsRead}
+use Rattle.law_progress.proofs.Waiting.{IsRow, Marked, Marking, RowComes, WantsBlock, WantsRow, marks_in}
 use Rattle.law_progress.proofs.Holding.{AskThere, CopyThere, Ended, Ending, MarkThere, Pending}
 use Rattle.law_progress.proofs.Sides.{Fresh, IsCease, LeaderFine, Leaves, RowFine, opened}
 use Rattle.law_progress.proofs.Views.{has-either, has-take}
@@ -38,36 +39,48 @@ module _ (s : Dimensions) (v w : State) (p : ProcessId) (keep : ℕ) (pin : IsPr
     by : (a ≡ p) ⊎ (a ≢ p) → Has (IsMark l n d) (v.link a b)
     by (inr other) = subst (Has (IsMark l n d)) (link-is a b ain bin other) has
     by (inl same) = subst (λ (y : ProcessId). Has (IsMark l n d) (v.link y b)) (sym same)
-        (cut (has-either (IsMark l n d) (take keep (v.link p b)) (tells.Notice p ∷ []) (subst (Has (IsMark l n d)) (dies.cut b bin) (subst (λ (y : ProcessId). Has (IsMark l n d) (w.link y b)) same has))))
+        (cut (has-either (IsMark l n d) (take keep (v.link p b)) (tells.Notice p ∷ [])
+        (subst (Has (IsMark l n d)) (dies.cut b bin) (subst (λ (y : ProcessId). Has (IsMark l n d) (w.link y b)) same
+        has))))
       where
         cut : Has (IsMark l n d) (take keep (v.link p b)) ⊎ (⊥ ⊎ ⊥) → Has (IsMark l n d) (v.link p b)
         cut (inl front) = has-take (IsMark l n d) keep (v.link p b) front
         cut (inr (inl none)) = absurd none
         cut (inr (inr none)) = absurd none
 
-  died-rows : (l n r d : ℕ) → l < s.m → r < s.m → d < s.k → w.dead (ParityNode l) ≡ false → w.dead (ParityNode r) ≡ false → WantsRow r (opened (w.process (ParityNode l)) n)
+  died-rows : (l n r d : ℕ) → l < s.m → r < s.m → d < s.k → w.dead (ParityNode l) ≡ false
+      → w.dead (ParityNode r) ≡ false → WantsRow r (opened (w.process (ParityNode l)) n)
       → (knows_dead (w.process (ParityNode l)).known (DataNode d) ≡ true) ⊎ (w.dead (DataNode d) ≡ false)
       → (knows_dead (v.process (ParityNode l)).known (DataNode d) ≡ true → v.dead (DataNode d) ≡ true) → RowComes s w l n r d
   died-rows l n r d lin rin low l_lives r_lives wants may known_dead =
       on
-      (old.waited.rows l n r d lin rin low (lived (ParityNode l) lin l_lives) (lived (ParityNode r) rin r_lives) (subst (λ (y : Process). WantsRow r (opened y n)) (process-is (ParityNode l) lin) wants) (may_v may)) where
+      (old.waited.rows l n r d lin rin low (lived (ParityNode l) lin l_lives) (lived (ParityNode r) rin r_lives)
+      (subst (λ (y : Process). WantsRow r (opened y n)) (process-is (ParityNode l) lin) wants) (may_v may)) where
         may_v : (knows_dead (w.process (ParityNode l)).known (DataNode d) ≡ true) ⊎ (w.dead (DataNode d) ≡ false)
             → (knows_dead (v.process (ParityNode l)).known (DataNode d) ≡ true) ⊎ (v.dead (DataNode d) ≡ false)
         may_v (inl known) = inl (ap (λ (y : Process). knows_dead y.known (DataNode d)) (sym (process-is (ParityNode l) lin)) ∙ known)
         may_v (inr living) = inr (lived (DataNode d) low living)
 
-        data_on : (knows_dead (w.process (ParityNode l)).known (DataNode d) ≡ true) ⊎ (w.dead (DataNode d) ≡ false) → v.dead (DataNode d) ≡ false → w.dead (DataNode d) ≡ false
+        data_on : (knows_dead (w.process (ParityNode l)).known (DataNode d) ≡ true) ⊎ (w.dead (DataNode d) ≡ false)
+            → v.dead (DataNode d) ≡ false → w.dead (DataNode d) ≡ false
         data_on (inr living) lives = living
-        data_on (inl known) lives = absurd (cc (sym lives ∙ known_dead (ap (λ (y : Process). knows_dead y.known (DataNode d)) (sym (process-is (ParityNode l) lin)) ∙ known)))
+        data_on (inl known) lives =
+            absurd (cc (sym lives
+            ∙ known_dead (ap (λ (y : Process). knows_dead y.known (DataNode d)) (sym (process-is (ParityNode l) lin))
+            ∙ known)))
 
         on : RowComes s v l n r d → RowComes s w l n r d
-        on (Asked living has) = Asked (data_on may living) (subst (Has (AsksForBlock l n r)) (sym (link-is (ParityNode l) (DataNode d) lin low (not-p (ParityNode l) l_lives))) has)
+        on (Asked living has) =
+            Asked (data_on may living)
+            (subst (Has (AsksForBlock l n r))
+            (sym (link-is (ParityNode l) (DataNode d) lin low (not-p (ParityNode l) l_lives))) has)
         on (Copied held) = Copied (subst (λ (y : Process). Marked d (marks_in y l n)) (sym (process-is (ParityNode r) rin)) held)
         on (Given apart has) = Given apart (subst (Has (IsRow l n)) (sym (link-is (ParityNode r) (ParityNode l) rin lin (not-p (ParityNode r) r_lives))) has)
-        on (Marking x xin apart living which has) = Marking x xin apart (source which) which (subst (Has (IsMark l n d)) (sym (link-is x (ParityNode r) xin rin (not-p x (source which)))) has) where
-          source : (x ≡ ParityNode l) ⊎ (x ≡ DataNode d) → w.dead x ≡ false
-          source (inl is) = ap w.dead is ∙ l_lives
-          source (inr is) = ap w.dead is ∙ data_on may (ap v.dead (sym is) ∙ living)
+        on (Marking x xin apart living which has) = Marking x xin apart (source which) which
+            (subst (Has (IsMark l n d)) (sym (link-is x (ParityNode r) xin rin (not-p x (source which)))) has) where
+              source : (x ≡ ParityNode l) ⊎ (x ≡ DataNode d) → w.dead x ≡ false
+              source (inl is) = ap w.dead is ∙ l_lives
+              source (inr is) = ap w.dead is ∙ data_on may (ap v.dead (sym is) ∙ living)
 
   died-pending : (l n r : ℕ) → l < s.m → r < s.m → Pending s w l n r → Pending s v l n r
   died-pending l n r lin rin (CopyThere some) = CopyThere (ap (λ (y : Process). is_some (marks_in y l n)) (sym (process-is (ParityNode r) rin)) ∙ some)
@@ -76,24 +89,30 @@ module _ (s : Dimensions) (v w : State) (p : ProcessId) (keep : ℕ) (pin : IsPr
     by : (ParityNode l ≡ p) ⊎ (ParityNode l ≢ p) → Pending s v l n r
     by (inr other) = AskThere e low (lived (DataNode e) low living) (subst (Has (AsksForBlock l n r)) (link-is (ParityNode l) (DataNode e) lin low other) has)
     by (inl same) = AskThere e low (lived (DataNode e) low living) (subst (λ (y : ProcessId). Has (AsksForBlock l n r) (v.link y (DataNode e))) (sym same)
-        (cut (has-either (AsksForBlock l n r) (take keep (v.link p (DataNode e))) (tells.Notice p ∷ []) (subst (Has (AsksForBlock l n r)) (dies.cut (DataNode e) low) (subst (λ (y : ProcessId). Has (AsksForBlock l n r) (w.link y (DataNode e))) same has)))))
+        (cut (has-either (AsksForBlock l n r) (take keep (v.link p (DataNode e))) (tells.Notice p ∷ [])
+        (subst (Has (AsksForBlock l n r)) (dies.cut (DataNode e) low)
+        (subst (λ (y : ProcessId). Has (AsksForBlock l n r) (w.link y (DataNode e))) same has)))))
       where
         cut : Has (AsksForBlock l n r) (take keep (v.link p (DataNode e))) ⊎ (⊥ ⊎ ⊥) → Has (AsksForBlock l n r) (v.link p (DataNode e))
         cut (inl front) = has-take (AsksForBlock l n r) keep (v.link p (DataNode e)) front
         cut (inr (inl none)) = absurd none
         cut (inr (inr none)) = absurd none
 
-  pub died : ((l d : ℕ) → l < s.m → d < s.k → v.dead (ParityNode l) ≡ false → knows_dead (v.process (ParityNode l)).known (DataNode d) ≡ true → v.dead (DataNode d) ≡ true) → Ending s w
+  pub died : ((l d : ℕ) → l < s.m → d < s.k → v.dead (ParityNode l) ≡ false
+      → knows_dead (v.process (ParityNode l)).known (DataNode d) ≡ true → v.dead (DataNode d) ≡ true) → Ending s w
   died known_dead = record {
     waited = record {
-      rows = λ l n r d lin rin low l_lives r_lives wants may. died-rows l n r d lin rin low l_lives r_lives wants may (known_dead l d lin low (lived (ParityNode l) lin l_lives));
+      rows = λ l n r d lin rin low l_lives r_lives wants may. died-rows l n r d lin rin low l_lives r_lives wants may
+          (known_dead l d lin low (lived (ParityNode l) lin l_lives));
       blocks = λ l n d lin low l_lives d_lives wants. blocks l n d lin low l_lives d_lives
-          (old.waited.blocks l n d lin low (lived (ParityNode l) lin l_lives) (lived (DataNode d) low d_lives) (subst (λ (y : Process). WantsBlock d (opened y n)) (process-is (ParityNode l) lin) wants));
+          (old.waited.blocks l n d lin low (lived (ParityNode l) lin l_lives) (lived (DataNode d) low d_lives)
+          (subst (λ (y : Process). WantsBlock d (opened y n)) (process-is (ParityNode l) lin) wants));
     };
     rows = λ q qin living. subst (RowFine s) (sym (process-is q qin)) (old.rows q qin (lived q qin living));
     leaders = λ q qin living. subst (LeaderFine s) (sym (process-is q qin)) (old.leaders q qin (lived q qin living));
     ceased = λ l r n lin rin l_lives r_lives fresh.
-        let before = old.ceased l r n lin rin (lived (ParityNode l) lin l_lives) (lived (ParityNode r) rin r_lives) (subst (λ (y : Process). Fresh y n) (process-is (ParityNode l) lin) fresh) in (
+        let before = old.ceased l r n lin rin (lived (ParityNode l) lin l_lives) (lived (ParityNode r) rin r_lives)
+        (subst (λ (y : Process). Fresh y n) (process-is (ParityNode l) lin) fresh) in (
           subst (λ (y : Process). at 0 y.as_row.ceased l < n) (sym (process-is (ParityNode r) rin)) before.0,
           λ apart. subst (Each (Leaves n)) (sym (link-is (ParityNode l) (ParityNode r) lin rin (not-p (ParityNode l) l_lives))) (before.1 apart),
         );
@@ -102,11 +121,20 @@ module _ (s : Dimensions) (v w : State) (p : ProcessId) (keep : ℕ) (pin : IsPr
         (old.pends l n r lin rin (lived (ParityNode l) lin l_lives) (lived (ParityNode r) rin r_lives) (died-pending l n r lin rin pend));
   } where
     blocks : (l n d : ℕ) → l < s.m → d < s.k → w.dead (ParityNode l) ≡ false → w.dead (DataNode d) ≡ false → BlockComes v l n d → BlockComes w l n d
-    blocks l n d lin low l_lives d_lives (inl has) = inl (subst (Has (IsRead l n)) (sym (link-is (ParityNode l) (DataNode d) lin low (not-p (ParityNode l) l_lives))) has)
-    blocks l n d lin low l_lives d_lives (inr has) = inr (subst (Has (IsBlock l n)) (sym (link-is (DataNode d) (ParityNode l) low lin (not-p (DataNode d) d_lives))) has)
+    blocks l n d lin low l_lives d_lives (inl has) =
+        inl (subst (Has (IsRead l n)) (sym (link-is (ParityNode l) (DataNode d) lin low (not-p (ParityNode l) l_lives)))
+        has)
+    blocks l n d lin low l_lives d_lives (inr has) =
+        inr (subst (Has (IsBlock l n)) (sym (link-is (DataNode d) (ParityNode l) low lin (not-p (DataNode d) d_lives)))
+        has)
 
     on : (l n r : ℕ) → l < s.m → r < s.m → w.dead (ParityNode l) ≡ false → WantsRow r (opened (v.process (ParityNode l)) n) ⊎ Ended v l n r
         → WantsRow r (opened (w.process (ParityNode l)) n) ⊎ Ended w l n r
     on l n r lin rin l_lives (inl wants) = inl (subst (λ (y : Process). WantsRow r (opened y n)) (sym (process-is (ParityNode l) lin)) wants)
     on l n r lin rin l_lives (inr (inl low)) = inr (inl (subst (λ (y : Process). n ≤ at 0 y.as_row.ceased l) (sym (process-is (ParityNode r) rin)) low))
-    on l n r lin rin l_lives (inr (inr (apart, has))) = inr (inr (apart, subst (Has (IsCease n)) (sym (link-is (ParityNode l) (ParityNode r) lin rin (not-p (ParityNode l) l_lives))) has))
+    on l n r lin rin l_lives (inr (inr (apart, has))) =
+        inr (inr (
+          apart,
+          subst (Has (IsCease n)) (sym (link-is (ParityNode l) (ParityNode r) lin rin (not-p (ParityNode l) l_lives)))
+              has,
+        ))

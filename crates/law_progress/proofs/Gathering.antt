@@ -1,5 +1,6 @@
 -- What becomes of a leader's sessions where a row or a block comes in.
-use Rattle.std.proofs.Common.{◌≡◌, ◌≢◌, ℕ, ◌≤◌, ◌==◌, Bool, true, false, List, [], ◌∷◌, find, is_some, Option, Some, None, ◌⊎◌, inl, inr, refl, sym, ap, subst, ◌∙◌, if◌then◌else◌, arith}
+use Rattle.std.proofs.Common.{◌≡◌, ◌≢◌, ℕ, ◌≤◌, ◌==◌, Bool, true, false, List, [], ◌∷◌, find, is_some, Option, Some}
+use Rattle.std.proofs.Common.{None, ◌⊎◌, inl, inr, refl, sym, ap, subst, ◌∙◌, if◌then◌else◌, arith}
 use Rattle.std.proofs.lemmas.Bool.{cases_eq}
 use Rattle.std.specs.List.{list_all}
 use Rattle.group_types.specs.Dimensions.{Dimensions}
@@ -39,7 +40,8 @@ module _ (s : Dimensions) where
     pub fine : LeaderFine s p → LeaderFine s q
 
   -- nothing came in
-  pub gathers-same : (p q : Process) (number : ℕ) → q.as_leader.sessions ≡ p.as_leader.sessions → q.as_leader.last_session ≡ p.as_leader.last_session → Gathers p q number (λ r. ⊥) (λ d. ⊥)
+  pub gathers-same : (p q : Process) (number : ℕ) → q.as_leader.sessions ≡ p.as_leader.sessions
+      → q.as_leader.last_session ≡ p.as_leader.last_session → Gathers p q number (λ r. ⊥) (λ d. ⊥)
   gathers-same p q number sessions last = record {
     rows = λ n r wants. (subst (WantsRow r) (same n) wants, λ here is. is);
     blocks = λ n d wants. (subst (WantsBlock d) (same n) wants, λ here is. is);
@@ -55,11 +57,16 @@ module _ (s : Dimensions) where
   none-gathers : (p q : Process) (number : ℕ) (row block : ℕ → Type 0) → q.as_leader ≡ p.as_leader → opened p number ≡ None → Gathers p q number row block
   none-gathers p q number row block same none = record {
     rows = λ n r wants. let before = subst (WantsRow r) (is n) wants in (before, λ here it. absurd (subst (WantsRow r) (ap (opened p) here ∙ none) before));
-    blocks = λ n d wants. let before = subst (WantsBlock d) (is n) wants in (before, λ here it. absurd (subst (WantsBlock d) (ap (opened p) here ∙ none) before));
+    blocks = λ n d wants. let before = subst (WantsBlock d) (is n) wants in
+        (before, λ here it. absurd (subst (WantsBlock d) (ap (opened p) here ∙ none) before));
     left = λ n r wants. inl (subst (WantsRow r) (sym (is n)) wants);
     opens = λ n some. ap is_some (sym (is n)) ∙ some;
     last = ap (λ (l : LeaderState). l.last_session) same;
-    fine = λ fine n g some. let old = fine n g (sym (is n) ∙ some) in (old.0, let low = old.1 in let last = ap (λ (l : LeaderState). l.last_session) same in omega (arith, last, low));
+    fine = λ fine n g some. let old = fine n g (sym (is n) ∙ some) in (
+      old.0,
+      let low = old.1 in let last = ap (λ (l : LeaderState). l.last_session) same in
+          omega (arith, last, low),
+    );
   } where
     is : (n : ℕ) → opened q n ≡ opened p n
     is n = ap (λ (l : LeaderState). open_session l n) same
@@ -89,7 +96,13 @@ module _ (s : Dimensions) where
     rows n r wants (inl same) = by (is_complete s h) (subst (WantsRow r) (ap (opened q) same ∙ here) wants) where
       by : (b : Bool) → WantsRow r (if b then None else Some h) → WantsRow r (opened p n) × (n ≡ number → row r → ⊥)
       by true wanted = absurd wanted
-      by false wanted = let before = grows.rows_before r wanted.1 in (subst (WantsRow r) (sym (ap (opened p) same ∙ opens)) (subst (Has (λ i. i ≡ r)) grows.rows wanted.0, before.0), λ it. before.1)
+      by false wanted = let before = grows.rows_before r wanted.1 in (
+        subst (WantsRow r) (sym (ap (opened p) same ∙ opens)) (
+          subst (Has (λ i. i ≡ r)) grows.rows wanted.0,
+          before.0,
+        ),
+        λ it. before.1,
+      )
 
     blocks : (n d : ℕ) → WantsBlock d (opened q n) → (n ≡ number) ⊎ (n ≢ number) → WantsBlock d (opened p n) × (n ≡ number → block d → ⊥)
     blocks n d wants (inr apart) = (subst (WantsBlock d) (other n apart) wants, λ same it. apart same)
@@ -111,26 +124,35 @@ module _ (s : Dimensions) where
       by before = turn (grows.rows_after r before.1) where
         turn : (at None h.rows_in r ≡ None) ⊎ row r → WantsRow r (opened q n) ⊎ ((n ≡ number) × row r)
         turn (inr it) = inr (same, it)
-        turn (inl none) = inl (subst (WantsRow r) (sym (ap (opened q) same ∙ here)) (kept (is_complete s h) refl (subst (Has (λ i. i ≡ r)) (sym grows.rows) before.0) none))
+        turn (inl none) =
+            inl (subst (WantsRow r) (sym (ap (opened q) same ∙ here))
+            (kept (is_complete s h) refl (subst (Has (λ i. i ≡ r)) (sym grows.rows) before.0) none))
 
     opens_by : (n : ℕ) → is_some (opened q n) ≡ true → (n ≡ number) ⊎ (n ≢ number) → is_some (opened p n) ≡ true
     opens_by n some (inl same) = ap is_some (ap (opened p) same ∙ opens)
     opens_by n some (inr apart) = ap is_some (sym (other n apart)) ∙ some
 
-    fine_by : LeaderFine s p → (n : ℕ) (k : Gathering) → opened q n ≡ Some k → (n ≡ number) ⊎ (n ≢ number) → (is_complete s k ≡ false) × (n ≤ q.as_leader.last_session)
+    fine_by : LeaderFine s p → (n : ℕ) (k : Gathering) → opened q n ≡ Some k → (n ≡ number) ⊎ (n ≢ number)
+        → (is_complete s k ≡ false) × (n ≤ q.as_leader.last_session)
     fine_by fine n k is (inr apart) = let old = fine n k (sym (other n apart) ∙ is) in (old.0, let low = old.1 in omega (arith, last, low))
     fine_by fine n k is (inl same) = by (is_complete s h) refl (sym (ap (opened q) same ∙ here) ∙ is) where
       by : (b : Bool) → is_complete s h ≡ b → (if b then None else Some h) ≡ Some k → (is_complete s k ≡ false) × (n ≤ q.as_leader.last_session)
       by true all none = absurd (cc none)
-      by false all some = let it : h ≡ k = cc some in (ap (is_complete s) (sym it) ∙ all, let low = (fine n g (ap (opened p) same ∙ opens)).1 in omega (arith, last, low))
+      by false all some = let it : h ≡ k = cc some in (
+        ap (is_complete s) (sym it) ∙ all,
+        let low = (fine n g (ap (opened p) same ∙ opens)).1 in
+            omega (arith, last, low),
+      )
 
-  put-before : (parts : List (Option (List ℕ))) (i r : ℕ) (bytes : List ℕ) → at None (put None parts i (Some bytes)) r ≡ None → (at None parts r ≡ None) × (r ≡ i → ⊥)
+  put-before : (parts : List (Option (List ℕ))) (i r : ℕ) (bytes : List ℕ) → at None (put None parts i (Some bytes)) r
+      ≡ None → (at None parts r ≡ None) × (r ≡ i → ⊥)
   put-before parts i r bytes none = by (cases_eq r i) where
     by : (r ≡ i) ⊎ (r ≢ i) → (at None parts r ≡ None) × (r ≡ i → ⊥)
     by (inl same) = absurd (cc (sym none ∙ ap (at None (put None parts i (Some bytes))) same ∙ at-put None None parts i (Some bytes)))
     by (inr other) = (sym (at-put-other None parts i r (Some bytes) other) ∙ none, other)
 
-  put-after : (parts : List (Option (List ℕ))) (i r : ℕ) (bytes : List ℕ) → at None parts r ≡ None → (at None (put None parts i (Some bytes)) r ≡ None) ⊎ (r ≡ i)
+  put-after : (parts : List (Option (List ℕ))) (i r : ℕ) (bytes : List ℕ) → at None parts r ≡ None
+      → (at None (put None parts i (Some bytes)) r ≡ None) ⊎ (r ≡ i)
   put-after parts i r bytes none = by (cases_eq r i) where
     by : (r ≡ i) ⊎ (r ≢ i) → (at None (put None parts i (Some bytes)) r ≡ None) ⊎ (r ≡ i)
     by (inl same) = inr same
@@ -143,7 +165,13 @@ module _ (s : Dimensions) where
     by (Some g) opens =
         let h : Gathering = record g { rows_in = put None g.rows_in i (Some bytes) } in
         some-gathers p (with_leader (gathered s h p.as_leader) p) number (λ r. r ≡ i) (λ d. ⊥) g h opens
-        (record { number = refl; rows = refl; rows_before = λ r none. put-before g.rows_in i r bytes none; rows_after = λ r none. put-after g.rows_in i r bytes none; blocks = λ d none. (none, λ it. it) })
+        (record {
+          number = refl;
+          rows = refl;
+          rows_before = λ r none. put-before g.rows_in i r bytes none;
+          rows_after = λ r none. put-after g.rows_in i r bytes none;
+          blocks = λ d none. (none, λ it. it);
+        })
         refl (row-last s i bytes (Some g) p.as_leader)
 
   pub block-gathers : (number e : ℕ) (bytes : List ℕ) (p : Process) → Gathers p (block_comes s number e bytes p) number (λ r. ⊥) (λ d. d ≡ e)
@@ -153,5 +181,11 @@ module _ (s : Dimensions) where
     by (Some g) opens =
         let h : Gathering = record g { blocks_in = put None g.blocks_in e (Some bytes) } in
         some-gathers p (with_leader (gathered s h p.as_leader) p) number (λ r. ⊥) (λ d. d ≡ e) g h opens
-        (record { number = refl; rows = refl; rows_before = λ r none. (none, λ it. it); rows_after = λ r none. inl none; blocks = λ d none. put-before g.blocks_in e d bytes none })
+        (record {
+          number = refl;
+          rows = refl;
+          rows_before = λ r none. (none, λ it. it);
+          rows_after = λ r none. inl none;
+          blocks = λ d none. put-before g.blocks_in e d bytes none;
+        })
         refl (block-last s e bytes (Some g) p.as_leader)

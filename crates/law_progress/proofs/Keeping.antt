@@ -1,5 +1,6 @@
 -- Every move keeps what is held of sessions.
-use Rattle.std.proofs.Common.{◌≡◌, ◌≢◌, ℕ, suc, ◌+◌, ◌<◌, ◌≤◌, ◌&&◌, nat_le, nat_lt, Bool, true, false, not, List, [], ◌∷◌, Option, Some, None, ◌⊎◌, inl, inr, refl, sym, ap, ap₂, subst, ◌∙◌, arith}
+use Rattle.std.proofs.Common.{◌≡◌, ◌≢◌, ℕ, suc, ◌+◌, ◌<◌, ◌≤◌, ◌&&◌, nat_le, nat_lt, Bool, true, false, not, List, []}
+use Rattle.std.proofs.Common.{◌∷◌, Option, Some, None, ◌⊎◌, inl, inr, refl, sym, ap, ap₂, subst, ◌∙◌, arith}
 use Rattle.std.proofs.lemmas.Bool.{cases_lt, eq-eqb}
 use Rattle.std.proofs.lemmas.Grind.{common_steps}
 use Rattle.group_types.specs.Dimensions.{Dimensions}
@@ -57,7 +58,9 @@ module _ (s : Dimensions) (v : State) (carried : Carried s v) where
     high false = omega arith
 
     by : (k.leader < s.m) ⊎ (s.m ≤ k.leader) → tokens s v k ≤ 1
-    by (inl inside) = let less = carried.tokens k low inside in let one = high (nat_lt k.number (suc (v.process (ParityNode k.leader)).as_leader.last_session)) in omega (arith, less, one)
+    by (inl inside) = let less = carried.tokens k low inside in let one =
+        high (nat_lt k.number (suc (v.process (ParityNode k.leader)).as_leader.last_session)) in
+        omega (arith, less, one)
     by (inr outside) = let none = carried.strangers k low outside in omega (arith, none)
 
   pub none-new : (l d : ℕ) → l < s.m → d < s.k → tokens s v (token l (suc (v.process (ParityNode l)).as_leader.last_session) d (Row l)) ≤ 0
@@ -74,12 +77,17 @@ module _ (s : Dimensions) (v : State) (carried : Carried s v) where
 module _ (s : Dimensions) (shaped : IsShape s) (v w : State) (p : ProcessId) (t : ProcessStep) (pin : IsProcess s p) (lives : v.dead p ≡ false)
     (held : Held s v) (after : Members s w) (treats : Treats s (v.process p) t) (acts : Acted s v w p t) where
   treated-free : (l : ℕ) → p ≡ ParityNode l
-      → (at 0 (v.process p).as_row.ceased l < suc (v.process p).as_leader.last_session) × (marks_in (v.process p) l (suc (v.process p).as_leader.last_session) ≡ None)
+      → (at 0 (v.process p).as_row.ceased l < suc (v.process p).as_leader.last_session)
+      × (marks_in (v.process p) l (suc (v.process p).as_leader.last_session) ≡ None)
   treated-free l is =
       subst
-      (λ (y : ProcessId). (at 0 (v.process y).as_row.ceased l < suc (v.process y).as_leader.last_session) × (marks_in (v.process y) l (suc (v.process y).as_leader.last_session) ≡ None))
-      (sym is)
-      ((held.ending.ceased l l (suc (v.process (ParityNode l)).as_leader.last_session) lin lin l_lives l_lives (inr (omega arith))).0, by (marks_in (v.process (ParityNode l)) l (suc (v.process (ParityNode l)).as_leader.last_session)) refl)
+      (λ (y : ProcessId). (at 0 (v.process y).as_row.ceased l < suc (v.process y).as_leader.last_session)
+      × (marks_in (v.process y) l (suc (v.process y).as_leader.last_session) ≡ None))
+      (sym is) (
+        (held.ending.ceased l l (suc (v.process (ParityNode l)).as_leader.last_session) lin lin l_lives l_lives
+            (inr (omega arith))).0,
+        by (marks_in (v.process (ParityNode l)) l (suc (v.process (ParityNode l)).as_leader.last_session)) refl,
+      )
     where
       lin : l < s.m
       lin = subst (IsProcess s) is pin
@@ -92,7 +100,9 @@ module _ (s : Dimensions) (shaped : IsShape s) (v w : State) (p : ProcessId) (t 
       by None there = there
       by (Some marks) there =
           let mark = (held.ending.rows (ParityNode l) lin l_lives l (suc (v.process (ParityNode l)).as_leader.last_session) marks there).some in
-          absurd (no-copy s l (suc (v.process (ParityNode l)).as_leader.last_session) l v mark.0 (none-new s v held.carried l mark.0 lin mark.1) lin l_lives (held.members.named (ParityNode l) lin) (subst (Marked mark.0) (sym there) mark.2))
+          absurd (no-copy s l (suc (v.process (ParityNode l)).as_leader.last_session) l v mark.0
+          (none-new s v held.carried l mark.0 lin mark.1) lin l_lives (held.members.named (ParityNode l) lin)
+          (subst (Marked mark.0) (sym there) mark.2))
 
   treated-ending : Ending s w
   treated-ending = moved s v v w p p [] t (record {
@@ -118,7 +128,8 @@ module _ (s : Dimensions) (shaped : IsShape s) (v w : State) (p : ProcessId) (t 
   }) held.ending
 
 -- a message is received
-module _ (s : Dimensions) (v u w : State) (x p : ProcessId) (m : Message) (xin : IsProcess s x) (pin : IsProcess s p) (apart : x ≢ p) (lives : v.dead p ≡ false) (held : Held s v) (after : Members s w) (pops : Popped s v u x p m)
+module _ (s : Dimensions) (v u w : State) (x p : ProcessId) (m : Message) (xin : IsProcess s x) (pin : IsProcess s p)
+    (apart : x ≢ p) (lives : v.dead p ≡ false) (held : Held s v) (after : Members s w) (pops : Popped s v u x p m)
     (acts : Acted s u w p (receive s x m (v.process p))) where
   may : MayStand s v x p m
   may = (subst (Each (MayStand s v x p)) pops.first (held.members.may x p xin pin apart lives)).0
@@ -164,7 +175,8 @@ module _ (s : Dimensions) (v u w : State) (x p : ProcessId) (m : Message) (xin :
     i_lives : v.dead (ParityNode i) ≡ false
     i_lives = ap v.dead (sym is) ∙ lives
 
-    goes_along : Along (next d) (LaneGoes Any d (v.settled d)) (seen_at d (v.settled d) (v.process (ParityNode i))) (tells.Mark session (record { 0 = r }) block (record { 0 = d }) n ∷ u.link x p)
+    goes_along : Along (next d) (LaneGoes Any d (v.settled d)) (seen_at d (v.settled d) (v.process (ParityNode i)))
+        (tells.Mark session (record { 0 = r }) block (record { 0 = d }) n ∷ u.link x p)
     goes_along =
         subst (Along (next d) (LaneGoes Any d (v.settled d)) (seen_at d (v.settled d) (v.process (ParityNode i)))) (ap (v.link x) (sym is) ∙ first)
         ((held.reach d low).lanes x i xin iin (λ same. apart (same ∙ sym is)) i_lives).goes
@@ -185,7 +197,10 @@ module _ (s : Dimensions) (v u w : State) (x p : ProcessId) (m : Message) (xin :
   accepted-it (tells.Mark session r block d number) first stands l n e i is lin l_lives x_lives above mark =
       subst (λ (y : ProcessId). accepts_mark (v.process p) (parity_number y) session.number r.0 d.0 ≡ true) (sym mark.0.0)
       (subst (λ (j : ℕ). accepts_mark (v.process p) l j r.0 d.0 ≡ true) (sym mark.0.1)
-      (ap₂ (λ (a b : Bool). a && b) (ap₂ (λ (a b : Bool). a && not b) (eq-eqb r.0 (at 0 (v.process p).ranks d.0) (rank-is session r.0 block d.0 number i is first x_lives stands.0)) (leader-unknown l lin l_lives)) (reaches (at 0 (v.process p).as_row.ceased l) above)))
+      (ap₂ (λ (a b : Bool). a && b)
+      (ap₂ (λ (a b : Bool). a && not b)
+      (eq-eqb r.0 (at 0 (v.process p).ranks d.0) (rank-is session r.0 block d.0 number i is first x_lives stands.0))
+      (leader-unknown l lin l_lives)) (reaches (at 0 (v.process p).as_row.ceased l) above)))
     where
       reaches : (a : ℕ) → a < n → nat_lt a n ≡ true
       reaches a less = grind (arith, common_steps)
@@ -251,7 +266,8 @@ module _ (s : Dimensions) (v u w : State) (x p : ProcessId) (m : Message) (xin :
     accepted = λ l n d r is lin l_lives x_lives above has. (accepted-it m pops.first may l n d r is lin l_lives x_lives above (only (IsMark l n d) has), tt);
     within = λ l n d has. within-it m may l n d (only (IsMark l n d) has);
     reader = λ l n r has. reads-it m may l n r (only (AsksForBlock l n r) has);
-    spent = λ k low has. (let less = fewer k low in let one : one_if (is_token k x p m) ≡ 1 = ap one_if (only (λ z. is_token k x p z ≡ true) has) in omega (arith, less, one));
+    spent = λ k low has. (let less = fewer k low in let one : one_if (is_token k x p m)
+        ≡ 1 = ap one_if (only (λ z. is_token k x p z ≡ true) has) in omega (arith, less, one));
     few = λ k low. (let less = fewer k low in omega (arith, less));
   }) held.ending
 
@@ -264,16 +280,34 @@ known-dead s v members l d lin low lives known =
 
 pub keeps-held : (s : Dimensions) → IsShape s → Keeps s (Held s)
 keeps-held s shaped = record {
-  opens = λ v starts. (let both = reaching.opens v starts in record { members = both.0; reach = both.1; carried = carrying.opens v starts; ending = began s v starts });
+  opens = λ v starts. (let both = reaching.opens v starts in
+      record { members = both.0; reach = both.1; carried = carrying.opens v starts; ending = began s v starts });
   treats = λ v w p t pin up lives treats held acts.
       (let both = reaching.treats v w p t pin up lives treats (held.members, held.reach) acts in
-      record { members = both.0; reach = both.1; carried = carrying.treats v w p t pin up lives treats held.carried acts; ending = treated-ending s shaped v w p t pin lives held both.0 treats acts });
+      record {
+        members = both.0;
+        reach = both.1;
+        carried = carrying.treats v w p t pin up lives treats held.carried
+            acts;
+        ending = treated-ending s shaped v w p t pin lives held both.0 treats acts;
+      });
   receives = λ v u w x p m xin pin apart up lives held pops acts.
       (let both = reaching.receives v u w x p m xin pin apart up lives (held.members, held.reach) pops acts in
-      record { members = both.0; reach = both.1; carried = carrying.receives v u w x p m xin pin apart up lives held.carried pops acts; ending = received-ending s v u w x p m xin pin apart lives held both.0 pops acts });
+      record {
+        members = both.0;
+        reach = both.1;
+        carried = carrying.receives v u w x p m xin pin apart up lives
+            held.carried pops acts;
+        ending = received-ending s v u w x p m xin pin apart lives held both.0 pops acts;
+      });
   dies = λ v w p keep pin held dies.
       (let both = reaching.dies v w p keep pin (held.members, held.reach) dies in
-      record { members = both.0; reach = both.1; carried = carrying.dies v w p keep pin held.carried dies; ending = died s v w p keep pin dies held.ending (known-dead s v held.members) });
+      record {
+        members = both.0;
+        reach = both.1;
+        carried = carrying.dies v w p keep pin held.carried dies;
+        ending = died s v w p keep pin dies held.ending (known-dead s v held.members);
+      });
 } where
   reaching : Keeps s (λ v. Members s v × Reach Any s v)
   reaching = keeps_reach s shaped

@@ -1,5 +1,6 @@
 -- The weight of what is on its way to living processes, and how a delivery changes it.
-use Rattle.std.proofs.Common.{ℕ, zero, suc, ◌≡◌, ◌≢◌, ◌≤◌, ◌+◌, ◌⊎◌, inl, inr, Bool, true, false, List, [], ◌∷◌, ◌++◌, length, map, if◌then◌else◌, refl, sym, ap, ◌∙◌, arith}
+use Rattle.std.proofs.Common.{ℕ, zero, suc, ◌≡◌, ◌≢◌, ◌≤◌, ◌+◌, ◌⊎◌, inl, inr, Bool, true, false, List, [], ◌∷◌, ◌++◌}
+use Rattle.std.proofs.Common.{length, map, if◌then◌else◌, refl, sym, ap, ◌∙◌, arith}
 use Rattle.std.specs.Prelude.{sum_by}
 use Rattle.std.proofs.lemmas.List.Sums.{sum_by-cons}
 use Rattle.std.specs.List.{range_with_len}
@@ -63,7 +64,8 @@ load-is w = sums-same w.shape (load_from w) (way_from w.shape v) from 0 (w.shape
   v = state_from w.shape w.nodes []
 
   link : (x y : ℕ)
-      → (if (node_at w y).dead then 0 else sum_by weight_of (at [] (node_at w x).links y)) ≡ on_way (state_from w.shape w.nodes []) (process_at w.shape x) (process_at w.shape y)
+      → (if (node_at w y).dead then 0 else sum_by weight_of (at [] (node_at w x).links y))
+      ≡ on_way (state_from w.shape w.nodes []) (process_at w.shape x) (process_at w.shape y)
   link x y =
       ap (λ (n : ℕ). if (node_at w y).dead then 0 else n) (weights-sum (at [] (node_at w x).links y))
       ∙ ap (λ (i : ℕ). if (node_at w y).dead then 0 else weights (at [] (node_at w x).links i)) (sym (index-process_at w.shape y))
@@ -74,15 +76,18 @@ load-is w = sums-same w.shape (load_from w) (way_from w.shape v) from 0 (w.shape
       (on_way (state_from w.shape w.nodes []) (process_at w.shape x)) (link x) 0 (w.shape.k + w.shape.m)
 
 -- what is sent weighs as much as what the processes get of it
-front-weighs : (to q : ProcessId) (m : Message) (rest : List Message) → weights (front_if (same_process to q) m rest) ≤ only_at to (weight_of m) q + weights rest
+front-weighs : (to q : ProcessId) (m : Message) (rest : List Message) → weights (front_if (same_process to q) m rest)
+    ≤ only_at to (weight_of m) q + weights rest
 front-weighs to q m rest = by (same-cases q to) where
   by : (q ≡ to) ⊎ (q ≢ to) → weights (front_if (same_process to q) m rest) ≤ only_at to (weight_of m) q + weights rest
   by (inl same) =
       let here = only-here to q (weight_of m) same in
-      let is : weights (front_if (same_process to q) m rest) ≡ weight_of m + weights rest = ap (λ (b : Bool). weights (front_if b m rest)) (ap (same_process to) same ∙ same-refl to) in
+      let is : weights (front_if (same_process to q) m rest) ≡ weight_of m + weights rest =
+      ap (λ (b : Bool). weights (front_if b m rest)) (ap (same_process to) same ∙ same-refl to) in
       omega (arith, here, is)
   by (inr other) =
-      let is : weights (front_if (same_process to q) m rest) ≡ weights rest = ap (λ (b : Bool). weights (front_if b m rest)) (same-ne to q (λ same. other (sym same))) in
+      let is : weights (front_if (same_process to q) m rest) ≡ weights rest =
+      ap (λ (b : Bool). weights (front_if b m rest)) (same-ne to q (λ same. other (sym same))) in
       omega (arith, is)
 
 pub sent-sum : (s : Dimensions) (sent : List Sent) → sum_of (everyone s) (λ q. weights (sent_to q sent)) ≤ sent_weight sent
@@ -137,7 +142,8 @@ module _ (s : Dimensions) where
   received-weighs (tells.Cease upto) t node q qin = after-weighs t node q qin
 
   -- the dead stay dead, and a link weighs at most so much more
-  way-le : (v w : State) (x q : ProcessId) (c : ℕ) → (v.dead q ≡ true → w.dead q ≡ true) → weights (w.link x q) ≤ weights (v.link x q) + c → on_way w x q ≤ on_way v x q + c
+  way-le : (v w : State) (x q : ProcessId) (c : ℕ) → (v.dead q ≡ true → w.dead q ≡ true)
+      → weights (w.link x q) ≤ weights (v.link x q) + c → on_way w x q ≤ on_way v x q + c
   way-le v w x q c dead less = by (v.dead q) (w.dead q) dead where
     by : (a b : Bool) → (a ≡ true → b ≡ true) → (if b then 0 else weights (w.link x q)) ≤ (if a then 0 else weights (v.link x q)) + c
     by true true is = omega arith
@@ -149,28 +155,31 @@ module _ (s : Dimensions) where
   way-living v x q lives = ap (λ (b : Bool). if b then 0 else weights (v.link x q)) lives
 
   -- a message to a living process is taken out
-  pub popped-weighs : (v u : State) (x p : ProcessId) (m : Message) → IsProcess s x → IsProcess s p → v.dead p ≡ false → Popped s v u x p m → way_of s u + weight_of m ≤ way_of s v
-  popped-weighs v u x p m xin pin lives pops = sum-less (everyone s) (way_from s v) (way_from s u) x (weight_of m) (within-everyone s x xin) (λ y there. every y (everyone-inside s y there)) here where
-    link : (y q : ProcessId) → IsProcess s y → IsProcess s q → on_way u y q ≤ on_way v y q
-    link y q yin qin = let less = way-le v u y q 0 (λ dead. pops.dead q qin ∙ dead) (by (same-cases y x) (same-cases q p)) in omega (arith, less) where
-      same : u.link y q ≡ v.link y q → weights (u.link y q) ≤ weights (v.link y q) + 0
-      same is = let alike = ap weights is in omega (arith, alike)
+  pub popped-weighs : (v u : State) (x p : ProcessId) (m : Message) → IsProcess s x → IsProcess s p → v.dead p ≡ false
+      → Popped s v u x p m → way_of s u + weight_of m ≤ way_of s v
+  popped-weighs v u x p m xin pin lives pops = sum-less (everyone s) (way_from s v) (way_from s u) x (weight_of m)
+      (within-everyone s x xin) (λ y there. every y (everyone-inside s y there)) here where
+        link : (y q : ProcessId) → IsProcess s y → IsProcess s q → on_way u y q ≤ on_way v y q
+        link y q yin qin = let less = way-le v u y q 0 (λ dead. pops.dead q qin ∙ dead) (by (same-cases y x) (same-cases q p)) in omega (arith, less) where
+          same : u.link y q ≡ v.link y q → weights (u.link y q) ≤ weights (v.link y q) + 0
+          same is = let alike = ap weights is in omega (arith, alike)
 
-      by : (y ≡ x) ⊎ (y ≢ x) → (q ≡ p) ⊎ (q ≢ p) → weights (u.link y q) ≤ weights (v.link y q) + 0
-      by (inr other) _ = same (pops.links y q yin qin (inl other))
-      by (inl is) (inr other) = same (pops.links y q yin qin (inr other))
-      by (inl is) (inl there) =
-          let first = ap weights pops.first in
-          let a = ap (λ (z : ProcessId). weights (u.link z q)) is ∙ ap (λ (z : ProcessId). weights (u.link x z)) there in
-          let b = ap (λ (z : ProcessId). weights (v.link z q)) is ∙ ap (λ (z : ProcessId). weights (v.link x z)) there in
-          omega (arith, first, a, b)
+          by : (y ≡ x) ⊎ (y ≢ x) → (q ≡ p) ⊎ (q ≢ p) → weights (u.link y q) ≤ weights (v.link y q) + 0
+          by (inr other) _ = same (pops.links y q yin qin (inl other))
+          by (inl is) (inr other) = same (pops.links y q yin qin (inr other))
+          by (inl is) (inl there) =
+              let first = ap weights pops.first in
+              let a = ap (λ (z : ProcessId). weights (u.link z q)) is ∙ ap (λ (z : ProcessId). weights (u.link x z)) there in
+              let b = ap (λ (z : ProcessId). weights (v.link z q)) is ∙ ap (λ (z : ProcessId). weights (v.link x z)) there in
+              omega (arith, first, a, b)
 
-    every : (y : ProcessId) → IsProcess s y → way_from s u y ≤ way_from s v y
-    every y yin = sum-le (everyone s) (on_way v y) (on_way u y) (λ q there. link y q yin (everyone-inside s q there))
+        every : (y : ProcessId) → IsProcess s y → way_from s u y ≤ way_from s v y
+        every y yin = sum-le (everyone s) (on_way v y) (on_way u y) (λ q there. link y q yin (everyone-inside s q there))
 
-    here : way_from s u x + weight_of m ≤ way_from s v x
-    here = sum-less (everyone s) (on_way v x) (on_way u x) p (weight_of m) (within-everyone s p pin) (λ q there. link x q xin (everyone-inside s q there))
-        (let before = way-living v x p lives in let after = way-living u x p (pops.dead p pin ∙ lives) in let first = ap weights pops.first in omega (arith, before, after, first))
+        here : way_from s u x + weight_of m ≤ way_from s v x
+        here = sum-less (everyone s) (on_way v x) (on_way u x) p (weight_of m) (within-everyone s p pin) (λ q there. link x q xin (everyone-inside s q there))
+            (let before = way-living v x p lives in let after = way-living u x p (pops.dead p pin ∙ lives) in
+            let first = ap weights pops.first in omega (arith, before, after, first))
 
   -- the links of one process get heavier by so much, it may die, and nothing else changes
   pub record Adds (u w : State) (p : ProcessId) (c : ProcessId → ℕ) : Type 0 where
@@ -180,7 +189,8 @@ module _ (s : Dimensions) where
 
   pub adds-weigh : (u w : State) (p : ProcessId) (c : ProcessId → ℕ) → Adds u w p c → way_of s w ≤ way_of s u + sum_of (everyone s) c
   adds-weigh u w p c adds =
-      let all = sum-le (everyone s) (λ x. way_from s u x + only_at p total x) (way_from s w) (λ x there. every x (everyone-inside s x there) (same-cases x p)) in
+      let all = sum-le (everyone s) (λ x. way_from s u x + only_at p total x) (way_from s w)
+      (λ x there. every x (everyone-inside s x there) (same-cases x p)) in
       let both = sum-both (everyone s) (way_from s u) (only_at p total) in
       let one = sum-only (everyone s) p total (everyone-once s) in
       omega (arith, all, both, one)

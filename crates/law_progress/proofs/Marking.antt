@@ -1,6 +1,7 @@
 -- What a row makes of a mark that it accepts: the partition is marked in its copy, which goes to the leader as a row
 -- once it is full, or is taken over at once where the row is the leader's own.
-use Rattle.std.proofs.Common.{◌≡◌, ◌≢◌, ℕ, ◌<◌, ◌==◌, Bool, true, false, not, List, find, is_some, Option, Some, None, option_map, ◌⊎◌, inl, inr, refl, sym, ap, subst, ◌∙◌, arith}
+use Rattle.std.proofs.Common.{◌≡◌, ◌≢◌, ℕ, ◌<◌, ◌==◌, Bool, true, false, not, List, find, is_some, Option, Some, None}
+use Rattle.std.proofs.Common.{option_map, ◌⊎◌, inl, inr, refl, sym, ap, subst, ◌∙◌, arith}
 use Rattle.std.proofs.lemmas.Bool.{cases_eq, eq-eqb}
 use Rattle.std.specs.List.{range_with_len}
 use Rattle.group_types.specs.Dimensions.{Dimensions}
@@ -30,17 +31,21 @@ copy-is : (c : Copy) → is_copy c.leader c.number c ≡ true
 copy-is c = and-join (c.leader == c.leader) (c.number == c.number) (eq-eqb c.leader c.leader refl) (eq-eqb c.number c.number refl)
 
 copy-other : (l n k j : ℕ) (c : Copy) → is_copy k j c ≡ true → ((l ≡ k) × (n ≡ j) → ⊥) → is_copy l n c ≡ false
-copy-other l n k j c is other = true-false (is_copy l n c) (λ too. let a = copy-parts k j c is in let b = copy-parts l n c too in other (sym b.0 ∙ a.0, sym b.1 ∙ a.1))
+copy-other l n k j c is other = true-false (is_copy l n c) (λ too. let a = copy-parts k j c is in
+    let b = copy-parts l n c too in other (sym b.0 ∙ a.0, sym b.1 ∙ a.1))
 
 module _ (s : Dimensions) where
   -- what becomes of the copy in which partition d is marked
   pub data Outcome (p : Process) (t : ProcessStep) (l n d : ℕ) : Type 0 where
     Waits : (marks : List (Option ℕ)) → marks_in t.process l n ≡ Some marks → is_full s marks ≡ false → is_some (at None marks d) ≡ true
-        → ((e : ℕ) → Marked e (marks_in p l n) → is_some (at None marks e) ≡ true) → ((e : ℕ) → is_some (at None marks e) ≡ true → (e ≡ d) ⊎ Marked e (marks_in p l n))
+        → ((e : ℕ) → Marked e (marks_in p l n) → is_some (at None marks e) ≡ true)
+        → ((e : ℕ) → is_some (at None marks e) ≡ true → (e ≡ d) ⊎ Marked e (marks_in p l n))
         → Gathers s p t.process n (λ r. ⊥) (λ e. ⊥) → Outcome p t l n d
-    Goes : marks_in t.process l n ≡ None → ((e : ℕ) → e < s.k → e ≢ d → Marked e (marks_in p l n)) → p.name ≢ ParityNode l → Gathers s p t.process n (λ r. ⊥) (λ e. ⊥)
+    Goes : marks_in t.process l n ≡ None → ((e : ℕ) → e < s.k → e ≢ d → Marked e (marks_in p l n))
+        → p.name ≢ ParityNode l → Gathers s p t.process n (λ r. ⊥) (λ e. ⊥)
         → Sends (IsRow l n) (ParityNode l) t.sent → Outcome p t l n d
-    Own : marks_in t.process l n ≡ None → ((e : ℕ) → e < s.k → e ≢ d → Marked e (marks_in p l n)) → p.name ≡ ParityNode l → Gathers s p t.process n (λ r. r ≡ l) (λ e. ⊥) → Outcome p t l n d
+    Own : marks_in t.process l n ≡ None → ((e : ℕ) → e < s.k → e ≢ d → Marked e (marks_in p l n))
+        → p.name ≡ ParityNode l → Gathers s p t.process n (λ r. r ≡ l) (λ e. ⊥) → Outcome p t l n d
 
   pub record Takes (p : Process) (t : ProcessStep) (l n d : ℕ) : Type 0 where
     pub name : t.process.name ≡ p.name
@@ -98,7 +103,8 @@ module _ (s : Dimensions) where
   applied : (l n d k : ℕ) (p q : Process) → Begun p q l n → Begun p (apply_to s d k q) l n
   applied l n d k p q begun = record {
     copy = c;
-    found = found-map (is_copy l n) (copy_after s q.name d us) q.as_row.copies (λ x. copy-test s q.name d us l n x) ∙ ap (option_map (copy_after s q.name d us)) begun.found;
+    found = found-map (is_copy l n) (copy_after s q.name d us) q.as_row.copies (λ x. copy-test s q.name d us l n x)
+        ∙ ap (option_map (copy_after s q.name d us)) begun.found;
     marks = λ e some. begun.marks e (subst (λ (marks : List (Option ℕ)). is_some (at None marks e) ≡ true) same some);
     before = λ e marks. subst (λ (marks : List (Option ℕ)). is_some (at None marks e) ≡ true) (sym same) (begun.before e marks);
     others = λ i j other. marks-apply s d k q i j ∙ begun.others i j other;
@@ -132,9 +138,13 @@ module _ (s : Dimensions) where
     same n = ap (λ (gs : List Gathering). find (λ g. g.number == n) gs) sessions
 
   -- the mark is made
-  module _ (p q : Process) (d k : ℕ) (c : Copy) (found : copy_in q.as_row.copies c.leader c.number ≡ Some c) (marks : (e : ℕ) → is_some (at None c.marks e) ≡ true → Marked e (marks_in p c.leader c.number))
-      (before : (e : ℕ) → Marked e (marks_in p c.leader c.number) → is_some (at None c.marks e) ≡ true) (others : (i j : ℕ) → ((i ≡ c.leader) × (j ≡ c.number) → ⊥) → marks_in q i j ≡ marks_in p i j)
-      (name : q.name ≡ p.name) (known : q.known ≡ p.known) (ceased : q.as_row.ceased ≡ p.as_row.ceased) (sessions : q.as_leader.sessions ≡ p.as_leader.sessions) (last : q.as_leader.last_session ≡ p.as_leader.last_session) where
+  module _ (p q : Process) (d k : ℕ) (c : Copy) (found : copy_in q.as_row.copies c.leader c.number ≡ Some c)
+      (marks : (e : ℕ) → is_some (at None c.marks e) ≡ true → Marked e (marks_in p c.leader c.number))
+      (before : (e : ℕ) → Marked e (marks_in p c.leader c.number) → is_some (at None c.marks e) ≡ true)
+      (others : (i j : ℕ) → ((i ≡ c.leader) × (j ≡ c.number) → ⊥) → marks_in q i j ≡ marks_in p i j)
+      (name : q.name ≡ p.name) (known : q.known ≡ p.known) (ceased : q.as_row.ceased ≡ p.as_row.ceased)
+      (sessions : q.as_leader.sessions ≡ p.as_leader.sessions)
+      (last : q.as_leader.last_session ≡ p.as_leader.last_session) where
     abbrev more : Copy
     more = marked d k c
 
@@ -155,10 +165,12 @@ module _ (s : Dimensions) where
       by (inr other) = inr (marks e (ap is_some (sym (at-put-other None c.marks d e (Some k) other)) ∙ is))
 
     rest : is_full s more.marks ≡ true → (e : ℕ) → e < s.k → e ≢ d → Marked e (marks_in p c.leader c.number)
-    rest full e low other = by (was e (all-among (λ i. is_some (at None more.marks i)) (range_with_len 0 s.k) e full (among-range e 0 s.k (omega arith) (omega (arith, low))))) where
-      by : (e ≡ d) ⊎ Marked e (marks_in p c.leader c.number) → Marked e (marks_in p c.leader c.number)
-      by (inl same) = absurd (other same)
-      by (inr is) = is
+    rest full e low other =
+        by (was e (all-among (λ i. is_some (at None more.marks i)) (range_with_len 0 s.k) e full
+        (among-range e 0 s.k (omega arith) (omega (arith, low))))) where
+          by : (e ≡ d) ⊎ Marked e (marks_in p c.leader c.number) → Marked e (marks_in p c.leader c.number)
+          by (inl same) = absurd (other same)
+          by (inr is) = is
 
     -- with the copy, and without
     abbrev waiting : Process
@@ -173,11 +185,15 @@ module _ (s : Dimensions) where
     waiting-other : (i j : ℕ) → ((i ≡ c.leader) × (j ≡ c.number) → ⊥) → marks_in waiting i j ≡ marks_in p i j
     waiting-other i j other =
         ap (option_map (λ x. x.marks))
-        (found-apart (is_copy i j) (is_copy c.leader c.number) more q.as_row.copies (copy-other i j c.leader c.number more (copy-is more) other) (λ x swap. copy-other i j c.leader c.number x swap other))
+        (found-apart (is_copy i j) (is_copy c.leader c.number) more q.as_row.copies
+        (copy-other i j c.leader c.number more (copy-is more) other)
+        (λ x swap. copy-other i j c.leader c.number x swap other))
         ∙ others i j other
 
     rid-here : marks_in rid c.leader c.number ≡ None
-    rid-here = ap (option_map (λ x. x.marks)) (found-filter (is_copy c.leader c.number) (λ x. not (is_copy c.leader c.number x)) false q.as_row.copies (λ x passes. ap not passes))
+    rid-here = ap (option_map (λ x. x.marks))
+        (found-filter (is_copy c.leader c.number) (λ x. not (is_copy c.leader c.number x)) false q.as_row.copies
+        (λ x passes. ap not passes))
 
     rid-other : (i j : ℕ) → ((i ≡ c.leader) × (j ≡ c.number) → ⊥) → marks_in rid i j ≡ marks_in p i j
     rid-other i j other =
@@ -185,7 +201,8 @@ module _ (s : Dimensions) where
         (λ x passes. ap not (copy-other c.leader c.number i j x passes (λ same. other (sym same.0, sym same.1)))))
         ∙ others i j other
 
-    finished : (own : Bool) → same_process q.name (ParityNode c.leader) ≡ own → is_full s more.marks ≡ true → Takes p (row_finished own s more rid) c.leader c.number d
+    finished : (own : Bool) → same_process q.name (ParityNode c.leader) ≡ own → is_full s more.marks ≡ true
+        → Takes p (row_finished own s more rid) c.leader c.number d
     finished true own full = record {
       name = name;
       known = known;
@@ -204,7 +221,9 @@ module _ (s : Dimensions) where
       calm = (tt, tt);
       outcome =
           Goes rid-here (rest full)
-          (λ (same : p.name ≡ ParityNode c.leader). cc (sym own ∙ ap (λ (y : ProcessId). same_process y (ParityNode c.leader)) (name ∙ same) ∙ same-refl (ParityNode c.leader)))
+          (λ (same : p.name ≡ ParityNode c.leader).
+          cc (sym own ∙ ap (λ (y : ProcessId). same_process y (ParityNode c.leader)) (name ∙ same)
+          ∙ same-refl (ParityNode c.leader)))
           (gathers-same s p rid c.number sessions last) (inl (refl, (refl, refl)));
     }
 

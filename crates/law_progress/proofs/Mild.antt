@@ -1,6 +1,7 @@
 -- Steps that leave copies and sessions, and send nothing of a session but rows and blocks; and that every call makes
 -- one, or opens a session.
-use Rattle.std.proofs.Common.{◌≡◌, ℕ, suc, ◌%◌, ◌<◌, ◌==◌, nat_le, Bool, true, false, not, List, [], ◌∷◌, filter, find, is_some, Option, Some, None, ◌⊎◌, inl, inr, refl, ap, ◌∙◌, arith}
+use Rattle.std.proofs.Common.{◌≡◌, ℕ, suc, ◌%◌, ◌<◌, ◌==◌, nat_le, Bool, true, false, not, List, [], ◌∷◌, filter, find}
+use Rattle.std.proofs.Common.{is_some, Option, Some, None, ◌⊎◌, inl, inr, refl, ap, ◌∙◌, arith}
 use Rattle.std.specs.List.{list_any, range_with_len}
 use Rattle.group_types.specs.Dimensions.{Dimensions, space_of}
 use Rattle.group_types.specs.Hash.{fnv1a, home_of}
@@ -17,8 +18,10 @@ use Rattle.group_message.specs.declared.update.Update.{Update}
 use Rattle.group_calls.specs.Turns.{CallName}
 use Rattle.group_calls.specs.declared.decision.Decision.{Decision}
 use Rattle.group_calls.specs.declared.decision.Decision.TheVariants as decides
-use Rattle.group_run.specs.Applying.{ProcessStep, and_then, apply_to, for_each, head_at, held_at, quiet, replica_of, sending, when, with_head, with_held, with_replica}
-use Rattle.group_run.specs.Asking.{Oldest, act_on, ask_head, collect_from, collect_held, found_at, handed_out, holding, is_call, issued, oldest_inherited, retry_block, ticketed, update_of}
+use Rattle.group_run.specs.Applying.{ProcessStep, and_then, apply_to, for_each, head_at, held_at, quiet, replica_of}
+use Rattle.group_run.specs.Applying.{sending, when, with_head, with_held, with_replica}
+use Rattle.group_run.specs.Asking.{Oldest, act_on, ask_head, collect_from, collect_held, found_at, handed_out, holding}
+use Rattle.group_run.specs.Asking.{is_call, issued, oldest_inherited, retry_block, ticketed, update_of}
 use Rattle.group_run.specs.Deciding.{decide}
 use Rattle.group_run.specs.Heading.{acknowledge, acknowledged, judge, judge_head, other_parities, tell_stable, tell_stables, to_others}
 use Rattle.group_run.specs.Leaders.{rebuilt_block, start_session}
@@ -80,7 +83,10 @@ mild-self p = record { alike = alike-self p; calm = tt }
 
 pub mild-then : (p : Process) (a : ProcessStep) (f : Process → ProcessStep) → Mild p a → Mild a.process (f a.process) → Mild p (and_then a f)
 mild-then p a f first next =
-    record { alike = alike-then p a.process (f a.process).process first.alike next.alike; calm = each-append (λ z. Calm z.message) a.sent (f a.process).sent first.calm next.calm }
+    record {
+      alike = alike-then p a.process (f a.process).process first.alike next.alike;
+      calm = each-append (λ z. Calm z.message) a.sent (f a.process).sent first.calm next.calm;
+    }
 
 pub mild-each : (xs : List ℕ) (f : ℕ → Process → ProcessStep) (p : Process) → ((x : ℕ) (q : Process) → Mild q (f x q)) → Mild p (for_each xs f p)
 mild-each [] f p all = mild-self p
@@ -93,7 +99,8 @@ mild-when false p t mild = mild-self p
 -- a message to all others
 pub calm-others : (s : Dimensions) (p : Process) (m : Message) → Calm m → CalmSent (to_others s p m)
 calm-others s p m calm =
-    each-map (λ z. Calm z.message) (λ i. record { to = ParityNode i; message = m }) (other_parities s.m p.name p.known) (each-all (λ i. Calm m) (λ i. calm) (other_parities s.m p.name p.known))
+    each-map (λ z. Calm z.message) (λ i. record { to = ParityNode i; message = m }) (other_parities s.m p.name p.known)
+    (each-all (λ i. Calm m) (λ i. calm) (other_parities s.m p.name p.known))
 
 mod-below : (n k : ℕ) → 0 < k → n % k < k
 mod-below n k some = omega (arith, some)
@@ -145,11 +152,17 @@ module _ (s : Dimensions) where
     mild-issued : (d : ℕ) (h : Head) (u : Update) → Mild p (issued s d h u p)
     mild-issued d h u =
         let told : Process = with_replica d (with_update u (replica_of p d)) p in
-        mild-then p (sending (to_others s p _) told) (judge s d) (record { alike = alike-same p told refl refl refl; calm = calm-others s p _ tt }) (mild-judge d told)
+        mild-then p (sending (to_others s p _) told) (judge s d)
+        (record { alike = alike-same p told refl refl refl; calm = calm-others s p _ tt }) (mild-judge d told)
 
     mild-ticketed : (b : Bool) (d : ℕ) (u : Update) (t : ProcessStep) → Mild p t → Mild p (ticketed b d u t).step
     mild-ticketed true d u t mild = mild
-    mild-ticketed false d u t mild = record { alike = alike-then p t.process (holding d u t.process) mild.alike (alike-same t.process (holding d u t.process) refl refl refl); calm = mild.calm }
+    mild-ticketed false d u t mild =
+        record {
+          alike = alike-then p t.process (holding d u t.process) mild.alike
+              (alike-same t.process (holding d u t.process) refl refl refl);
+          calm = mild.calm;
+        }
 
     acts : (call : CallName) (op : Asked) (d : ℕ) (h : Head) (decision : Decision) → HeadsOne p
         → SentWell Owes s.k (act_on s call op d h p decision).step.process (act_on s call op d h p decision).step.sent
@@ -162,13 +175,21 @@ module _ (s : Dimensions) where
         let u : Update = update_of call op d body outcome p in
         inl (mild-ticketed (nat_le u.number (replica_of (issued s d h u p).process d).applied) d u (issued s d h u p) (mild-issued d h u))
 
-    asks : (call : CallName) (op : Asked) (d : ℕ) (o : Option Head) → d < s.k → head_at p d ≡ o → SentWell Owes s.k (ask_head s call op d p o).step.process (ask_head s call op d p o).step.sent
+    asks : (call : CallName) (op : Asked) (d : ℕ) (o : Option Head) → d < s.k → head_at p d ≡ o
+        → SentWell Owes s.k (ask_head s call op d p o).step.process (ask_head s call op d p o).step.sent
         → (ask_head s call op d p o).step.process.name ≡ p.name → Treated p (ask_head s call op d p o).step
     asks call op d None below is well same = inl (mild-self p)
-    asks call op d (Some h) below is well same = acts call op d h (decide (space_of s) h.inherited (replica_of p d) op (found_at s d p p.name)) (d, below, (h, is)) well same
+    asks call op d (Some h) below is well same =
+        acts call op d h (decide (space_of s) h.inherited (replica_of p d) op (found_at s d p p.name))
+        (d, below, (h, is)) well same
 
     mild-handed : (b : Bool) (d : ℕ) (h : Held) → Mild p (handed_out b d h p).step
-    mild-handed true d h = record { alike = alike-same p (with_held d (filter (λ y. not (is_call h.caller h.call y)) (held_at p d)) p) refl refl refl; calm = tt }
+    mild-handed true d h =
+        record {
+          alike = alike-same p (with_held d (filter (λ y. not (is_call h.caller h.call y)) (held_at p d)) p) refl
+              refl refl;
+          calm = tt;
+        }
     mild-handed false d h = mild-self p
 
     mild-collect : (caller call : ℕ) (ds : List ℕ) → Mild p (collect_from caller call p ds).step
@@ -188,15 +209,19 @@ module _ (s : Dimensions) where
     pub treated : (t : ProcessStep) → Treats s p t → Seated s p x → Treated p t
     treated _ (Asks call op bytes) seated =
         let well = step-treats s p x _ seated (Asks call op bytes) in
-        asks call op (home_of (key_of op.act) s.k) (head_at p (home_of (key_of op.act) s.k)) (mod-below (fnv1a (key_of op.act)) s.k seated.some) refl well.sent well.same.name
+        asks call op (home_of (key_of op.act) s.k) (head_at p (home_of (key_of op.act) s.k))
+        (mod-below (fnv1a (key_of op.act)) s.k seated.some) refl well.sent well.same.name
     treated _ (Collects caller call) seated = inl (mild-collect caller call (range_with_len 0 s.k))
     treated _ Flushes seated = inl (record { alike = alike-self p; calm = calm-stables (range_with_len 0 s.k) })
 
   -- what came has no part in a session here
   module _ (x : ProcessId) (came : List Message) (p : Process) (t : ProcessStep) (mild : Mild p t) where
-    pub fair-mild : ((l n r d : ℕ) → p.name ≡ ParityNode r → Has (IsMark l n d) came → Each (Accepts p) came → ⊥) → ((l n : ℕ) → x ≡ ParityNode l → Has (IsCease n) came → ⊥)
-        → ((l n r : ℕ) → p.name ≡ ParityNode l → x ≡ ParityNode r → Has (IsRow l n) came → ⊥) → ((l n d : ℕ) → p.name ≡ ParityNode l → x ≡ DataNode d → Has (IsBlock l n) came → ⊥)
-        → ((l n r e : ℕ) → p.name ≡ DataNode e → Has (AsksForBlock l n r) came → ⊥) → ((l n e : ℕ) → p.name ≡ DataNode e → Has (IsRead l n) came → ⊥) → Fair s x came p t
+    pub fair-mild : ((l n r d : ℕ) → p.name ≡ ParityNode r → Has (IsMark l n d) came → Each (Accepts p) came → ⊥)
+        → ((l n : ℕ) → x ≡ ParityNode l → Has (IsCease n) came → ⊥)
+        → ((l n r : ℕ) → p.name ≡ ParityNode l → x ≡ ParityNode r → Has (IsRow l n) came → ⊥)
+        → ((l n d : ℕ) → p.name ≡ ParityNode l → x ≡ DataNode d → Has (IsBlock l n) came → ⊥)
+        → ((l n r e : ℕ) → p.name ≡ DataNode e → Has (AsksForBlock l n r) came → ⊥)
+        → ((l n e : ℕ) → p.name ≡ DataNode e → Has (IsRead l n) came → ⊥) → Fair s x came p t
     fair-mild no_mark no_cease no_row no_block no_ask no_read = record {
       row = same-row s x came p t mild.alike.ceased mild.alike.marks no_mark no_cease;
       leader = same-leader s x came p t mild.alike.known mild.alike.sessions mild.alike.last no_row no_block;
@@ -205,4 +230,5 @@ module _ (s : Dimensions) where
 
   pub fair-treated : (x : ProcessId) (p : Process) (t : ProcessStep) → Mild p t → Fair s x [] p t
   fair-treated x p t mild =
-      fair-mild x [] p t mild (λ l n r d name has accepted. has) (λ l n from has. has) (λ l n r name from has. has) (λ l n d name from has. has) (λ l n r e name has. has) (λ l n e name has. has)
+      fair-mild x [] p t mild (λ l n r d name has accepted. has) (λ l n from has. has) (λ l n r name from has. has)
+      (λ l n d name from has. has) (λ l n r e name has. has) (λ l n e name has. has)

@@ -1,5 +1,6 @@
 -- The next delivery is of a message that waits for a living process.
-use Rattle.std.proofs.Common.{ℕ, zero, suc, ◌≡◌, ◌≢◌, ◌<◌, ◌≤◌, ◌+◌, Bool, true, false, not, ◌&&◌, if◌then◌else◌, List, [], ◌∷◌, Option, Some, None, refl, sym, ap, subst, ◌∙◌, arith}
+use Rattle.std.proofs.Common.{ℕ, zero, suc, ◌≡◌, ◌≢◌, ◌<◌, ◌≤◌, ◌+◌, Bool, true, false, not, ◌&&◌, if◌then◌else◌, List}
+use Rattle.std.proofs.Common.{[], ◌∷◌, Option, Some, None, refl, sym, ap, subst, ◌∙◌, arith}
 use Rattle.std.specs.List.{range_with_len}
 use Rattle.group_types.specs.Lists.{at}
 use Rattle.group_types.specs.Names.{process_at}
@@ -64,7 +65,8 @@ module _ (w : World) where
     -- what waits is delivered
     waiting-comes : (x y : ℕ) → x < count → y < count → is_waiting w x y ≡ true → NextComes w (Deliver (process_at w.shape x) (process_at w.shape y))
     waiting-comes x y x-low y-low waiting =
-        by (at [] (node_at w x).links y) (both-true (node_at w y).dead (some_message (at [] (node_at w x).links y)) waiting) (ap (at [] (node_at w x).links) (index-process_at w.shape y))
+        by (at [] (node_at w x).links y) (both-true (node_at w y).dead (some_message (at [] (node_at w x).links y))
+        waiting) (ap (at [] (node_at w x).links) (index-process_at w.shape y))
       where
         from : ProcessId
         from = process_at w.shape x
@@ -83,4 +85,5 @@ module _ (w : World) where
             }
 
     pub next-of : (e : Event) → next_delivery w ≡ Some e → NextComes w e
-    next-of e found = let there = next-waits e found in subst (NextComes w) there.is (waiting-comes there.from there.to there.from_low there.to_low there.waiting)
+    next-of e found = let there = next-waits e found in
+        subst (NextComes w) there.is (waiting-comes there.from there.to there.from_low there.to_low there.waiting)

@@ -1,5 +1,7 @@
 -- A leader opens a session: all that it waits for is asked for or marked.
-use Rattle.std.proofs.Common.{◌≡◌, ◌≢◌, ℕ, suc, ◌<◌, ◌≤◌, ◌==◌, Bool, true, false, not, List, [], ◌∷◌, length, take, map, filter, flat_map, is_some, Option, Some, None, replicate, ◌⊎◌, inl, inr, refl, sym, ap, ap₂, subst, ◌∙◌, arith}
+use Rattle.std.proofs.Common.{◌≡◌, ◌≢◌, ℕ, suc, ◌<◌, ◌≤◌, ◌==◌, Bool, true, false, not, List, [], ◌∷◌, length, take}
+use Rattle.std.proofs.Common.{map, filter, flat_map, is_some, Option, Some, None, replicate, ◌⊎◌, inl, inr, refl, sym}
+use Rattle.std.proofs.Common.{ap, ap₂, subst, ◌∙◌, arith}
 use Rattle.std.proofs.lemmas.Bool.{cases_eq, eq-eqb, ne_eqb}
 use Rattle.std.specs.Prelude.{◌||◌}
 use Rattle.std.specs.List.{list_all, list_any, range_with_len}
@@ -15,7 +17,8 @@ use Rattle.group_message.specs.declared.message.Message.{Message}
 use Rattle.group_message.specs.declared.message.Message.TheVariants as tells
 use Rattle.group_run.specs.Applying.{ProcessStep, Sent, and_then, for_each, replica_of, sending}
 use Rattle.group_run.specs.Heading.{partition, rank}
-use Rattle.group_run.specs.Leaders.{is_complete, leader_marks, left_of, lost_of, new_session, own_mark, rows_of, session_of, session_opened, session_starts, start_session}
+use Rattle.group_run.specs.Leaders.{is_complete, leader_marks, left_of, lost_of, new_session, own_mark, rows_of}
+use Rattle.group_run.specs.Leaders.{session_of, session_opened, session_starts, start_session}
 use Rattle.group_run.specs.Process.{Gathering, Process}
 use Rattle.group_run.specs.Rows.{parity_number}
 use Rattle.law_moves.proofs.Calls.{each-below}
@@ -24,13 +27,18 @@ use Rattle.law_bytes.proofs.Stamps.{OfSession}
 use Rattle.law_progress.proofs.Waiting.{Has, AsksForBlock, IsMark, IsRead, Marked, WantsBlock, WantsRow, marks_in}
 use Rattle.law_progress.proofs.Gathering.{one-of-all}
 use Rattle.law_progress.proofs.Sides as sides
-use Rattle.law_progress.proofs.Sides.{CopyFine, Fair, Fresh, LeaderFine, LeaderSide, Leaves, NewBlock, NewRow, RowFine, RowSide, SentSide, calm-ask, calm-mark, calm-none, leaves-each, opened}
+use Rattle.law_progress.proofs.Sides.{CopyFine, Fair, Fresh, LeaderFine, LeaderSide, Leaves, NewBlock, NewRow, RowFine}
+use Rattle.law_progress.proofs.Sides.{RowSide, SentSide, calm-ask, calm-mark, calm-none, leaves-each, opened}
 use Rattle.law_progress.proofs.Starting.{Runs, first-passing, loop, once}
 use Rattle.law_progress.proofs.Taking.{data-one, has-both, parity-one, same-or-not}
-use Rattle.law_progress.proofs.Views.{Sends, filter-has, find-new, find-old, flat-has, has-either, has-filter, has-flat, has-left, has-map, has-range, has-right, map-has}
+use Rattle.law_progress.proofs.Views.{Sends, filter-has, find-new, find-old, flat-has, has-either, has-filter, has-flat}
+use Rattle.law_progress.proofs.Views.{has-left, has-map, has-range, has-right, map-has}
 
-module _ (s : Dimensions) (x : ProcessId) (p : Process) (block l : ℕ) (inside : l < s.m) (name : p.name ≡ ParityNode l) (living : knows_dead p.known (ParityNode l) ≡ false) (above : at 0 p.as_row.ceased l < suc p.as_leader.last_session)
-    (free : marks_in p l (suc p.as_leader.last_session) ≡ None) (numbered : LeaderFine s p) (a : ℕ) (a_in : a < s.k) (a_lost : knows_dead p.known (DataNode a) ≡ true) (lower : (j : ℕ) → j < l → knows_dead p.known (ParityNode j) ≡ true) where
+module _ (s : Dimensions) (x : ProcessId) (p : Process) (block l : ℕ) (inside : l < s.m) (name : p.name ≡ ParityNode l)
+    (living : knows_dead p.known (ParityNode l) ≡ false) (above : at 0 p.as_row.ceased l < suc p.as_leader.last_session)
+    (free : marks_in p l (suc p.as_leader.last_session) ≡ None) (numbered : LeaderFine s p) (a : ℕ) (a_in : a < s.k)
+    (a_lost : knows_dead p.known (DataNode a) ≡ true) (lower : (j : ℕ) → j < l → knows_dead p.known (ParityNode j)
+    ≡ true) where
   abbrev number : ℕ
   number = suc p.as_leader.last_session
 
@@ -44,23 +52,28 @@ module _ (s : Dimensions) (x : ProcessId) (p : Process) (block l : ℕ) (inside 
   step = and_then (sending (session_starts s l number block p) opening) (for_each (lost_of s p) (own_mark s l number block))
 
   runs : Runs s l number block (lost_of s p) opening ran
-  runs = loop s l number block (lost_of s p) opening (each-filter (λ e. e < s.k) (λ d. knows_dead p.known (DataNode d)) (range_with_len 0 s.k) (each-below s.k)) name living above
+  runs = loop s l number block (lost_of s p) opening (each-filter (λ e. e < s.k) (λ d. knows_dead p.known (DataNode d))
+      (range_with_len 0 s.k) (each-below s.k)) name living above
 
   -- who is lost, who is left, and that the leader is among the rows
   lost-has : (d : ℕ) → d < s.k → knows_dead p.known (DataNode d) ≡ true → Has (λ i. i ≡ d) (lost_of s p)
   lost-has d low is = has-filter (λ d. knows_dead p.known (DataNode d)) d (range_with_len 0 s.k) (has-range d 0 s.k (omega arith) (omega (arith, low))) is
 
   left-has : (d : ℕ) → d < s.k → knows_dead p.known (DataNode d) ≡ false → Has (λ i. i ≡ d) (left_of s p)
-  left-has d low is = has-filter (λ d. not (knows_dead p.known (DataNode d))) d (range_with_len 0 s.k) (has-range d 0 s.k (omega arith) (omega (arith, low))) (ap not is)
+  left-has d low is = has-filter (λ d. not (knows_dead p.known (DataNode d))) d (range_with_len 0 s.k)
+      (has-range d 0 s.k (omega arith) (omega (arith, low))) (ap not is)
 
   own-row : Has (λ i. i ≡ l) (rows_of s p)
   own-row = by (lost_of s p) (lost-has a a_in a_lost) where
     test : ℕ → Bool
     test i = not (knows_dead p.known (ParityNode i))
 
-    by : (ls : List ℕ) → Has (λ i. i ≡ a) ls → Has (λ i. i ≡ l) (take (length ls) (filter (λ i. not (knows_dead p.known (ParityNode i))) (range_with_len 0 s.m)))
+    by : (ls : List ℕ) → Has (λ i. i ≡ a) ls
+        → Has (λ i. i ≡ l)
+        (take (length ls) (filter (λ i. not (knows_dead p.known (ParityNode i))) (range_with_len 0 s.m)))
     by [] has = absurd has
-    by (e ∷ es) has = first-passing (λ i. not (knows_dead p.known (ParityNode i))) l 0 s.m (length es) (omega arith) (omega (arith, inside)) (λ j over under. ap not (lower j under)) (ap not living)
+    by (e ∷ es) has = first-passing (λ i. not (knows_dead p.known (ParityNode i))) l 0 s.m (length es) (omega arith)
+        (omega (arith, inside)) (λ j over under. ap not (lower j under)) (ap not living)
 
   -- sessions as they are opened
   number-new : opened p number ≡ None
@@ -80,14 +93,18 @@ module _ (s : Dimensions) (x : ProcessId) (p : Process) (block l : ℕ) (inside 
 
   new-lacks : is_complete s (new_session s number block p) ≡ false
   new-lacks = true-false (is_complete s (new_session s number block p)) (λ complete. absurd
-      (let rows = (and-split (list_all (λ d. list_any (λ i. i == d) (lost_of s p) || is_some (at None (replicate s.k None) d)) (range_with_len 0 s.k)) (list_all (λ i. is_some (at None (replicate s.m None) i)) (rows_of s p)) complete).1 in
+      (let rows = (and-split
+      (list_all (λ d. list_any (λ i. i == d) (lost_of s p) || is_some (at None (replicate s.k None) d))
+      (range_with_len 0 s.k)) (list_all (λ i. is_some (at None (replicate s.m None) i)) (rows_of s p)) complete).1 in
       let some = one-of-all (λ i. is_some (at None (replicate s.m None) i)) (rows_of s p) l rows own-row in
       cc (sym some ∙ ap is_some (at-replicate {X = Option (List ℕ)} None s.m l))))
 
   opening-fine : LeaderFine s opening
   opening-fine n g is = by (cases_eq n number) where
     by : (n ≡ number) ⊎ (n ≢ number) → (is_complete s g ≡ false) × (n ≤ number)
-    by (inl same) = let it : new_session s number block p ≡ g = cc (sym opened-new ∙ ap (opened opening) (sym same) ∙ is) in (ap (is_complete s) (sym it) ∙ new-lacks, omega (arith, same))
+    by (inl same) = let it : new_session s number block p ≡ g =
+        cc (sym opened-new ∙ ap (opened opening) (sym same) ∙ is) in
+        (ap (is_complete s) (sym it) ∙ new-lacks, omega (arith, same))
     by (inr other) = let old = numbered n g (sym (opened-old n other) ∙ is) in (old.0, let low = old.1 in omega (arith, low))
 
   -- what is sent
@@ -97,14 +114,18 @@ module _ (s : Dimensions) (x : ProcessId) (p : Process) (block l : ℕ) (inside 
   abbrev mark_of : ℕ → ℕ → Sent
   mark_of e i = record { to = ParityNode i; message = tells.Mark (session_of l number) (rank (at 0 p.ranks e)) block (partition e) (replica_of p e).applied }
 
-  asks-d : (d r : ℕ) → d < s.k → knows_dead p.known (DataNode d) ≡ false → Has (λ i. i ≡ r) (rows_of s p) → Sends (AsksForBlock l number r) (DataNode d) step.sent
+  asks-d : (d r : ℕ) → d < s.k → knows_dead p.known (DataNode d) ≡ false → Has (λ i. i ≡ r) (rows_of s p)
+      → Sends (AsksForBlock l number r) (DataNode d) step.sent
   asks-d d r low is row =
       has-left P (session_starts s l number block p) ran.sent
-      (has-left P (map question (left_of s p)) (flat_map (leader_marks s l number block p) (lost_of s p)) (has-map P question (left_of s p) (each_of (left_of s p) (left-has d low is)))) where
+      (has-left P (map question (left_of s p)) (flat_map (leader_marks s l number block p) (lost_of s p))
+      (has-map P question (left_of s p) (each_of (left_of s p) (left-has d low is)))) where
         P : Sent → Type 0
         P z = (z.to ≡ DataNode d) × AsksForBlock l number r z.message
 
-        each_of : (ds : List ℕ) → Has (λ i. i ≡ d) ds → Has (λ i. (DataNode i ≡ DataNode d) × (OfSession l number (session_of l number) × Has (λ i. i ≡ r) (rows_of s p))) ds
+        each_of : (ds : List ℕ) → Has (λ i. i ≡ d) ds
+            → Has (λ i. (DataNode i ≡ DataNode d)
+            × (OfSession l number (session_of l number) × Has (λ i. i ≡ r) (rows_of s p))) ds
         each_of [] has = absurd has
         each_of (e ∷ es) (inl same) = inl (ap DataNode same, ((refl, refl), row))
         each_of (e ∷ es) (inr there) = inr (each_of es there)
@@ -112,7 +133,8 @@ module _ (s : Dimensions) (x : ProcessId) (p : Process) (block l : ℕ) (inside 
   reads-d : (d : ℕ) → d < s.k → knows_dead p.known (DataNode d) ≡ false → Sends (IsRead l number) (DataNode d) step.sent
   reads-d d low is =
       has-left P (session_starts s l number block p) ran.sent
-      (has-left P (map question (left_of s p)) (flat_map (leader_marks s l number block p) (lost_of s p)) (has-map P question (left_of s p) (each_of (left_of s p) (left-has d low is)))) where
+      (has-left P (map question (left_of s p)) (flat_map (leader_marks s l number block p) (lost_of s p))
+      (has-map P question (left_of s p) (each_of (left_of s p) (left-has d low is)))) where
         P : Sent → Type 0
         P z = (z.to ≡ DataNode d) × IsRead l number z.message
 
@@ -121,25 +143,33 @@ module _ (s : Dimensions) (x : ProcessId) (p : Process) (block l : ℕ) (inside 
         each_of (e ∷ es) (inl same) = inl (ap DataNode same, (refl, refl))
         each_of (e ∷ es) (inr there) = inr (each_of es there)
 
-  marks-d : (d r : ℕ) → d < s.k → knows_dead p.known (DataNode d) ≡ true → r ≢ l → Has (λ i. i ≡ r) (rows_of s p) → Sends (IsMark l number d) (ParityNode r) step.sent
+  marks-d : (d r : ℕ) → d < s.k → knows_dead p.known (DataNode d) ≡ true → r ≢ l → Has (λ i. i ≡ r) (rows_of s p)
+      → Sends (IsMark l number d) (ParityNode r) step.sent
   marks-d d r low is other row =
       has-left P (session_starts s l number block p) ran.sent
-      (has-right P (map question (left_of s p)) (flat_map (leader_marks s l number block p) (lost_of s p)) (has-flat P (leader_marks s l number block p) (lost_of s p) (each_lost (lost_of s p) (lost-has d low is)))) where
+      (has-right P (map question (left_of s p)) (flat_map (leader_marks s l number block p) (lost_of s p))
+      (has-flat P (leader_marks s l number block p) (lost_of s p)
+      (each_lost (lost_of s p) (lost-has d low is)))) where
         P : Sent → Type 0
         P z = (z.to ≡ ParityNode r) × IsMark l number d z.message
 
         rows : Has (λ i. i ≡ r) (filter (λ i. not (i == l)) (rows_of s p))
         rows = has-filter (λ i. not (i == l)) r (rows_of s p) row (ap not (ne_eqb r l other))
 
-        each_of : (e : ℕ) → e ≡ d → (is : List ℕ) → Has (λ i. i ≡ r) is → Has (λ i. (ParityNode i ≡ ParityNode r) × (OfSession l number (session_of l number) × (e ≡ d))) is
+        each_of : (e : ℕ) → e ≡ d → (is : List ℕ) → Has (λ i. i ≡ r) is
+            → Has (λ i. (ParityNode i ≡ ParityNode r) × (OfSession l number (session_of l number) × (e ≡ d))) is
         each_of e same [] has = absurd has
         each_of e same (i ∷ is) (inl here) = inl (ap ParityNode here, ((refl, refl), same))
         each_of e same (i ∷ is) (inr there) = inr (each_of e same is there)
 
-        each_lost : (es : List ℕ) → Has (λ i. i ≡ d) es → Has (λ e. Has (λ z. (z.to ≡ ParityNode r) × IsMark l number d z.message) (leader_marks s l number block p e)) es
+        each_lost : (es : List ℕ) → Has (λ i. i ≡ d) es
+            → Has (λ e. Has (λ z. (z.to ≡ ParityNode r) × IsMark l number d z.message)
+            (leader_marks s l number block p e)) es
         each_lost [] has = absurd has
         each_lost (e ∷ es) (inl same) =
-            inl (has-map (λ z. (z.to ≡ ParityNode r) × IsMark l number d z.message) (mark_of e) (filter (λ i. not (i == l)) (rows_of s p)) (each_of e same (filter (λ i. not (i == l)) (rows_of s p)) rows))
+            inl (has-map (λ z. (z.to ≡ ParityNode r) × IsMark l number d z.message) (mark_of e)
+            (filter (λ i. not (i == l)) (rows_of s p))
+            (each_of e same (filter (λ i. not (i == l)) (rows_of s p)) rows))
         each_lost (e ∷ es) (inr there) = inr (each_lost es there)
 
   -- what is sent comes of this session alone
@@ -156,7 +186,8 @@ module _ (s : Dimensions) (x : ProcessId) (p : Process) (block l : ℕ) (inside 
     each_lost (e ∷ es) (inl here) = inl (map-has (λ z. (z.to ≡ y) × P z.message) (mark_of e) (filter (λ i. not (i == l)) (rows_of s p)) here)
     each_lost (e ∷ es) (inr there) = inr (each_lost es there)
 
-    inner : Has (λ z. (z.to ≡ y) × P z.message) (map question (left_of s p)) ⊎ Has (λ z. (z.to ≡ y) × P z.message) (flat_map (leader_marks s l number block p) (lost_of s p))
+    inner : Has (λ z. (z.to ≡ y) × P z.message) (map question (left_of s p)) ⊎ Has (λ z. (z.to ≡ y) × P z.message)
+        (flat_map (leader_marks s l number block p) (lost_of s p))
         → Has (λ d. (DataNode d ≡ y) × P (tells.ReadBlock (session_of l number) block (rows_of s p))) (left_of s p) ⊎ Has
         (λ e. Has (λ i. (ParityNode i ≡ y) × P (mark_of e i).message) (filter (λ i. not (i == l)) (rows_of s p))) (lost_of s p)
     inner (inl one) = inl (map-has (λ z. (z.to ≡ y) × P z.message) question (left_of s p) one)
@@ -165,7 +196,9 @@ module _ (s : Dimensions) (x : ProcessId) (p : Process) (block l : ℕ) (inside 
     outer : Has (λ z. (z.to ≡ y) × P z.message) (session_starts s l number block p) ⊎ Has (λ z. (z.to ≡ y) × P z.message) ran.sent
         → Has (λ d. (DataNode d ≡ y) × P (tells.ReadBlock (session_of l number) block (rows_of s p))) (left_of s p) ⊎ Has
         (λ e. Has (λ i. (ParityNode i ≡ y) × P (mark_of e i).message) (filter (λ i. not (i == l)) (rows_of s p))) (lost_of s p)
-    outer (inl starts) = inner (has-either (λ z. (z.to ≡ y) × P z.message) (map question (left_of s p)) (flat_map (leader_marks s l number block p) (lost_of s p)) starts)
+    outer (inl starts) =
+        inner (has-either (λ z. (z.to ≡ y) × P z.message) (map question (left_of s p))
+        (flat_map (leader_marks s l number block p) (lost_of s p)) starts)
     outer (inr more) = absurd (calm-none P never y ran.sent runs.calm more)
 
   -- a row other than the leader's own is waited for
@@ -178,7 +211,9 @@ module _ (s : Dimensions) (x : ProcessId) (p : Process) (block l : ℕ) (inside 
   -- so is its own, while some data process is left
   waits-own : (d : ℕ) → d < s.k → knows_dead p.known (DataNode d) ≡ false → WantsRow l (opened ran.process number)
   waits-own d low is =
-      (runs.apart d low (λ lost. cc (sym is ∙ (filter-has (λ e. knows_dead p.known (DataNode e)) d (range_with_len 0 s.k) lost).1)) (λ held. absurd (subst (Marked d) free held))).1
+      (runs.apart d low
+      (λ lost. cc (sym is ∙ (filter-has (λ e. knows_dead p.known (DataNode e)) d (range_with_len 0 s.k) lost).1))
+      (λ held. absurd (subst (Marked d) free held))).1
       (wants-new l own-row)
 
   waits-any : (r d : ℕ) → d < s.k → knows_dead p.known (DataNode d) ≡ false → Has (λ i. i ≡ r) (rows_of s p) → WantsRow r (opened ran.process number)
@@ -213,7 +248,9 @@ module _ (s : Dimensions) (x : ProcessId) (p : Process) (block l : ℕ) (inside 
         inr (inr (
           own ∙ sym same.0,
           subst (λ (i : ℕ). WantsRow r (opened ran.process i)) (sym same.1) (subst (λ (i : ℕ). WantsRow i (opened ran.process number)) (sym own)
-              (runs.holds (once (λ d. knows_dead p.known (DataNode d)) 0 s.k) (λ e has held. absurd (subst (Marked e) free held)) (wants-new l own-row) (ap₂ (λ (i j : ℕ). is_some (marks_in ran.process i j)) (sym same.0) (sym same.1) ∙ some))),
+              (runs.holds (once (λ d. knows_dead p.known (DataNode d)) 0 s.k)
+              (λ e has held. absurd (subst (Marked e) free held)) (wants-new l own-row)
+              (ap₂ (λ (i j : ℕ). is_some (marks_in ran.process i j)) (sym same.0) (sym same.1) ∙ some))),
         ))
 
   -- what it leads
@@ -246,14 +283,17 @@ module _ (s : Dimensions) (x : ProcessId) (p : Process) (block l : ℕ) (inside 
     rows k n r is wants (inl same) =
         let here : WantsRow r (opened ran.process number) = subst (λ (i : ℕ). WantsRow r (opened ran.process i)) same wants in
         let before = subst (WantsRow r) opened-new (runs.rows number r here) in
-        inr (λ d low. subst (λ (i : ℕ). NewRow s x [] p step i n r d) (parity-one l k (sym name ∙ is)) (subst (λ (i : ℕ). NewRow s x [] p step l i r d) (sym same) (new-row r d low before.0 here)))
+        inr (λ d low. subst (λ (i : ℕ). NewRow s x [] p step i n r d) (parity-one l k (sym name ∙ is))
+        (subst (λ (i : ℕ). NewRow s x [] p step l i r d) (sym same) (new-row r d low before.0 here)))
 
     blocks : (k n d : ℕ) → p.name ≡ ParityNode k → d < s.k → WantsBlock d (opened ran.process n) → (n ≡ number) ⊎ (n ≢ number)
         → (WantsBlock d (opened p n) × (x ≡ DataNode d → ⊥ → ⊥)) ⊎ NewBlock s x [] p step k n d
     blocks k n d is low wants (inr other) = inl (subst (WantsBlock d) (opened-old n other) (runs.blocks n d wants), λ from has. has)
     blocks k n d is low wants (inl same) =
         inr
-        (subst (λ (i : ℕ). NewBlock s x [] p step i n d) (parity-one l k (sym name ∙ is)) (subst (λ (i : ℕ). NewBlock s x [] p step l i d) (sym same) (by (knows_dead p.known (DataNode d)) refl))) where
+        (subst (λ (i : ℕ). NewBlock s x [] p step i n d) (parity-one l k (sym name ∙ is))
+        (subst (λ (i : ℕ). NewBlock s x [] p step l i d) (sym same)
+        (by (knows_dead p.known (DataNode d)) refl))) where
           by : (b : Bool) → knows_dead p.known (DataNode d) ≡ b → NewBlock s x [] p step l number d
           by true known = inl (ap (λ k. knows_dead k (DataNode d)) runs.known ∙ known)
           by false known = inr (reads-d d low known)
@@ -284,7 +324,8 @@ module _ (s : Dimensions) (x : ProcessId) (p : Process) (block l : ℕ) (inside 
     all_marks : (n : ℕ) (es : List ℕ) → Each (λ z. Leaves n z.message) (flat_map (leader_marks s l number block p) es)
     all_marks n [] = tt
     all_marks n (e ∷ es) = each-append (λ z. Leaves n z.message) (leader_marks s l number block p e) (flat_map (leader_marks s l number block p) es)
-        (each-map (λ z. Leaves n z.message) (mark_of e) (filter (λ i. not (i == l)) (rows_of s p)) (each-all (λ i. Unit {0}) (λ i. tt) (filter (λ i. not (i == l)) (rows_of s p)))) (all_marks n es)
+        (each-map (λ z. Leaves n z.message) (mark_of e) (filter (λ i. not (i == l)) (rows_of s p))
+        (each-all (λ i. Unit {0}) (λ i. tt) (filter (λ i. not (i == l)) (rows_of s p)))) (all_marks n es)
 
     named : (k n : ℕ) → OfSession k n (session_of l number) → (l ≡ k) × (number ≡ n)
     named k n of_it = (parity-one l k of_it.0, of_it.1)
@@ -305,8 +346,11 @@ module _ (s : Dimensions) (x : ProcessId) (p : Process) (block l : ℕ) (inside 
     mark_here k n r d e has =
         let it = has-both (λ i. ParityNode i ≡ ParityNode r) (OfSession k n (session_of l number) × (e ≡ d)) (filter (λ i. not (i == l)) (rows_of s p)) has in
         let is = named k n it.0.0 in
-        let row = filter-has (λ i. not (i == l)) r (rows_of s p) (ones r (filter (λ i. not (i == l)) (rows_of s p)) it.1) in
-        (name ∙ ap ParityNode is.0, subst (λ (j : ℕ). WantsRow r (opened ran.process j)) is.1 (waits-other r (λ same. cc (sym row.1 ∙ ap not (eq-eqb r l same))) row.0))
+        let row = filter-has (λ i. not (i == l)) r (rows_of s p) (ones r (filter (λ i. not (i == l)) (rows_of s p)) it.1) in (
+          name ∙ ap ParityNode is.0,
+          subst (λ (j : ℕ). WantsRow r (opened ran.process j)) is.1
+              (waits-other r (λ same. cc (sym row.1 ∙ ap not (eq-eqb r l same))) row.0),
+        )
 
     mark_among : (k n r d : ℕ) (es : List ℕ)
         → Has (λ e. Has (λ i. (ParityNode i ≡ ParityNode r) × (OfSession k n (session_of l number) × (e ≡ d))) (filter (λ i. not (i == l)) (rows_of s p))) es
@@ -346,13 +390,18 @@ module _ (s : Dimensions) (x : ProcessId) (p : Process) (block l : ℕ) (inside 
     asks k n r e low (inl has) =
         let it = has-both (λ d. DataNode d ≡ DataNode e) (OfSession k n (session_of l number) × Has (λ i. i ≡ r) (rows_of s p)) (left_of s p) has in
         let is = named k n it.0.0 in
-        let left = filter-has (λ d. not (knows_dead p.known (DataNode d))) e (range_with_len 0 s.k) (datas e (left_of s p) it.1) in
-        (name ∙ ap ParityNode is.0, subst (λ (j : ℕ). WantsRow r (opened ran.process j)) is.1 (waits-any r e low (not-true (knows_dead p.known (DataNode e)) left.1) it.0.1))
+        let left = filter-has (λ d. not (knows_dead p.known (DataNode d))) e (range_with_len 0 s.k) (datas e (left_of s p) it.1) in (
+          name ∙ ap ParityNode is.0,
+          subst (λ (j : ℕ). WantsRow r (opened ran.process j)) is.1
+              (waits-any r e low (not-true (knows_dead p.known (DataNode e)) left.1) it.0.1),
+        )
       where
         not-true : (b : Bool) → not b ≡ true → b ≡ false
         not-true true is = cc is
         not-true false is = refl
 
   pub open-fair : Fair s x [] p (start_session s block p)
-  open-fair = subst (λ (i : ℕ). Fair s x [] p (and_then (sending (session_starts s i number block p) opening) (for_each (lost_of s p) (own_mark s i number block)))) (sym (ap parity_number name))
+  open-fair = subst
+      (λ (i : ℕ). Fair s x [] p (and_then (sending (session_starts s i number block p) opening)
+      (for_each (lost_of s p) (own_mark s i number block)))) (sym (ap parity_number name))
       (record { row = own-side; leader = leads-side; sent = sent-side })

@@ -22,14 +22,17 @@ use Rattle.group_message.specs.declared.update.Update.{Update}
 use Rattle.group_calls.specs.Turns.{CallName}
 use Rattle.group_calls.specs.declared.decision.Decision.{Decision}
 use Rattle.group_calls.specs.declared.decision.Decision.TheVariants as decides
-use Rattle.group_run.specs.Applying.{ProcessStep, Sent, and_then, apply_to, for_each, head_at, held_at, quiet, replica_of, sending, when, with_head, with_replica}
-use Rattle.group_run.specs.Asking.{Oldest, act_on, ask_head, collect_from, collect_held, found_at, handed_out, is_call, issued, oldest_inherited, retry_block, ticketed, update_of}
+use Rattle.group_run.specs.Applying.{ProcessStep, Sent, and_then, apply_to, for_each, head_at, held_at, quiet}
+use Rattle.group_run.specs.Applying.{replica_of, sending, when, with_head, with_replica}
+use Rattle.group_run.specs.Asking.{Oldest, act_on, ask_head, collect_from, collect_held, found_at, handed_out, is_call}
+use Rattle.group_run.specs.Asking.{issued, oldest_inherited, retry_block, ticketed, update_of}
 use Rattle.group_run.specs.Deciding.{decide}
 use Rattle.group_run.specs.Heading.{acknowledge, acknowledged, judge, judge_head, other_parities, partition, rank, tell_stable, to_others, to_parities}
 use Rattle.group_run.specs.Leaders.{close_sessions, copy_kept, copy_marked, leader_marks, left_of, lost_of, mark_comes, mark_taken}
 use Rattle.group_run.specs.Leaders.{own_mark, row_finished, rows_of, session_of, session_opened, session_starts, start_session}
 use Rattle.group_run.specs.Process.{Copy, Gathering, Head, Held, Process}
-use Rattle.group_run.specs.Receiving.{ack_to, death_known, enthroned, log_adopted, notice_comes, read_comes, receive, take_over_if, taken_over, takes_over, update_taken}
+use Rattle.group_run.specs.Receiving.{ack_to, death_known, enthroned, log_adopted, notice_comes, read_comes, receive}
+use Rattle.group_run.specs.Receiving.{take_over_if, taken_over, takes_over, update_taken}
 use Rattle.group_run.specs.Replica.{with_update}
 use Rattle.group_run.specs.Rows.{accepts_mark, begin_copy, copy_begun, copy_in, is_marked, marked, parity_number, with_copies, without_copy}
 use Rattle.group_run.specs.World.{front_if, sent_to}
@@ -55,7 +58,8 @@ others-among x known (i ∷ is) = by (same_process x (ParityNode i)) (knows_dead
   left : List ℕ
   left = filter (λ i. not (same_process x (ParityNode i)) && not (knows_dead known (ParityNode i))) is
 
-  by : (a b : Bool) → same_process x (ParityNode i) ≡ a → Each (λ j. ParityNode j ≢ x) left → Each (λ j. ParityNode j ≢ x) (cond (not a && not b) (i ∷ left) left)
+  by : (a b : Bool) → same_process x (ParityNode i) ≡ a → Each (λ j. ParityNode j ≢ x) left
+      → Each (λ j. ParityNode j ≢ x) (cond (not a && not b) (i ∷ left) left)
   by true b is rest = rest
   by false true is rest = rest
   by false false is rest = ((λ same. cc (is, ap (same_process x) same ∙ same-refl x)), rest)
@@ -72,7 +76,8 @@ module _ (x : ProcessId) where
   out-then : (a : ProcessStep) (f : Process → ProcessStep) → Outward a → Outward (f a.process) → Outward (and_then a f)
   out-then a f first next = record { name = next.name; others = each-append (λ z. z.to ≢ x) a.sent (f a.process).sent first.others next.others }
 
-  out-each : (ys : List ℕ) (f : ℕ → Process → ProcessStep) (p : Process) → p.name ≡ x → ((y : ℕ) (q : Process) → q.name ≡ x → Outward (f y q)) → Outward (for_each ys f p)
+  out-each : (ys : List ℕ) (f : ℕ → Process → ProcessStep) (p : Process) → p.name ≡ x
+      → ((y : ℕ) (q : Process) → q.name ≡ x → Outward (f y q)) → Outward (for_each ys f p)
   out-each [] f p name each = out-quiet p name
   out-each (y ∷ ys) f p name each = let here = each y p name in out-then (f y p) (for_each ys f) here (out-each ys f (f y p).process here.name each)
 
@@ -128,7 +133,11 @@ module _ (x : ProcessId) where
 
       by : (b : Bool) → (i == leader) ≡ b → Each (λ j. ParityNode j ≢ x) left → Each (λ j. ParityNode j ≢ x) (cond (not b) (i ∷ left) left)
       by true is rest = rest
-      by false is rest = ((λ same. let equal : i ≡ leader = cc (same, own) in let test : (i == leader) ≡ true = grind (arith, common_steps) in cc (is, test)), rest)
+      by false is rest = (
+        (λ same. let equal : i ≡ leader = cc (same, own) in
+            let test : (i == leader) ≡ true = grind (arith, common_steps) in cc (is, test)),
+        rest,
+      )
 
     flat-others : (f : ℕ → List Sent) (ls : List ℕ) → ((l : ℕ) → Others x (f l)) → Others x (flat_map f ls)
     flat-others f [] each = tt
@@ -137,7 +146,12 @@ module _ (x : ProcessId) where
     starts-others : (leader number block : ℕ) (p : Process) → x ≡ ParityNode leader → Others x (session_starts s leader number block p)
     starts-others leader number block p own =
         let asks : ℕ → Sent = λ d. record { to = DataNode d; message = tells.ReadBlock (session_of leader number) block (rows_of s p) } in
-        let marks : ℕ → ℕ → Sent = λ l i. record { to = ParityNode i; message = tells.Mark (session_of leader number) (rank (at 0 p.ranks l)) block (partition l) (replica_of p l).applied } in
+        let marks : ℕ → ℕ → Sent =
+        λ l i. record {
+          to = ParityNode i;
+          message = tells.Mark (session_of leader number) (rank (at 0 p.ranks l))
+              block (partition l) (replica_of p l).applied;
+        } in
         each-append (λ z. z.to ≢ x) (map asks (left_of s p)) (flat_map (leader_marks s leader number block p) (lost_of s p))
         (each-map (λ z. z.to ≢ x) asks (left_of s p) (each-all (λ d. DataNode d ≢ x) (λ d same. cc (same, own)) (left_of s p)))
         (flat-others (leader_marks s leader number block p) (lost_of s p)
@@ -155,7 +169,8 @@ module _ (x : ProcessId) where
     -- a call that is asked
     out-retry : (block : ℕ) (o : Option Oldest) (p : Process) → p.name ≡ x → IsParity p.name → Outward (retry_block s block o p).step
     out-retry block (Some o) p name parity = out-quiet p name
-    out-retry block None p name parity = out-when (not (list_any (λ g. g.block == block) p.as_leader.sessions)) p (start_session s block p) name (out-start block p name parity)
+    out-retry block None p name parity = out-when (not (list_any (λ g. g.block == block) p.as_leader.sessions)) p
+        (start_session s block p) name (out-start block p name parity)
 
     out-ticketed : (b : Bool) (d : ℕ) (u : Update) (t : ProcessStep) → Outward t → Outward (ticketed b d u t).step
     out-ticketed true d u t out = out
@@ -167,7 +182,8 @@ module _ (x : ProcessId) where
         let m : Message = tells.Update (rank h.rank) (partition d) u (replica_of p d).applied in
         out-then (sending (to_others s p m) told) (judge s d) (record { name = name; others = to-others s p m name }) (out-judge s d told name)
 
-    out-act : (name : CallName) (op : Asked) (d : ℕ) (h : Head) (p : Process) (decision : Decision) → p.name ≡ x → RestsWell (replica_of p d) (IsParity p.name) decision
+    out-act : (name : CallName) (op : Asked) (d : ℕ) (h : Head) (p : Process) (decision : Decision) → p.name ≡ x
+        → RestsWell (replica_of p d) (IsParity p.name) decision
         → Outward (act_on s name op d h p decision).step
     out-act name op d h p (decides.Answer reply) own well = out-quiet p own
     out-act name op d h p (decides.Retry n) own well = out-quiet p own
@@ -247,18 +263,24 @@ module _ (x : ProcessId) where
         let closed : ProcessStep = close_sessions s known.as_leader.sessions known in
         let judged : ProcessStep = and_then closed (for_each (range_with_len 0 s.k) (judge s)) in
         let first = out-close known.as_leader.sessions known (known-name dead p own) in
-        let middle = out-then closed (for_each (range_with_len 0 s.k) (judge s)) first (out-each (range_with_len 0 s.k) (judge s) closed.process first.name (out-judge s)) in
-        out-then judged (for_each (range_with_len 0 s.k) (take_over_if s)) middle (out-each (range_with_len 0 s.k) (take_over_if s) judged.process middle.name out-take)
+        let middle = out-then closed (for_each (range_with_len 0 s.k) (judge s)) first
+        (out-each (range_with_len 0 s.k) (judge s) closed.process first.name (out-judge s)) in
+        out-then judged (for_each (range_with_len 0 s.k) (take_over_if s)) middle
+        (out-each (range_with_len 0 s.k) (take_over_if s) judged.process middle.name out-take)
 
     pub received-out : (v : State) (y : ProcessId) (m : Message) (p : Process) → p.name ≡ x → y ≢ x → MayStand s v y x m → Outward (receive s y m p)
     received-out v y (tells.Update r d u stable) p own apart may =
         out-when (nat_le (at 0 p.ranks d.0) r.0) p (ack_to y r.0 d.0 u.number (update_taken s d.0 u stable p)) own (record { name = own; others = (apart, tt) })
     received-out v (DataNode e) (tells.Ack r d n) p own apart may = out-quiet p own
     received-out v (ParityNode i) (tells.Ack r d n) p own apart may = out-acknowledge i r.0 d.0 n (head_at p d.0) p own
-    received-out v y (tells.Stable r d n) p own apart may = out-when (nat_le (at 0 p.ranks d.0) r.0) p (quiet (apply_to s d.0 n p)) own (record { name = own; others = tt })
+    received-out v y (tells.Stable r d n) p own apart may = out-when (nat_le (at 0 p.ranks d.0) r.0) p
+        (quiet (apply_to s d.0 n p)) own (record { name = own; others = tt })
     received-out v y (tells.Adopt r d base list) p own apart may =
-        out-when (nat_le (at 0 p.ranks d.0) r.0) p (ack_to y r.0 d.0 (base + length list) (log_adopted s r.0 d.0 base list p)) own (record { name = own; others = (apart, tt) })
-    received-out v y (tells.ReadBlock session block rows) p own apart may = out-read session block rows p p.name own (sym own) (λ same. apart (sym may.0 ∙ same))
+        out-when (nat_le (at 0 p.ranks d.0) r.0) p
+        (ack_to y r.0 d.0 (base + length list) (log_adopted s r.0 d.0 base list p)) own
+        (record { name = own; others = (apart, tt) })
+    received-out v y (tells.ReadBlock session block rows) p own apart may = out-read session block rows p p.name own
+        (sym own) (λ same. apart (sym may.0 ∙ same))
     received-out v (DataNode e) (tells.Block session bytes n) p own apart may = record { name = own; others = tt }
     received-out v (ParityNode i) (tells.Block session bytes n) p own apart may = out-quiet p own
     received-out v y (tells.Mark session r block d n) p own apart may = out-mark (parity_number session.leader) session.number r.0 block d.0 n p own

@@ -1,5 +1,6 @@
 -- In a drained group no session is open and no copy is left.
-use Rattle.std.proofs.Common.{◌≡◌, ◌≢◌, ℕ, ◌<◌, ◌≤◌, ◌==◌, Bool, true, false, not, List, [], ◌∷◌, length, find, cond, is_some, option_map, Option, Some, None, ◌⊎◌, inl, inr, refl, sym, ap, subst, ◌∙◌, arith}
+use Rattle.std.proofs.Common.{◌≡◌, ◌≢◌, ℕ, ◌<◌, ◌≤◌, ◌==◌, Bool, true, false, not, List, [], ◌∷◌, length, find, cond}
+use Rattle.std.proofs.Common.{is_some, option_map, Option, Some, None, ◌⊎◌, inl, inr, refl, sym, ap, subst, ◌∙◌, arith}
 use Rattle.std.proofs.lemmas.Bool.{cases_eq, cases_lt, eq-eqb}
 use Rattle.std.specs.Prelude.{◌||◌}
 use Rattle.std.specs.List.{list_all, list_any, range_with_len}
@@ -31,7 +32,8 @@ use Rattle.law_histories.proofs.Copies.{forgotten_always}
 use Rattle.law_histories.proofs.Finished.{IsEmpty, living-by}
 use Rattle.law_histories.proofs.Whole.{quiet-where}
 use Rattle.law_progress.specs.Quiets.{QuietAlways}
-use Rattle.law_progress.proofs.Waiting.{Asked, BlockComes, Copied, Given, Has, AsksForBlock, IsBlock, IsMark, IsRead, IsRow, Marked, Marking, RowComes, WantsBlock, WantsRow, WaitedAlways, marks_in}
+use Rattle.law_progress.proofs.Waiting.{Asked, BlockComes, Copied, Given, Has, AsksForBlock, IsBlock, IsMark, IsRead}
+use Rattle.law_progress.proofs.Waiting.{IsRow, Marked, Marking, RowComes, WantsBlock, WantsRow, WaitedAlways, marks_in}
 use Rattle.law_progress.proofs.Holding.{CopyThere, Ended}
 use Rattle.law_progress.proofs.Keeping.{Held, keeps-held}
 use Rattle.law_progress.proofs.Sides.{CopyFine, IsCease, opened}
@@ -66,33 +68,45 @@ module _ (s : Dimensions) (v : State) (some : 0 < s.k) (held : Held s v) (fits :
   none-there P a b ain bin lives apart has = subst (Has P) (empty a b ain bin lives apart) has
 
   -- whoever isn't known dead lives
-  lives-if : (l : ℕ) (q : ProcessId) → l < s.m → IsProcess s q → q ≢ ParityNode l → v.dead (ParityNode l) ≡ false → knows_dead (v.process (ParityNode l)).known q ≡ false → v.dead q ≡ false
+  lives-if : (l : ℕ) (q : ProcessId) → l < s.m → IsProcess s q → q ≢ ParityNode l → v.dead (ParityNode l) ≡ false
+      → knows_dead (v.process (ParityNode l)).known q ≡ false → v.dead q ≡ false
   lives-if l q lin qin other lives unknown =
       living-by q (v.dead q) (knows_dead (v.process (ParityNode l)).known q) (v.link q (ParityNode l))
       (held.members.stands q (ParityNode l) qin lin other lives) unknown (empty q (ParityNode l) qin lin lives other)
 
   module _ (l n : ℕ) (g : Gathering) (lin : l < s.m) (lives : v.dead (ParityNode l) ≡ false) (opens : opened (v.process (ParityNode l)) n ≡ Some g) where
     is-for : IsFor s (v.process (ParityNode l)).known g
-    is-for = (found-each (λ x. x.number == n) (IsFor s (v.process (ParityNode l)).known) (v.process (ParityNode l)).as_leader.sessions g opens (fits (ParityNode l) lin lives)).1
+    is-for = (found-each (λ x. x.number == n) (IsFor s (v.process (ParityNode l)).known)
+        (v.process (ParityNode l)).as_leader.sessions g opens (fits (ParityNode l) lin lives)).1
 
     block-in : (d : ℕ) → d < s.k → (list_any (λ i. i == d) g.lost ≡ true) ⊎ (is_some (at None g.blocks_in d) ≡ true)
     block-in d low = by (at None g.blocks_in d) refl (knows_dead (v.process (ParityNode l)).known (DataNode d)) refl where
-      by : (o : Option (List ℕ)) → at None g.blocks_in d ≡ o → (b : Bool) → knows_dead (v.process (ParityNode l)).known (DataNode d) ≡ b → (list_any (λ i. i == d) g.lost ≡ true) ⊎ (is_some o ≡ true)
+      by : (o : Option (List ℕ)) → at None g.blocks_in d ≡ o → (b : Bool)
+          → knows_dead (v.process (ParityNode l)).known (DataNode d) ≡ b → (list_any (λ i. i == d) g.lost ≡ true)
+          ⊎ (is_some o ≡ true)
       by (Some bytes) is b known = inr refl
-      by None is true known = inl (some-passes g.lost d (subst (Has (λ i. i ≡ d)) (sym is-for.lost) (has-filter (λ e. knows_dead (v.process (ParityNode l)).known (DataNode e)) d (range_with_len 0 s.k) (has-range d 0 s.k (omega arith) (omega (arith, low))) known)))
-      by None is false known = absurd (comes (held.ending.waited.blocks l n d lin low lives d_lives (subst (λ (o : Option Gathering). WantsBlock d o) (sym opens) is))) where
-        d_lives : v.dead (DataNode d) ≡ false
-        d_lives = lives-if l (DataNode d) lin low (λ same. cc same) lives known
+      by None is true known =
+          inl (some-passes g.lost d
+          (subst (Has (λ i. i ≡ d)) (sym is-for.lost)
+          (has-filter (λ e. knows_dead (v.process (ParityNode l)).known (DataNode e)) d (range_with_len 0 s.k)
+          (has-range d 0 s.k (omega arith) (omega (arith, low))) known)))
+      by None is false known =
+          absurd (comes
+          (held.ending.waited.blocks l n d lin low lives d_lives
+          (subst (λ (o : Option Gathering). WantsBlock d o) (sym opens) is))) where
+            d_lives : v.dead (DataNode d) ≡ false
+            d_lives = lives-if l (DataNode d) lin low (λ same. cc same) lives known
 
-        comes : BlockComes v l n d → ⊥
-        comes (inl has) = none-there (IsRead l n) (ParityNode l) (DataNode d) lin low d_lives (λ same. cc same) has
-        comes (inr has) = none-there (IsBlock l n) (DataNode d) (ParityNode l) low lin lives (λ same. cc same) has
+            comes : BlockComes v l n d → ⊥
+            comes (inl has) = none-there (IsRead l n) (ParityNode l) (DataNode d) lin low d_lives (λ same. cc same) has
+            comes (inr has) = none-there (IsBlock l n) (DataNode d) (ParityNode l) low lin lives (λ same. cc same) has
 
     row-in : (r : ℕ) → Has (λ i. i ≡ r) g.rows → is_some (at None g.rows_in r) ≡ true
     row-in r among = by (at None g.rows_in r) refl where
       left : Has (λ i. i ≡ r) (range_with_len 0 s.m) × (not (knows_dead (v.process (ParityNode l)).known (ParityNode r)) ≡ true)
       left = filter-has (λ i. not (knows_dead (v.process (ParityNode l)).known (ParityNode i))) r (range_with_len 0 s.m)
-          (has-take (λ i. i ≡ r) (length (lost_by s (v.process (ParityNode l)).known)) (left_by s (v.process (ParityNode l)).known) (subst (Has (λ i. i ≡ r)) is-for.rows among))
+          (has-take (λ i. i ≡ r) (length (lost_by s (v.process (ParityNode l)).known))
+          (left_by s (v.process (ParityNode l)).known) (subst (Has (λ i. i ≡ r)) is-for.rows among))
 
       rin : r < s.m
       rin = let high = (range-has r 0 s.m left.0).1 in omega (arith, high)
@@ -101,19 +115,23 @@ module _ (s : Dimensions) (v : State) (some : 0 < s.k) (held : Held s v) (fits :
       r_lives = which (cases_eq r l) where
         which : (r ≡ l) ⊎ (r ≢ l) → v.dead (ParityNode r) ≡ false
         which (inl same) = ap v.dead (ap ParityNode same) ∙ lives
-        which (inr other) = lives-if l (ParityNode r) lin rin (λ same. other (parity-one r l same)) lives (not-true (knows_dead (v.process (ParityNode l)).known (ParityNode r)) left.1)
+        which (inr other) = lives-if l (ParityNode r) lin rin (λ same. other (parity-one r l same)) lives
+            (not-true (knows_dead (v.process (ParityNode l)).known (ParityNode r)) left.1)
 
       marked : WantsRow r (Some g) → (d : ℕ) → d < s.k → Marked d (marks_in (v.process (ParityNode r)) l n)
-      marked wants d low = comes (held.ending.waited.rows l n r d lin rin low lives r_lives (subst (WantsRow r) (sym opens) wants) (may (knows_dead (v.process (ParityNode l)).known (DataNode d)) refl)) where
-        may : (b : Bool) → knows_dead (v.process (ParityNode l)).known (DataNode d) ≡ b → (knows_dead (v.process (ParityNode l)).known (DataNode d) ≡ true) ⊎ (v.dead (DataNode d) ≡ false)
-        may true known = inl known
-        may false known = inr (lives-if l (DataNode d) lin low (λ same. cc same) lives known)
+      marked wants d low =
+          comes (held.ending.waited.rows l n r d lin rin low lives r_lives (subst (WantsRow r) (sym opens) wants)
+          (may (knows_dead (v.process (ParityNode l)).known (DataNode d)) refl)) where
+            may : (b : Bool) → knows_dead (v.process (ParityNode l)).known (DataNode d) ≡ b
+                → (knows_dead (v.process (ParityNode l)).known (DataNode d) ≡ true) ⊎ (v.dead (DataNode d) ≡ false)
+            may true known = inl known
+            may false known = inr (lives-if l (DataNode d) lin low (λ same. cc same) lives known)
 
-        comes : RowComes s v l n r d → Marked d (marks_in (v.process (ParityNode r)) l n)
-        comes (Copied is) = is
-        comes (Asked d_lives has) = absurd (none-there (AsksForBlock l n r) (ParityNode l) (DataNode d) lin low d_lives (λ same. cc same) has)
-        comes (Marking x xin apart x_lives which has) = absurd (none-there (IsMark l n d) x (ParityNode r) xin rin r_lives apart has)
-        comes (Given apart has) = absurd (none-there (IsRow l n) (ParityNode r) (ParityNode l) rin lin lives (λ same. apart (parity-one r l same)) has)
+            comes : RowComes s v l n r d → Marked d (marks_in (v.process (ParityNode r)) l n)
+            comes (Copied is) = is
+            comes (Asked d_lives has) = absurd (none-there (AsksForBlock l n r) (ParityNode l) (DataNode d) lin low d_lives (λ same. cc same) has)
+            comes (Marking x xin apart x_lives which has) = absurd (none-there (IsMark l n d) x (ParityNode r) xin rin r_lives apart has)
+            comes (Given apart has) = absurd (none-there (IsRow l n) (ParityNode r) (ParityNode l) rin lin lives (λ same. apart (parity-one r l same)) has)
 
       full : (o : Option (List (Option ℕ))) → marks_in (v.process (ParityNode r)) l n ≡ o → ((d : ℕ) → d < s.k → Marked d o) → ⊥
       full None is all = all 0 some
@@ -126,15 +144,20 @@ module _ (s : Dimensions) (v : State) (some : 0 < s.k) (held : Held s v) (fits :
 
     no-session : ⊥
     no-session = cc (sym (held.ending.leaders (ParityNode l) lin lives n g opens).0
-        ∙ and-join (list_all (λ d. list_any (λ i. i == d) g.lost || is_some (at None g.blocks_in d)) (range_with_len 0 s.k)) (list_all (λ i. is_some (at None g.rows_in i)) g.rows)
-        (all-pass (λ d. list_any (λ i. i == d) g.lost || is_some (at None g.blocks_in d)) (range_with_len 0 s.k) (λ d there. or-either (list_any (λ i. i == d) g.lost) (is_some (at None g.blocks_in d)) (block-in d (let high = (range-has d 0 s.k there).1 in omega (arith, high)))))
+        ∙ and-join (list_all (λ d. list_any (λ i. i == d) g.lost || is_some (at None g.blocks_in d))
+        (range_with_len 0 s.k)) (list_all (λ i. is_some (at None g.rows_in i)) g.rows)
+        (all-pass (λ d. list_any (λ i. i == d) g.lost || is_some (at None g.blocks_in d)) (range_with_len 0 s.k)
+        (λ d there. or-either (list_any (λ i. i == d) g.lost) (is_some (at None g.blocks_in d))
+        (block-in d (let high = (range-has d 0 s.k there).1 in omega (arith, high)))))
         (all-pass (λ i. is_some (at None g.rows_in i)) g.rows row-in))
 
   no-sessions : (l : ℕ) → l < s.m → v.dead (ParityNode l) ≡ false → (v.process (ParityNode l)).as_leader.sessions ≡ []
   no-sessions l lin lives = by (v.process (ParityNode l)).as_leader.sessions refl where
     by : (gs : List Gathering) → (v.process (ParityNode l)).as_leader.sessions ≡ gs → (v.process (ParityNode l)).as_leader.sessions ≡ []
     by [] is = is
-    by (g ∷ gs) is = absurd (no-session l g.number g lin lives (ap (find (λ x. x.number == g.number)) is ∙ ap (λ (b : Bool). cond b (Some g) (find (λ x. x.number == g.number) gs)) (eq-eqb g.number g.number refl)))
+    by (g ∷ gs) is =
+        absurd (no-session l g.number g lin lives (ap (find (λ x. x.number == g.number)) is
+        ∙ ap (λ (b : Bool). cond b (Some g) (find (λ x. x.number == g.number) gs)) (eq-eqb g.number g.number refl)))
 
   -- copies
   module _ (r : ℕ) (rin : r < s.m) (lives : v.dead (ParityNode r) ≡ false)
@@ -149,14 +172,17 @@ module _ (s : Dimensions) (v : State) (some : 0 < s.k) (held : Held s v) (fits :
       fine : CopyFine s (v.process (ParityNode r)) c.leader c.number c.marks
       fine = held.ending.rows (ParityNode r) rin lives c.leader c.number c.marks there
 
-      of-none : (o : Option Gathering) → opened (v.process (ParityNode c.leader)) c.number ≡ o → c.leader < s.m → v.dead (ParityNode c.leader) ≡ false → WantsRow r o → ⊥
+      of-none : (o : Option Gathering) → opened (v.process (ParityNode c.leader)) c.number ≡ o → c.leader < s.m
+          → v.dead (ParityNode c.leader) ≡ false → WantsRow r o → ⊥
       of-none None opens lin l_lives wants = wants
       of-none (Some g) opens lin l_lives wants = no-session c.leader c.number g lin l_lives opens
 
-      ended : c.leader < s.m → v.dead (ParityNode c.leader) ≡ false → WantsRow r (opened (v.process (ParityNode c.leader)) c.number) ⊎ Ended v c.leader c.number r → ⊥
+      ended : c.leader < s.m → v.dead (ParityNode c.leader) ≡ false
+          → WantsRow r (opened (v.process (ParityNode c.leader)) c.number) ⊎ Ended v c.leader c.number r → ⊥
       ended lin l_lives (inl wants) = of-none (opened (v.process (ParityNode c.leader)) c.number) refl lin l_lives wants
       ended lin l_lives (inr (inl low)) = absurd (let above = fine.above in omega (arith, low, above))
-      ended lin l_lives (inr (inr (apart, has))) = none-there (IsCease c.number) (ParityNode c.leader) (ParityNode r) lin rin lives (λ same. apart (parity-one c.leader r same)) has
+      ended lin l_lives (inr (inr (apart, has))) = none-there (IsCease c.number) (ParityNode c.leader) (ParityNode r)
+          lin rin lives (λ same. apart (parity-one c.leader r same)) has
 
       of-leader : c.leader < s.m → (b : Bool) → v.dead (ParityNode c.leader) ≡ b → ⊥
       of-leader lin true dead = (subst (Each (λ x. x.leader ≢ c.leader)) is (forgets c.leader lin dead)).0 refl
@@ -195,21 +221,26 @@ module _ (s : Dimensions) (es : List Event) (run : IsRun s es) (drained : IsDrai
   some-here = run.0.k.0
 
   empty-here : IsEmpty s (state_of h)
-  empty-here = subst (λ (t : Dimensions). IsEmpty t (state_of h)) shape (λ from to fin tin living apart. subst IsDrained (sym same) drained from to fin (tin, living) apart)
+  empty-here = subst (λ (t : Dimensions). IsEmpty t (state_of h)) shape
+      (λ from to fin tin living apart. subst IsDrained (sym same) drained from to fin (tin, living) apart)
 
   sessions-here : (i : ℕ) → Lives h.world (ParityNode i) → (process_of h.world (ParityNode i)).as_leader.sessions ≡ []
   sessions-here i lives =
-      no-sessions s (state_of h) some-here (held-always s es run) (sessions_always_fit s es run) empty-here i (subst (λ (t : Dimensions). IsProcess t (ParityNode i)) shape lives.0) lives.1
+      no-sessions s (state_of h) some-here (held-always s es run) (sessions_always_fit s es run) empty-here i
+      (subst (λ (t : Dimensions). IsProcess t (ParityNode i)) shape lives.0) lives.1
 
   forgets-here : DeadForgotten h.world
   forgets-here = subst DeadForgotten (sym same) (forgotten_always s es run drained)
 
   copies-here : (i : ℕ) → Lives h.world (ParityNode i) → (process_of h.world (ParityNode i)).as_row.copies ≡ []
   copies-here i lives =
-      no-copies s (state_of h) some-here (held-always s es run) (sessions_always_fit s es run) empty-here i (subst (λ (t : Dimensions). IsProcess t (ParityNode i)) shape lives.0) lives.1
+      no-copies s (state_of h) some-here (held-always s es run) (sessions_always_fit s es run) empty-here i
+      (subst (λ (t : Dimensions). IsProcess t (ParityNode i)) shape lives.0) lives.1
       (λ l lin dead. forgets-here i l lives (subst (λ (t : Dimensions). IsProcess t (ParityNode l)) (sym shape) lin) dead)
 
 pub quiet_always : QuietAlways
 quiet_always s es run drained up = quiet-where s es run drained up
-    (subst (λ (w : World). (i : ℕ) → Lives w (ParityNode i) → (process_of w (ParityNode i)).as_leader.sessions ≡ []) (same s es run drained) (sessions-here s es run drained))
-    (subst (λ (w : World). (i : ℕ) → Lives w (ParityNode i) → (process_of w (ParityNode i)).as_row.copies ≡ []) (same s es run drained) (copies-here s es run drained))
+    (subst (λ (w : World). (i : ℕ) → Lives w (ParityNode i) → (process_of w (ParityNode i)).as_leader.sessions ≡ [])
+    (same s es run drained) (sessions-here s es run drained))
+    (subst (λ (w : World). (i : ℕ) → Lives w (ParityNode i) → (process_of w (ParityNode i)).as_row.copies ≡ [])
+    (same s es run drained) (copies-here s es run drained))

@@ -70,11 +70,19 @@ module _ (s : Dimensions) (x : ProcessId) (p : Process) where
   receive-fair (tells.Update r d u stable) fact comes goes =
       idle-fair (tells.Update r d u stable) _ tt (mild-when (nat_le (at 0 p.ranks d.0) r.0) p (ack_to x r.0 d.0 u.number (update_taken s d.0 u stable p))
       (let q : Process = apply_to s d.0 stable p in
-      record { alike = alike-then p q (with_replica d.0 (with_update u (replica_of q d.0)) q) (alike-apply s d.0 stable p) (alike-same q (with_replica d.0 (with_update u (replica_of q d.0)) q) refl refl refl); calm = (tt, tt) }))
+      record {
+        alike = alike-then p q (with_replica d.0 (with_update u (replica_of q d.0)) q)
+            (alike-apply s d.0 stable p) (alike-same q (with_replica d.0 (with_update u (replica_of q d.0)) q) refl refl
+            refl);
+        calm = (tt, tt);
+      }))
   receive-fair (tells.Stable r d n) fact comes goes =
-      idle-fair (tells.Stable r d n) _ tt (mild-when (nat_le (at 0 p.ranks d.0) r.0) p (quiet (apply_to s d.0 n p)) (record { alike = alike-apply s d.0 n p; calm = tt }))
+      idle-fair (tells.Stable r d n) _ tt (mild-when (nat_le (at 0 p.ranks d.0) r.0) p (quiet (apply_to s d.0 n p))
+      (record { alike = alike-apply s d.0 n p; calm = tt }))
   receive-fair (tells.Adopt r d base list) fact comes goes =
-      idle-fair (tells.Adopt r d base list) _ tt (mild-when (nat_le (at 0 p.ranks d.0) r.0) p (ack_to x r.0 d.0 (base + length list) (log_adopted s r.0 d.0 base list p))
+      idle-fair (tells.Adopt r d base list) _ tt
+      (mild-when (nat_le (at 0 p.ranks d.0) r.0) p
+      (ack_to x r.0 d.0 (base + length list) (log_adopted s r.0 d.0 base list p))
       (let ranked : Process = with_rank d.0 r.0 p in
       let q : Process = apply_to s d.0 base ranked in
       record {
@@ -107,7 +115,9 @@ module _ (s : Dimensions) (x : ProcessId) (p : Process) where
     by (DataNode e) is parity z leads leader = elim parity [ ]
   receive-fair (tells.Cease upto) fact comes goes = by x refl where
     by : (y : ProcessId) → x ≡ y → Fair s x (tells.Cease upto ∷ []) p (receive s y (tells.Cease upto) p)
-    by (ParityNode i) is = subst (λ (y : ProcessId). Fair s y (tells.Cease upto ∷ []) p (receive s (ParityNode i) (tells.Cease upto) p)) (sym is) (cease-fair s i p upto)
+    by (ParityNode i) is =
+        subst (λ (y : ProcessId). Fair s y (tells.Cease upto ∷ []) p (receive s (ParityNode i) (tells.Cease upto) p))
+        (sym is) (cease-fair s i p upto)
     by (DataNode e) is =
         fair-mild s x _ p (quiet p) (mild-self p) (λ l n i d name has accepted. nothing has) (λ l n from has. cc (sym is ∙ from))
         (λ l n i name from has. nothing has) (λ l n d name from has. nothing has) (λ l n i d name has. nothing has) (λ l n d name has. nothing has)
@@ -115,12 +125,15 @@ module _ (s : Dimensions) (x : ProcessId) (p : Process) where
 
   -- a call, at a process that heads what it should
   pub treat-fair : (t : ProcessStep) → Treats s p t → IsProcess s x → Seated s p x → knows_dead p.known x ≡ false → LeaderFine s p
-      → ((l : ℕ) → x ≡ ParityNode l → (at 0 p.as_row.ceased l < suc p.as_leader.last_session) × (marks_in p l (suc p.as_leader.last_session) ≡ None)) → Fair s x [] p t
+      → ((l : ℕ) → x ≡ ParityNode l → (at 0 p.as_row.ceased l < suc p.as_leader.last_session)
+      × (marks_in p l (suc p.as_leader.last_session) ≡ None)) → Fair s x [] p t
   treat-fair t treats inside seated living numbered fresh = by (treated s p x seated.name inside living t treats seated) where
     by : Treated s p t → Fair s x [] p t
     by (inl mild) = fair-treated s x p t mild
     by (inr (block, l, name, (d, low, (h, heads)), is)) = subst (Fair s x [] p) (sym is)
-        (open-fair s x p block l (subst (IsProcess s) here inside) name (subst (λ (y : ProcessId). knows_dead p.known y ≡ false) here living) (fresh l here).0 (fresh l here).1 numbered d low lower.0
+        (open-fair s x p block l (subst (IsProcess s) here inside) name
+        (subst (λ (y : ProcessId). knows_dead p.known y ≡ false) here living) (fresh l here).0 (fresh l here).1
+        numbered d low lower.0
         (λ j under. lower-each p.known j 0 l lower.1 (omega arith) (omega (arith, under))))
       where
         here : x ≡ ParityNode l

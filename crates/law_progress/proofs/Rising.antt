@@ -1,5 +1,6 @@
 -- An event adds little to the weight of what is on its way.
-use Rattle.std.proofs.Common.{ℕ, zero, suc, ◌≡◌, ◌≢◌, ◌<◌, ◌≤◌, ◌+◌, ◌*◌, ◌⊎◌, inl, inr, Bool, true, false, List, [], ◌∷◌, length, take, refl, sym, ap, subst, ◌∙◌, arith}
+use Rattle.std.proofs.Common.{ℕ, zero, suc, ◌≡◌, ◌≢◌, ◌<◌, ◌≤◌, ◌+◌, ◌*◌, ◌⊎◌, inl, inr, Bool, true, false, List, []}
+use Rattle.std.proofs.Common.{◌∷◌, length, take, refl, sym, ap, subst, ◌∙◌, arith}
 use Rattle.std.proofs.lemmas.List.FromFn.{length-map-range_with_len}
 use Rattle.std.specs.List.{range_with_len}
 use Rattle.group_types.specs.Dimensions.{Dimensions}
@@ -81,9 +82,11 @@ module _ (s : Dimensions) (shaped : IsShape s) where
     same-rises : (new : List Node) → new ≡ nodes → way new ≤ way nodes + most_rise
     same-rises new same = let is = ap way same in omega (arith, is)
 
-    adds-rises : (new : List Node) (p : ProcessId) (c : ProcessId → ℕ) → Adds s (state_from s nodes []) (state_from s new []) p c → ((q : ProcessId) → c q ≤ 3400)
+    adds-rises : (new : List Node) (p : ProcessId) (c : ProcessId → ℕ)
+        → Adds s (state_from s nodes []) (state_from s new []) p c → ((q : ProcessId) → c q ≤ 3400)
         → way new ≤ way nodes + most_rise
-    adds-rises new p c adds each = let more = adds-weigh s (state_from s nodes []) (state_from s new []) p c adds in let few = little c each in omega (arith, more, few)
+    adds-rises new p c adds each = let more = adds-weigh s (state_from s nodes []) (state_from s new []) p c adds in
+        let few = little c each in omega (arith, more, few)
 
     -- a call
     treated-rises : (p : ProcessId) (call : CallStep) → IsProcess s p → FewForEach s call.step.sent → (down dead : Bool)
@@ -93,7 +96,8 @@ module _ (s : Dimensions) (shaped : IsShape s) where
     treated-rises p call pin few false false =
         let node : Node = node_after s call.step (node_in s nodes p) in
         adds-rises (with_node s p node nodes) p (λ q. weights (sent_to q call.step.sent))
-        (node-adds s nodes p node (λ q. weights (sent_to q call.step.sent)) size pin refl (after-weighs s call.step (node_in s nodes p))) (few-weigh call.step.sent few)
+        (node-adds s nodes p node (λ q. weights (sent_to q call.step.sent)) size pin refl
+        (after-weighs s call.step (node_in s nodes p))) (few-weigh call.step.sent few)
 
     answered-rises : (p : ProcessId) (answer : Answer) → IsProcess s p → (down dead : Bool)
         → way (with_node s p (if_up down dead (node_in s nodes p) (unchanged answer (node_in s nodes p))).node nodes) ≤ way nodes + most_rise
@@ -105,7 +109,9 @@ module _ (s : Dimensions) (shaped : IsShape s) where
     abbrev after_delivery : ProcessId → ProcessId → DeliveryStep → List Node
     after_delivery from to t = with_node s to t.receiver.node (with_node s from t.sender nodes)
 
-    nothing-rises : (from to : ProcessId) → IsProcess s from → IsProcess s to → way (with_node s to (node_in s nodes to) (with_node s from (node_in s nodes from) nodes)) ≤ way nodes + most_rise
+    nothing-rises : (from to : ProcessId) → IsProcess s from → IsProcess s to
+        → way (with_node s to (node_in s nodes to) (with_node s from (node_in s nodes from) nodes))
+        ≤ way nodes + most_rise
     nothing-rises from to fin tin = same-rises (with_node s to (node_in s nodes to) (with_node s from (node_in s nodes from) nodes))
         (ap (with_node s to (node_in s nodes to)) (node-back s nodes from fin size) ∙ node-back s nodes to tin size)
 
@@ -119,7 +125,8 @@ module _ (s : Dimensions) (shaped : IsShape s) where
     delivery-rises from to fin tin false false (m ∷ rest) lowers = let less = lowers refl in omega (arith, less)
 
     -- a death
-    dying-rises : (p : ProcessId) (keep : ℕ) → IsProcess s p → (dead : Bool) → (node_in s nodes p).dead ≡ dead → way (all_change dead s nodes p keep).nodes ≤ way nodes + most_rise
+    dying-rises : (p : ProcessId) (keep : ℕ) → IsProcess s p → (dead : Bool) → (node_in s nodes p).dead ≡ dead
+        → way (all_change dead s nodes p keep).nodes ≤ way nodes + most_rise
     dying-rises p keep pin true isdead = same-rises nodes refl
     dying-rises p keep pin false isdead = adds-rises (all_change false s nodes p keep).nodes p (λ q. 200) adds (λ q. omega arith) where
       v : State
@@ -147,13 +154,15 @@ module _ (s : Dimensions) (shaped : IsShape s) where
 
 -- in a group of which deliveries lower the weight
 module _ (w : World) (shaped : IsShape w.shape) (ready : Ready w) where
-  nodes-rise : (e : Event) → MayCome w e → way_of w.shape (state_from w.shape (group_step w e).nodes []) ≤ way_of w.shape (state_from w.shape w.nodes []) + most_rise
+  nodes-rise : (e : Event) → MayCome w e → way_of w.shape (state_from w.shape (group_step w e).nodes [])
+      ≤ way_of w.shape (state_from w.shape w.nodes []) + most_rise
   nodes-rise (Ask caller op p) may =
       treated-rises w.shape shaped w.nodes ready.many p (ask_process w.shape (next_name w caller) op (node_of w p).process) may.1
       ((sends_few w.shape (node_of w p).process shaped).asked (next_name w caller) op) (node_of w p).down (node_of w p).dead
   nodes-rise (Collect caller call p) may =
       treated-rises w.shape shaped w.nodes ready.many p (collect_from caller call (node_of w p).process (range_with_len 0 w.shape.k)) may.1
-      (subst (FewForEach w.shape) (sym ((sends_few w.shape (node_of w p).process shaped).collected caller call)) (λ q. omega arith)) (node_of w p).down (node_of w p).dead
+      (subst (FewForEach w.shape) (sym ((sends_few w.shape (node_of w p).process shaped).collected caller call))
+      (λ q. omega arith)) (node_of w p).down (node_of w p).dead
   nodes-rise (Flush p) may =
       treated-rises w.shape shaped w.nodes ready.many p (flush_process w.shape (node_of w p).process) may
       (sends_few w.shape (node_of w p).process shaped).flushed (node_of w p).down (node_of w p).dead
@@ -162,7 +171,8 @@ module _ (w : World) (shaped : IsShape w.shape) (ready : Ready w) where
       (node_of w p).down (node_of w p).dead
   nodes-rise (Fail p keep) may = dying-rises w.shape shaped w.nodes ready.many p keep may (node_of w p).dead refl
   nodes-rise (Deliver from to) may =
-      delivery-rises w.shape shaped w.nodes ready.many from to may.0 may.1 (node_of w to).down (node_of w to).dead (at [] (node_of w from).links (index_of w.shape to)) lowers
+      delivery-rises w.shape shaped w.nodes ready.many from to may.0 may.1 (node_of w to).down (node_of w to).dead
+      (at [] (node_of w from).links (index_of w.shape to)) lowers
     where
       lowers : (step w (Deliver from to)).turn.answer ≡ says.Done
           → way_of w.shape (state_from w.shape (group_step w (Deliver from to)).nodes []) < way_of w.shape (state_from w.shape w.nodes [])
@@ -181,4 +191,7 @@ module _ (w : World) (shaped : IsShape w.shape) (ready : Ready w) where
 
 pub rises-little : RisesLittleAlways
 rises-little s es run =
-    load-rises (after s es) (subst IsShape (sym (ap (λ (w : World). w.shape) (sym (world-from (no_history s) es)) ∙ shape-from (no_history s) es)) run.0) (ready-after s es run)
+    load-rises (after s es)
+    (subst IsShape
+    (sym (ap (λ (w : World). w.shape) (sym (world-from (no_history s) es)) ∙ shape-from (no_history s) es)) run.0)
+    (ready-after s es run)

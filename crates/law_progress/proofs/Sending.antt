@@ -1,5 +1,6 @@
 -- What a process sends on receiving a message weighs less in all than the message.
-use Rattle.std.proofs.Common.{ℕ, suc, ◌≡◌, ◌<◌, ◌≤◌, ◌+◌, ◌*◌, Bool, true, false, not, nat_le, ◌==◌, ◌&&◌, List, [], ◌∷◌, ◌++◌, length, filter, Option, Some, None, refl, arith, cond}
+use Rattle.std.proofs.Common.{ℕ, suc, ◌≡◌, ◌<◌, ◌≤◌, ◌+◌, ◌*◌, Bool, true, false, not, nat_le, ◌==◌, ◌&&◌, List, []}
+use Rattle.std.proofs.Common.{◌∷◌, ◌++◌, length, filter, Option, Some, None, refl, arith, cond}
 use Rattle.std.proofs.lemmas.List.FromFn.{length-range_with_len}
 use Rattle.std.specs.List.{range_with_len}
 use Rattle.group_types.specs.Dimensions.{Dimensions}
@@ -17,7 +18,8 @@ use Rattle.group_run.specs.Heading.{acknowledge, acknowledged, judge, judge_head
 use Rattle.group_run.specs.Leaders.{close_sessions, copy_kept, copy_marked, mark_comes, mark_taken, row_finished}
 use Rattle.group_run.specs.Process.{Copy, Gathering, Head, Process}
 use Rattle.group_run.specs.Progress.{weight_of}
-use Rattle.group_run.specs.Receiving.{ack_to, log_adopted, update_taken, data_marks, death_known, enthroned, notice_comes, read_comes, receive, take_over_if, taken_over, takes_over}
+use Rattle.group_run.specs.Receiving.{ack_to, log_adopted, update_taken, data_marks, death_known, enthroned}
+use Rattle.group_run.specs.Receiving.{notice_comes, read_comes, receive, take_over_if, taken_over, takes_over}
 use Rattle.group_run.specs.Rows.{accepts_mark, begin_copy, copy_in, is_marked, marked, parity_number, with_copies, without_copy}
 
 -- the weight of what is sent
@@ -152,7 +154,8 @@ module _ (s : Dimensions) (shaped : IsShape s) where
       omega (arith, one, two, three, front, whole, many, most)
 
   pub receive-sends : (x : ProcessId) (m : Message) (p : Process) → FewRows m → sent_weight (receive s x m p).sent < weight_of m
-  receive-sends x (tells.Update r d u stable) p few = let less = sent-when (nat_le (at 0 p.ranks d.0) r.0) p (ack_to x r.0 d.0 u.number (update_taken s d.0 u stable p)) in omega (arith, less)
+  receive-sends x (tells.Update r d u stable) p few = let less = sent-when (nat_le (at 0 p.ranks d.0) r.0) p
+      (ack_to x r.0 d.0 u.number (update_taken s d.0 u stable p)) in omega (arith, less)
   receive-sends (DataNode e) (tells.Ack r d n) p few = omega arith
   receive-sends (ParityNode i) (tells.Ack r d n) p few = let none = acknowledge-sends s i r.0 d.0 n (head_at p d.0) p in omega (arith, none)
   receive-sends x (tells.Stable r d n) p few = let less = sent-when (nat_le (at 0 p.ranks d.0) r.0) p (quiet (apply_to s d.0 n p)) in omega (arith, less)
@@ -162,7 +165,8 @@ module _ (s : Dimensions) (shaped : IsShape s) where
   receive-sends x (tells.ReadBlock session block rows) p few = read-sends s session block rows p p.name few
   receive-sends (DataNode e) (tells.Block session bytes n) p few = omega arith
   receive-sends (ParityNode i) (tells.Block session bytes n) p few = omega arith
-  receive-sends x (tells.Mark session r block d n) p few = let one = mark-sends s (parity_number session.leader) session.number r.0 block d.0 n p in omega (arith, one)
+  receive-sends x (tells.Mark session r block d n) p few = let one = mark-sends s (parity_number session.leader)
+      session.number r.0 block d.0 n p in omega (arith, one)
   receive-sends (DataNode e) (tells.Row session bytes stamp) p few = omega arith
   receive-sends (ParityNode i) (tells.Row session bytes stamp) p few = omega arith
   receive-sends (DataNode e) (tells.Cease upto) p few = omega arith

@@ -1,6 +1,8 @@
 -- A block is served at a leader where a session for it is open, or it is rebuilt for each lost partition: every step but
 -- that of a notice keeps it so.
-use Rattle.std.proofs.Common.{◌≡◌, ◌≢◌, ℕ, suc, ◌<◌, ◌==◌, nat_le, Bool, true, false, List, [], ◌∷◌, ◌++◌, find, cond, is_some, Option, Some, None, ◌⊎◌, inl, inr, refl, sym, ap, subst, ◌∙◌, if◌then◌else◌, arith}
+use Rattle.std.proofs.Common.{◌≡◌, ◌≢◌, ℕ, suc, ◌<◌, ◌==◌, nat_le, Bool, true, false, List, [], ◌∷◌, ◌++◌, find, cond}
+use Rattle.std.proofs.Common.{is_some, Option, Some, None, ◌⊎◌, inl, inr, refl, sym, ap, subst, ◌∙◌, if◌then◌else◌}
+use Rattle.std.proofs.Common.{arith}
 use Rattle.std.proofs.lemmas.Bool.{cases_eq}
 use Rattle.std.specs.List.{range_with_len}
 use Rattle.group_types.specs.Dimensions.{Dimensions}
@@ -12,7 +14,10 @@ use Rattle.membership.specs.Members.{knows_dead}
 use Rattle.group_message.specs.declared.message.Message.{Message}
 use Rattle.group_message.specs.declared.message.Message.TheVariants as tells
 use Rattle.group_run.specs.Applying.{ProcessStep, apply_to, for_each, head_at, quiet, replica_of, when, with_replica}
-use Rattle.group_run.specs.Leaders.{block_comes, block_gathered, copy_kept, copy_marked, gathered_when, is_complete, lost_of, mark_comes, mark_taken, new_session, own_mark, rebuilt_block, row_comes, row_finished, row_gathered, session_opened, start_session, with_leader, without_session}
+use Rattle.group_run.specs.Leaders.{block_comes, block_gathered, copy_kept, copy_marked, gathered_when, is_complete}
+use Rattle.group_run.specs.Leaders.{lost_of, mark_comes, mark_taken, new_session, own_mark, rebuilt_block, row_comes}
+use Rattle.group_run.specs.Leaders.{row_finished, row_gathered, session_opened, start_session, with_leader}
+use Rattle.group_run.specs.Leaders.{without_session}
 use Rattle.group_run.specs.Process.{Copy, Gathering, Process}
 use Rattle.group_run.specs.Receiving.{ack_to, adopting, log_adopted, read_comes, receive, update_taken, with_rank}
 use Rattle.group_run.specs.Replica.{with_update}
@@ -70,7 +75,8 @@ module _ (s : Dimensions) where
     by b (inr rebuilt) = inr (λ d low known. alike.rebuilt d b ∙ rebuilt d low (ap (λ k. knows_dead k (DataNode d)) (sym alike.known) ∙ known))
 
   -- something comes in for an open session
-  module _ (p : Process) (number : ℕ) (g h : Gathering) (opens : opened p number ≡ Some g) (block : h.block ≡ g.block) (lost : h.lost ≡ g.lost) (same : h.number ≡ g.number) where
+  module _ (p : Process) (number : ℕ) (g h : Gathering) (opens : opened p number ≡ Some g) (block : h.block ≡ g.block)
+      (lost : h.lost ≡ g.lost) (same : h.number ≡ g.number) where
     is-number : h.number ≡ number
     is-number = same ∙ number-is g number (found-passes (λ x. x.number == number) p.as_leader.sessions g opens)
 
@@ -79,14 +85,20 @@ module _ (s : Dimensions) where
 
     -- blocks stay rebuilt
     stays : (complete : Bool) (d b : ℕ) → is_some (rebuilt_block p.as_leader d b) ≡ true → is_some (rebuilt_block (after complete).as_leader d b) ≡ true
-    stays true d b some = ap is_some (stays-decoded s h h.lost (record p.as_leader { sessions = without_session h.number p.as_leader.sessions }) d b some) ∙ some
+    stays true d b some =
+        ap is_some (stays-decoded s h h.lost
+        (record p.as_leader { sessions = without_session h.number p.as_leader.sessions }) d b some) ∙ some
     stays false d b some = some
 
-    closes : (complete : Bool) → (b : ℕ) → g.block ≡ b → g.lost ≡ lost_by s p.known → opened (after complete) number ≡ (if complete then None else Some h) → Served b (after complete)
+    closes : (complete : Bool) → (b : ℕ) → g.block ≡ b → g.lost ≡ lost_by s p.known → opened (after complete) number
+        ≡ (if complete then None else Some h) → Served b (after complete)
     closes false b is gone here = inl (record { number = number; session = h; opens = here; block = block ∙ is; lost = lost ∙ gone })
     closes true b is gone here = inr (λ d low known. subst (λ (x : ℕ). is_some (rebuilt_block (after true).as_leader d x) ≡ true) (block ∙ is)
         (decoded-some s h h.lost (record p.as_leader { sessions = without_session h.number p.as_leader.sessions }) d
-        (some-passes h.lost d (subst (Has (λ i. i ≡ d)) (sym (lost ∙ gone)) (has-filter (λ e. knows_dead p.known (DataNode e)) d (range_with_len 0 s.k) (has-range d 0 s.k (omega arith) (omega (arith, low))) known)))))
+        (some-passes h.lost d
+        (subst (Has (λ i. i ≡ d)) (sym (lost ∙ gone))
+        (has-filter (λ e. knows_dead p.known (DataNode e)) d (range_with_len 0 s.k)
+        (has-range d 0 s.k (omega arith) (omega (arith, low))) known)))))
 
     gathers : (complete : Bool) (b : ℕ) → Served b p → Served b (after complete)
     gathers complete b (inr rebuilt) = inr (λ d low known. stays complete d b (rebuilt d low known))
@@ -130,7 +142,8 @@ module _ (s : Dimensions) where
   when-serves : (b : Bool) (p : Process) (t : ProcessStep) → Serves p t.process → Serves p (when b p t).process
   when-serves = goes-when (λ p q. Serves p q) serves-self
 
-  each-serves : (xs : List ℕ) (f : ℕ → Process → ProcessStep) (p : Process) → ((x : ℕ) (q : Process) → Serves q (f x q).process) → Serves p (for_each xs f p).process
+  each-serves : (xs : List ℕ) (f : ℕ → Process → ProcessStep) (p : Process)
+      → ((x : ℕ) (q : Process) → Serves q (f x q).process) → Serves p (for_each xs f p).process
   each-serves = goes-each (λ p q. Serves p q) serves-self serves-then
 
   mark-serves : (l number r block d n : ℕ) (p : Process) → Serves p (mark_comes s l number r block d n p).process
@@ -159,7 +172,8 @@ module _ (s : Dimensions) where
           (copies-serve (without_copy c.leader c.number z.as_row.copies) z) (finished (same_process z.name (ParityNode c.leader)) c y)
       kept false c z = copies-serve _ z
 
-      found : (o : Option Copy) → Serves (apply_to s d n (begin_copy s l number block p)) (copy_marked s d n o (apply_to s d n (begin_copy s l number block p))).process
+      found : (o : Option Copy) → Serves (apply_to s d n (begin_copy s l number block p))
+          (copy_marked s d n o (apply_to s d n (begin_copy s l number block p))).process
       found None = serves-self _
       found (Some c) = kept (is_marked s (marked d n c)) (marked d n c) (apply_to s d n (begin_copy s l number block p))
 
@@ -178,7 +192,8 @@ module _ (s : Dimensions) where
       let number : ℕ = suc p.as_leader.last_session in
       serves-then p (session_opened s number block p) (start_session s block p).process
       (record { known = refl; served = λ b is. by b is })
-      (each-serves (lost_of s p) (own_mark s (parity_number p.name) number block) (session_opened s number block p) (λ e q. mark-serves (parity_number p.name) number (at 0 q.ranks e) block e (replica_of q e).applied q))
+      (each-serves (lost_of s p) (own_mark s (parity_number p.name) number block) (session_opened s number block p)
+      (λ e q. mark-serves (parity_number p.name) number (at 0 q.ranks e) block e (replica_of q e).applied q))
     where
       by : (b : ℕ) → Served b p → Served b (session_opened s (suc p.as_leader.last_session) block p)
       by b (inr rebuilt) = inr rebuilt
@@ -192,15 +207,25 @@ module _ (s : Dimensions) where
 
   -- a message comes that tells of no death
   pub receive-serves : (x : ProcessId) (m : Message) (p : Process) → is_notice m ≡ false → Serves p (receive s x m p).process
-  receive-serves x (tells.Update r d u stable) p plain = serves-alike p _ (mild-when (nat_le (at 0 p.ranks d.0) r.0) p (ack_to x r.0 d.0 u.number (update_taken s d.0 u stable p))
+  receive-serves x (tells.Update r d u stable) p plain =
+      serves-alike p _
+      (mild-when (nat_le (at 0 p.ranks d.0) r.0) p (ack_to x r.0 d.0 u.number (update_taken s d.0 u stable p))
       (let q : Process = apply_to s d.0 stable p in
-      record { alike = alike-then p q (with_replica d.0 (with_update u (replica_of q d.0)) q) (alike-apply s d.0 stable p) (alike-same q (with_replica d.0 (with_update u (replica_of q d.0)) q) refl refl refl); calm = (tt, tt) })).alike
+      record {
+        alike = alike-then p q (with_replica d.0 (with_update u (replica_of q d.0)) q)
+            (alike-apply s d.0 stable p) (alike-same q (with_replica d.0 (with_update u (replica_of q d.0)) q) refl refl
+            refl);
+        calm = (tt, tt);
+      })).alike
   receive-serves x (tells.Stable r d n) p plain =
       serves-alike p _ (mild-when (nat_le (at 0 p.ranks d.0) r.0) p (quiet (apply_to s d.0 n p)) (record { alike = alike-apply s d.0 n p; calm = tt })).alike
   receive-serves x (tells.Adopt r d base list) p plain = when-serves (nat_le (at 0 p.ranks d.0) r.0) p (ack_to x r.0 d.0 _ (log_adopted s r.0 d.0 base list p))
       (let ranked : Process = with_rank d.0 r.0 p in
       let q : Process = apply_to s d.0 base ranked in
-      serves-alike p _ (alike-then p ranked _ (alike-same p ranked refl refl refl) (alike-then ranked q _ (alike-apply s d.0 base ranked) (alike-same q (with_replica d.0 (adopting base list (replica_of q d.0)) q) refl refl refl))))
+      serves-alike p _
+      (alike-then p ranked _ (alike-same p ranked refl refl refl)
+      (alike-then ranked q _ (alike-apply s d.0 base ranked)
+      (alike-same q (with_replica d.0 (adopting base list (replica_of q d.0)) q) refl refl refl))))
   receive-serves (DataNode e) (tells.Ack r d n) p plain = serves-self p
   receive-serves (ParityNode i) (tells.Ack r d n) p plain = serves-alike p _ (mild-acked s p i r.0 d.0 n (head_at p d.0)).alike
   receive-serves x (tells.ReadBlock session block rows) p plain = by p.name where

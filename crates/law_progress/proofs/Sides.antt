@@ -1,5 +1,6 @@
 -- What one step of a process makes of sessions: of its copies as a row, of its sessions as a leader, and by what it sends.
-use Rattle.std.proofs.Common.{◌≡◌, ◌≢◌, ℕ, ◌<◌, ◌≤◌, Bool, true, false, List, [], ◌∷◌, is_some, Option, Some, None, option_map, ◌⊎◌, inl, inr, refl, sym, ap, subst, ◌∙◌, arith}
+use Rattle.std.proofs.Common.{◌≡◌, ◌≢◌, ℕ, ◌<◌, ◌≤◌, Bool, true, false, List, [], ◌∷◌, is_some, Option, Some, None}
+use Rattle.std.proofs.Common.{option_map, ◌⊎◌, inl, inr, refl, sym, ap, subst, ◌∙◌, arith}
 use Rattle.std.specs.List.{list_all, range_with_len}
 use Rattle.group_types.specs.Dimensions.{Dimensions}
 use Rattle.group_types.specs.Lists.{at}
@@ -130,7 +131,8 @@ module _ (s : Dimensions) (x : ProcessId) (came : List Message) (p : Process) (t
     pub took : (l n r d : ℕ) → p.name ≡ ParityNode r → d < s.k → Has (IsMark l n d) came → Each (Accepts p) came → After l n r d
     pub copies : (l n r : ℕ) → p.name ≡ ParityNode r → is_some (marks_in t.process l n) ≡ true
         → (is_some (marks_in p l n) ≡ true) ⊎ ((d : ℕ) × Has (IsMark l n d) came) ⊎ ((r ≡ l) × WantsRow r (opened t.process n))
-    pub below : (l n r : ℕ) → p.name ≡ ParityNode r → at 0 p.as_row.ceased l < n → (l ≡ r → Fresh t.process n) → (x ≡ ParityNode l → Each (Leaves n) came) → at 0 t.process.as_row.ceased l < n
+    pub below : (l n r : ℕ) → p.name ≡ ParityNode r → at 0 p.as_row.ceased l < n → (l ≡ r → Fresh t.process n)
+        → (x ≡ ParityNode l → Each (Leaves n) came) → at 0 t.process.as_row.ceased l < n
     pub rises : (l : ℕ) → at 0 p.as_row.ceased l ≤ at 0 t.process.as_row.ceased l
     pub heard : (l n r : ℕ) → p.name ≡ ParityNode r → x ≡ ParityNode l → Has (IsCease n) came → n ≤ at 0 t.process.as_row.ceased l
     pub fine : ((l n d : ℕ) → Has (IsMark l n d) came → d < s.k) → RowFine s p → RowFine s t.process
@@ -147,8 +149,11 @@ module _ (s : Dimensions) (x : ProcessId) (came : List Message) (p : Process) (t
   -- why a row isn't waited for any more: it came, or the leader's own was finished, or the session is ceased
   pub data NoMore (l n r : ℕ) : Type 0 where
     Came : x ≡ ParityNode r → Has (IsRow l n) came → NoMore l n r
-    Finished : r ≡ l → marks_in t.process l n ≡ None → (d : ℕ) → Has (IsMark l n d) came → ((e : ℕ) → e < s.k → e ≢ d → Marked e (marks_in p l n)) → NoMore l n r
-    Closed : n ≤ at 0 t.process.as_row.ceased l → ((i : ℕ) → i < s.m → i ≢ l → knows_dead t.process.known (ParityNode i) ≡ false → Sends (IsCease n) (ParityNode i) t.sent) → NoMore l n r
+    Finished : r ≡ l → marks_in t.process l n ≡ None → (d : ℕ) → Has (IsMark l n d) came
+        → ((e : ℕ) → e < s.k → e ≢ d → Marked e (marks_in p l n)) → NoMore l n r
+    Closed : n ≤ at 0 t.process.as_row.ceased l
+        → ((i : ℕ) → i < s.m → i ≢ l → knows_dead t.process.known (ParityNode i) ≡ false
+        → Sends (IsCease n) (ParityNode i) t.sent) → NoMore l n r
 
   pub record LeaderSide : Type 0 where
     pub rows : (l n r : ℕ) → p.name ≡ ParityNode l → WantsRow r (opened t.process n)
@@ -163,7 +168,8 @@ module _ (s : Dimensions) (x : ProcessId) (came : List Message) (p : Process) (t
   pub record SentSide : Type 0 where
     pub asked : (l n r e : ℕ) → p.name ≡ DataNode e → Has (AsksForBlock l n r) came → Sends (IsMark l n e) (ParityNode r) t.sent
     pub given : (l n e : ℕ) → p.name ≡ DataNode e → Has (IsRead l n) came → Sends (IsBlock l n) (ParityNode l) t.sent
-    pub marks : (l n r d : ℕ) → Sends (IsMark l n d) (ParityNode r) t.sent → Has (AsksForBlock l n r) came ⊎ ((p.name ≡ ParityNode l) × WantsRow r (opened t.process n))
+    pub marks : (l n r d : ℕ) → Sends (IsMark l n d) (ParityNode r) t.sent → Has (AsksForBlock l n r) came
+        ⊎ ((p.name ≡ ParityNode l) × WantsRow r (opened t.process n))
     pub asks : (l n r e : ℕ) → e < s.k → Sends (AsksForBlock l n r) (DataNode e) t.sent → (p.name ≡ ParityNode l) × WantsRow r (opened t.process n)
     pub ceases : (l n : ℕ) → p.name ≡ ParityNode l → Fresh t.process n → Each (λ z. Leaves n z.message) t.sent
 
@@ -173,7 +179,8 @@ module _ (s : Dimensions) (x : ProcessId) (came : List Message) (p : Process) (t
     pub sent : SentSide
 
   -- what came is of no session for this process
-  pub calm-sent : ((l n r e : ℕ) → p.name ≡ DataNode e → Has (AsksForBlock l n r) came → ⊥) → ((l n e : ℕ) → p.name ≡ DataNode e → Has (IsRead l n) came → ⊥) → CalmSent t.sent → SentSide
+  pub calm-sent : ((l n r e : ℕ) → p.name ≡ DataNode e → Has (AsksForBlock l n r) came → ⊥)
+      → ((l n e : ℕ) → p.name ≡ DataNode e → Has (IsRead l n) came → ⊥) → CalmSent t.sent → SentSide
   calm-sent no_ask no_read calm = record {
     asked = λ l n r e name has. absurd (no_ask l n r e name has);
     given = λ l n e name has. absurd (no_read l n e name has);
@@ -199,8 +206,10 @@ module _ (s : Dimensions) (x : ProcessId) (came : List Message) (p : Process) (t
   }
 
   -- a step that leaves sessions
-  pub same-leader : t.process.known ≡ p.known → t.process.as_leader.sessions ≡ p.as_leader.sessions → t.process.as_leader.last_session ≡ p.as_leader.last_session
-      → ((l n r : ℕ) → p.name ≡ ParityNode l → x ≡ ParityNode r → Has (IsRow l n) came → ⊥) → ((l n d : ℕ) → p.name ≡ ParityNode l → x ≡ DataNode d → Has (IsBlock l n) came → ⊥) → LeaderSide
+  pub same-leader : t.process.known ≡ p.known → t.process.as_leader.sessions ≡ p.as_leader.sessions
+      → t.process.as_leader.last_session ≡ p.as_leader.last_session
+      → ((l n r : ℕ) → p.name ≡ ParityNode l → x ≡ ParityNode r → Has (IsRow l n) came → ⊥)
+      → ((l n d : ℕ) → p.name ≡ ParityNode l → x ≡ DataNode d → Has (IsBlock l n) came → ⊥) → LeaderSide
   same-leader known sessions last no_row no_block = record {
     known = λ l n r name wants. known;
     rows = λ l n r name wants. inl (subst (WantsRow r) (same n) wants, λ from has. no_row l n r name from has);
@@ -218,11 +227,13 @@ module _ (s : Dimensions) (x : ProcessId) (came : List Message) (p : Process) (t
 
 -- what is applied leaves the marks
 module _ (s : Dimensions) where
-  after-marks : (name : ProcessId) (d : ℕ) (us : List Update) (o : Option Copy) → option_map (λ c. c.marks) (option_map (copy_after s name d us) o) ≡ option_map (λ c. c.marks) o
+  after-marks : (name : ProcessId) (d : ℕ) (us : List Update) (o : Option Copy)
+      → option_map (λ c. c.marks) (option_map (copy_after s name d us) o) ≡ option_map (λ c. c.marks) o
   after-marks name d us None = refl
   after-marks name d us (Some c) = ap Some (copy-mark s name d us c (λ (marks : List (Option ℕ)). marks ≡ c.marks) refl)
 
   pub marks-apply : (d k : ℕ) (p : Process) (l n : ℕ) → marks_in (apply_to s d k p) l n ≡ marks_in p l n
   marks-apply d k p l n =
-      ap (option_map (λ c. c.marks)) (found-map (is_copy l n) (copy_after s p.name d (up_to k (replica_of p d))) p.as_row.copies (λ c. copy-test s p.name d (up_to k (replica_of p d)) l n c))
+      ap (option_map (λ c. c.marks)) (found-map (is_copy l n) (copy_after s p.name d (up_to k (replica_of p d)))
+      p.as_row.copies (λ c. copy-test s p.name d (up_to k (replica_of p d)) l n c))
       ∙ after-marks p.name d (up_to k (replica_of p d)) (copy_in p.as_row.copies l n)

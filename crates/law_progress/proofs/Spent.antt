@@ -1,5 +1,6 @@
 -- Where a session has no token of a partition, or one at a process, nothing of it is on its way.
-use Rattle.std.proofs.Common.{◌≡◌, ◌≢◌, ℕ, ◌+◌, ◌<◌, ◌≤◌, Bool, true, false, List, [], ◌∷◌, Option, Some, None, option_map, ◌⊎◌, inl, inr, refl, sym, ap, subst, ◌∙◌, if◌then◌else◌, arith}
+use Rattle.std.proofs.Common.{◌≡◌, ◌≢◌, ℕ, ◌+◌, ◌<◌, ◌≤◌, Bool, true, false, List, [], ◌∷◌, Option, Some, None}
+use Rattle.std.proofs.Common.{option_map, ◌⊎◌, inl, inr, refl, sym, ap, subst, ◌∙◌, if◌then◌else◌, arith}
 use Rattle.std.proofs.lemmas.Bool.{eq-eqb}
 use Rattle.group_types.specs.Dimensions.{Dimensions}
 use Rattle.group_types.specs.Names.{IsProcess, same_process}
@@ -44,7 +45,8 @@ module _ (s : Dimensions) (l n r : ℕ) where
   mark-token d x (tells.Adopt _ _ _ _) is = absurd is
   mark-token d x (tells.ReadBlock _ _ _) is = absurd is
   mark-token d x (tells.Block _ _ _) is = absurd is
-  mark-token d x (tells.Mark session rank block e number) is = and-join _ _ (named-so s l n d (Row r) session is.0) (and-join _ _ (eq-eqb e.0 d is.1) (same-refl (ParityNode r)))
+  mark-token d x (tells.Mark session rank block e number) is = and-join _ _ (named-so s l n d (Row r) session is.0)
+      (and-join _ _ (eq-eqb e.0 d is.1) (same-refl (ParityNode r)))
   mark-token d x (tells.Row _ _ _) is = absurd is
   mark-token d x (tells.Cease _) is = absurd is
   mark-token d x (tells.Notice _) is = absurd is
@@ -66,27 +68,33 @@ module _ (s : Dimensions) (l n r : ℕ) where
     pub marked-token : (d : ℕ) → (v.process (ParityNode r)).name ≡ ParityNode r → Marked d (marks_in (v.process (ParityNode r)) l n)
         → in_copy (token l n d (Row r)) (Row r) (v.process (ParityNode r)) ≡ true
     marked-token d name held =
-        and-join _ _ (ap (λ (y : ProcessId). same_process y (ParityNode r)) name ∙ same-refl (ParityNode r)) (by (copy_in (v.process (ParityNode r)).as_row.copies l n) refl held) where
+        and-join _ _ (ap (λ (y : ProcessId). same_process y (ParityNode r)) name ∙ same-refl (ParityNode r))
+        (by (copy_in (v.process (ParityNode r)).as_row.copies l n) refl held) where
           by : (o : Option Copy) → copy_in (v.process (ParityNode r)).as_row.copies l n ≡ o → Marked d (option_map (λ c. c.marks) o) → is_marked_in d o ≡ true
           by None is marked = absurd marked
           by (Some c) is marked = marked
 
     -- where there is none
     module _ (d : ℕ) (none : tokens s v (token l n d (Row r)) ≤ 0) where
-      pub no-mark : (a : ProcessId) → IsProcess s a → r < s.m → a ≢ ParityNode r → v.dead (ParityNode r) ≡ false → Has (IsMark l n d) (v.link a (ParityNode r)) → ⊥
+      pub no-mark : (a : ProcessId) → IsProcess s a → r < s.m → a ≢ ParityNode r → v.dead (ParityNode r) ≡ false
+          → Has (IsMark l n d) (v.link a (ParityNode r)) → ⊥
       no-mark a ain rin apart lives has =
           each-not (IsMark l n d) (λ m. is_token (token l n d (Row r)) a (ParityNode r) m ≡ true) (mark-token d a) (v.link a (ParityNode r))
           (link-none s v (token l n d (Row r)) none a (ParityNode r) ain rin apart lives) has
 
       pub no-ask : l < s.m → d < s.k → v.dead (DataNode d) ≡ false → Has (AsksForBlock l n r) (v.link (ParityNode l) (DataNode d)) → ⊥
-      no-ask lin low lives has = each-not (AsksForBlock l n r) (λ m. is_token (token l n d (Row r)) (ParityNode l) (DataNode d) m ≡ true) (ask-token d (ParityNode l)) (v.link (ParityNode l) (DataNode d))
+      no-ask lin low lives has =
+          each-not (AsksForBlock l n r) (λ m. is_token (token l n d (Row r)) (ParityNode l) (DataNode d) m ≡ true)
+          (ask-token d (ParityNode l)) (v.link (ParityNode l) (DataNode d))
           (link-none s v (token l n d (Row r)) none (ParityNode l) (DataNode d) lin low (λ same. cc same) lives) has
 
-      pub no-copy : r < s.m → v.dead (ParityNode r) ≡ false → (v.process (ParityNode r)).name ≡ ParityNode r → Marked d (marks_in (v.process (ParityNode r)) l n) → ⊥
+      pub no-copy : r < s.m → v.dead (ParityNode r) ≡ false → (v.process (ParityNode r)).name ≡ ParityNode r
+          → Marked d (marks_in (v.process (ParityNode r)) l n) → ⊥
       no-copy rin lives name held = copy-none s v (token l n d (Row r)) none (ParityNode r) rin lives (marked-token d name held)
 
 -- where a process has the one token no link has it
-module _ (s : Dimensions) (v : State) (k : Token) (few : tokens s v k ≤ 1) (q : ProcessId) (qin : IsProcess s q) (lives : v.dead q ≡ false) (has : 1 ≤ at_process k (v.process q)) where
+module _ (s : Dimensions) (v : State) (k : Token) (few : tokens s v k ≤ 1) (q : ProcessId) (qin : IsProcess s q)
+    (lives : v.dead q ≡ false) (has : 1 ≤ at_process k (v.process q)) where
   -- all but what the process has
   rest : ProcessId → ℕ
   rest p = if same_process p q then sum_of (everyone s) (between v k q) else around s v k p
@@ -129,7 +137,8 @@ module _ (s : Dimensions) (v : State) (k : Token) (few : tokens s v k ≤ 1) (q 
         let one = sum-at (everyone s) rest q (within-everyone s q qin) in
         let here = rest-here in
         let sum = sum-at (everyone s) (between v k b) a (within-everyone s a ain) in
-        let moved : sum_of (everyone s) (between v k b) ≡ sum_of (everyone s) (between v k q) = ap (λ (y : ProcessId). sum_of (everyone s) (between v k y)) same in
+        let moved : sum_of (everyone s) (between v k b) ≡ sum_of (everyone s) (between v k q) =
+        ap (λ (y : ProcessId). sum_of (everyone s) (between v k y)) same in
         let it = linked in
         omega (arith, none, one, here, sum, moved, it)
     by (inr other) =

@@ -1,6 +1,8 @@
 -- What opening a session makes: questions to the data processes that are left, and marks of the lost partitions to the
 -- rows, the leader's own among them.
-use Rattle.std.proofs.Common.{◌≡◌, ◌≢◌, ℕ, zero, suc, ◌+◌, ◌<◌, ◌≤◌, nat_lt, Bool, true, false, not, List, [], ◌∷◌, take, filter, cond, is_some, Option, Some, None, ◌⊎◌, inl, inr, refl, sym, ap, ap₂, subst, ◌∙◌, arith}
+use Rattle.std.proofs.Common.{◌≡◌, ◌≢◌, ℕ, zero, suc, ◌+◌, ◌<◌, ◌≤◌, nat_lt, Bool, true, false, not, List, [], ◌∷◌}
+use Rattle.std.proofs.Common.{take, filter, cond, is_some, Option, Some, None, ◌⊎◌, inl, inr, refl, sym, ap, ap₂, subst}
+use Rattle.std.proofs.Common.{◌∙◌, arith}
 use Rattle.std.proofs.lemmas.Bool.{cases_eq, eq-eqb}
 use Rattle.std.proofs.lemmas.Grind.{common_steps}
 use Rattle.std.specs.List.{range_with_len}
@@ -18,7 +20,8 @@ use Rattle.law_bytes.proofs.Finding.{and-join}
 use Rattle.law_progress.proofs.Waiting.{Has, Marked, WantsBlock, WantsRow, marks_in}
 use Rattle.law_progress.proofs.Marking.{Goes, Outcome, Own, Takes, Waits, mark-takes}
 use Rattle.law_progress.proofs.Sides as sides
-use Rattle.law_progress.proofs.Sides.{CalmSent, CopyFine, Fair, Fresh, LeaderFine, Leaves, NewBlock, NewRow, RowFine, calm-ask, calm-mark, calm-none, is_full, leaves-each, opened}
+use Rattle.law_progress.proofs.Sides.{CalmSent, CopyFine, Fair, Fresh, LeaderFine, Leaves, NewBlock, NewRow, RowFine}
+use Rattle.law_progress.proofs.Sides.{calm-ask, calm-mark, calm-none, is_full, leaves-each, opened}
 use Rattle.law_progress.proofs.Taking.{same-or-not}
 use Rattle.law_progress.proofs.Views.{filter-has, range-has}
 
@@ -30,7 +33,8 @@ NoRepeat (e ∷ es) = (Has (λ i. i ≡ e) es → ⊥) × NoRepeat es
 pub once : (test : ℕ → Bool) (a n : ℕ) → NoRepeat (filter test (range_with_len a n))
 once test a zero = tt
 once test a (suc n) = by (test a) (once test (a + 1) n) where
-  by : (b : Bool) → NoRepeat (filter test (range_with_len (a + 1) n)) → NoRepeat (cond b (a ∷ filter test (range_with_len (a + 1) n)) (filter test (range_with_len (a + 1) n)))
+  by : (b : Bool) → NoRepeat (filter test (range_with_len (a + 1) n))
+      → NoRepeat (cond b (a ∷ filter test (range_with_len (a + 1) n)) (filter test (range_with_len (a + 1) n)))
   by true rest = ((λ there. let low = (range-has a (a + 1) n (filter-has test a (range_with_len (a + 1) n) there).0).0 in absurd (omega (arith, low))), rest)
   by false rest = rest
 
@@ -39,7 +43,8 @@ pub first-passing : (test : ℕ → Bool) (l a n k : ℕ) → a ≤ l → l < a 
     → Has (λ i. i ≡ l) (take (suc k) (filter test (range_with_len a n)))
 first-passing test l a zero k low high lower passes = absurd (omega (arith, low, high))
 first-passing test l a (suc n) k low high lower passes =
-    by (cases_eq a l) (test a) refl (λ above. first-passing test l (a + 1) n k above (omega (arith, high)) (λ j over under. lower j (omega (arith, over)) under) passes) where
+    by (cases_eq a l) (test a) refl (λ above. first-passing test l (a + 1) n k above (omega (arith, high))
+    (λ j over under. lower j (omega (arith, over)) under) passes) where
       by : (a ≡ l) ⊎ (a ≢ l) → (b : Bool) → test a ≡ b → (a + 1 ≤ l → Has (λ i. i ≡ l) (take (suc k) (filter test (range_with_len (a + 1) n))))
           → Has (λ i. i ≡ l) (take (suc k) (cond b (a ∷ filter test (range_with_len (a + 1) n)) (filter test (range_with_len (a + 1) n))))
       by (inl same) true is later = inl same
@@ -61,7 +66,8 @@ module _ (s : Dimensions) (l number block : ℕ) where
     pub fine : LeaderFine s q → LeaderFine s t.process
     pub calm : CalmSent t.sent
     pub copy : RowFine s q → RowFine s t.process
-    pub keeps : (e : ℕ) → Marked e (marks_in q l number) ⊎ (WantsRow l (opened q number) → ⊥) → Marked e (marks_in t.process l number) ⊎ (WantsRow l (opened t.process number) → ⊥)
+    pub keeps : (e : ℕ) → Marked e (marks_in q l number) ⊎ (WantsRow l (opened q number) → ⊥)
+        → Marked e (marks_in t.process l number) ⊎ (WantsRow l (opened t.process number) → ⊥)
     pub done : (e : ℕ) → Has (λ i. i ≡ e) ls → Marked e (marks_in t.process l number) ⊎ (WantsRow l (opened t.process number) → ⊥)
     pub apart : (d : ℕ) → d < s.k → (Has (λ i. i ≡ d) ls → ⊥) → (Marked d (marks_in q l number) → ⊥)
         → (Marked d (marks_in t.process l number) → ⊥) × (WantsRow l (opened q number) → WantsRow l (opened t.process number))
@@ -88,12 +94,14 @@ module _ (s : Dimensions) (l number block : ℕ) where
   }
 
   -- one mark
-  one-mark : (e : ℕ) (q : Process) (t : ProcessStep) → e < s.k → q.name ≡ ParityNode l → at 0 q.as_row.ceased l < number → Takes s q t l number e → Runs (e ∷ []) q t
+  one-mark : (e : ℕ) (q : Process) (t : ProcessStep) → e < s.k → q.name ≡ ParityNode l → at 0 q.as_row.ceased l < number
+      → Takes s q t l number e → Runs (e ∷ []) q t
   one-mark e q t low name above takes = by takes.outcome where
     ceased_same : (i : ℕ) → at 0 t.process.as_row.ceased i ≡ at 0 q.as_row.ceased i
     ceased_same i = ap (λ (ns : List ℕ). at 0 ns i) takes.ceased
 
-    copy_fine : (here : (marks : List (Option ℕ)) → marks_in t.process l number ≡ Some marks → (is_full s marks ≡ false) × (is_some (at None marks e) ≡ true)) → RowFine s q → RowFine s t.process
+    copy_fine : (here : (marks : List (Option ℕ)) → marks_in t.process l number ≡ Some marks → (is_full s marks ≡ false)
+        × (is_some (at None marks e) ≡ true)) → RowFine s q → RowFine s t.process
     copy_fine here fine k j marks is = split (same-or-not k j l number) where
       split : ((k ≡ l) × (j ≡ number)) ⊎ (((k ≡ l) × (j ≡ number)) → ⊥) → CopyFine s t.process k j marks
       split (inr other) =
@@ -103,7 +111,8 @@ module _ (s : Dimensions) (l number block : ℕ) where
           let it = here marks (ap₂ (λ (a b : ℕ). marks_in t.process a b) (sym same.0) (sym same.1) ∙ is) in
           record {
             lacks = it.0;
-            above = let c = ceased_same k in let where_k : at 0 q.as_row.ceased k ≡ at 0 q.as_row.ceased l = ap (at 0 q.as_row.ceased) same.0 in let n = same.1 in omega (arith, c, above, where_k, n);
+            above = let c = ceased_same k in let where_k : at 0 q.as_row.ceased k ≡ at 0 q.as_row.ceased l =
+                ap (at 0 q.as_row.ceased) same.0 in let n = same.1 in omega (arith, c, above, where_k, n);
             some = (e, low, it.1);
           }
 
@@ -120,7 +129,10 @@ module _ (s : Dimensions) (l number block : ℕ) where
       opens = gathers.opens;
       fine = gathers.fine;
       calm = takes.calm;
-      copy = copy_fine (λ more there. let same : marks ≡ more = cc (sym is ∙ there) in (subst (λ (ms : List (Option ℕ)). is_full s ms ≡ false) same lacks, subst (λ (ms : List (Option ℕ)). is_some (at None ms e) ≡ true) same made));
+      copy = copy_fine (λ more there. let same : marks ≡ more = cc (sym is ∙ there) in (
+        subst (λ (ms : List (Option ℕ)). is_full s ms ≡ false) same lacks,
+        subst (λ (ms : List (Option ℕ)). is_some (at None ms e) ≡ true) same made,
+      ));
       keeps = λ d held. keep d held;
       done = λ d has. inl (subst (Marked d) (sym is) (at_e d has));
       apart = λ d within other free. ((λ held. absurd (out d other free (was d (subst (Marked d) is held)))), (λ wants. wanted (gathers.left number l wants)));
@@ -134,7 +146,8 @@ module _ (s : Dimensions) (l number block : ℕ) where
       wanted (inl wants) = wants
       wanted (inr wrong) = absurd wrong.1
 
-      keep : (d : ℕ) → Marked d (marks_in q l number) ⊎ (WantsRow l (opened q number) → ⊥) → Marked d (marks_in t.process l number) ⊎ (WantsRow l (opened t.process number) → ⊥)
+      keep : (d : ℕ) → Marked d (marks_in q l number) ⊎ (WantsRow l (opened q number) → ⊥)
+          → Marked d (marks_in t.process l number) ⊎ (WantsRow l (opened t.process number) → ⊥)
       keep d (inl held) = inl (subst (Marked d) (sym is) (kept d held))
       keep d (inr never) = inr (λ wants. never (gathers.rows number l wants).0)
 
@@ -203,7 +216,8 @@ module _ (s : Dimensions) (l number block : ℕ) where
         → WantsRow l (opened q number) → is_some (marks_in (f a.process).process l number) ≡ true → WantsRow l (opened (f a.process).process number)
     holds [] is differ free wants some =
         subst (λ (y : Process). WantsRow l (opened y number)) (sym (ends is))
-        (one.holds ((λ wrong. wrong), tt) (λ d here held. free d (front d here) held) wants (ap (λ (y : Process). is_some (marks_in y l number)) (sym (ends is)) ∙ some))
+        (one.holds ((λ wrong. wrong), tt) (λ d here held. free d (front d here) held) wants
+        (ap (λ (y : Process). is_some (marks_in y l number)) (sym (ends is)) ∙ some))
     holds (d ∷ ds) is differ free wants some = rest.holds differ.1 (λ i there held. (first i there).0 held) ((first d here).1 wants) some where
       here : Has (λ i. i ≡ d) es
       here = subst (Has (λ i. i ≡ d)) (sym is) (inl refl)
@@ -213,7 +227,8 @@ module _ (s : Dimensions) (l number block : ℕ) where
       below (x ∷ xs) all i (inl same) = let first_low = all.0 in omega (arith, first_low, same)
       below (x ∷ xs) all i (inr there) = below xs all.1 i there
 
-      first : (i : ℕ) → Has (λ x. x ≡ i) es → (Marked i (marks_in a.process l number) → ⊥) × (WantsRow l (opened q number) → WantsRow l (opened a.process number))
+      first : (i : ℕ) → Has (λ x. x ≡ i) es → (Marked i (marks_in a.process l number) → ⊥)
+          × (WantsRow l (opened q number) → WantsRow l (opened a.process number))
       first i there = one.apart i (below es low i there) (λ same. differ.0 (back i same there)) (free i (inr there)) where
         back : (i : ℕ) → (e ≡ i) ⊎ ⊥ → Has (λ x. x ≡ i) es → Has (λ x. x ≡ e) es
         back i (inl same) there = subst (λ (y : ℕ). Has (λ x. x ≡ y) es) (sym same) there
@@ -233,7 +248,9 @@ module _ (s : Dimensions) (l number block : ℕ) where
       → at 0 q.as_row.ceased l < number → Runs ls q (for_each ls (own_mark s l number block) q)
   loop [] q low name living above = runs-none q
   loop (e ∷ es) q low name living above = more-marks e es q (own_mark s l number block e q) (for_each es (own_mark s l number block)) low.1 (ends es) one
-      (loop es (own_mark s l number block e q).process low.1 (takes.name ∙ name) (ap (λ known. knows_dead known (ParityNode l)) takes.known ∙ living) (let c = ap (λ (ns : List ℕ). at 0 ns l) takes.ceased in omega (arith, c, above)))
+      (loop es (own_mark s l number block e q).process low.1 (takes.name ∙ name)
+      (ap (λ known. knows_dead known (ParityNode l)) takes.known ∙ living)
+      (let c = ap (λ (ns : List ℕ). at 0 ns l) takes.ceased in omega (arith, c, above)))
     where
       takes : Takes s q (own_mark s l number block e q) l number e
       takes = subst (λ (t : ProcessStep). Takes s q t l number e) (sym (own-step e q living above)) (mark-takes s l number block e (replica_of q e).applied q)
@@ -241,6 +258,8 @@ module _ (s : Dimensions) (l number block : ℕ) where
       one : Runs (e ∷ []) q (own_mark s l number block e q)
       one = one-mark e q (own_mark s l number block e q) low.0 name above takes
 
-      ends : (ds : List ℕ) → ds ≡ [] → (for_each ds (own_mark s l number block) (own_mark s l number block e q).process).process ≡ (own_mark s l number block e q).process
+      ends : (ds : List ℕ) → ds ≡ []
+          → (for_each ds (own_mark s l number block) (own_mark s l number block e q).process).process
+          ≡ (own_mark s l number block e q).process
       ends [] is = refl
       ends (d ∷ ds) is = cc is

@@ -1,6 +1,7 @@
 -- One event of a drained run: blocks that are served stay so, and a call that has to wait for a block finds one that isn't
 -- served, and leaves it so.
-use Rattle.std.proofs.Common.{◌≡◌, ◌≢◌, ℕ, zero, suc, ◌<◌, ◌%◌, ◌==◌, Bool, true, false, List, [], ◌∷◌, ◌++◌, find, is_some, Option, Some, None, ◌⊎◌, inl, inr, refl, sym, ap, subst, ◌∙◌, arith}
+use Rattle.std.proofs.Common.{◌≡◌, ◌≢◌, ℕ, zero, suc, ◌<◌, ◌%◌, ◌==◌, Bool, true, false, List, [], ◌∷◌, ◌++◌, find}
+use Rattle.std.proofs.Common.{is_some, Option, Some, None, ◌⊎◌, inl, inr, refl, sym, ap, subst, ◌∙◌, arith}
 use Rattle.group_types.specs.Dimensions.{Dimensions, space_of}
 use Rattle.group_types.specs.Hash.{fnv1a, home_of}
 use Rattle.group_types.specs.Names.{IsProcess, of_rank}
@@ -64,7 +65,8 @@ abbrev pub AllKnown : Dimensions → State → Type 0
 AllKnown s v = (q x : ProcessId) → IsProcess s q → IsProcess s x → x ≢ q → v.dead q ≡ false → v.dead x ≡ true → knows_dead (v.process q).known x ≡ true
 
 -- a message of a link whose death, if any, is known tells of none
-plain-first : (x : ProcessId) (dead known : Bool) (m : Message) (rest : List Message) → (dead ≡ true → known ≡ true) → Stands x dead known (m ∷ rest) → is_notice m ≡ false
+plain-first : (x : ProcessId) (dead known : Bool) (m : Message) (rest : List Message) → (dead ≡ true → known ≡ true)
+    → Stands x dead known (m ∷ rest) → is_notice m ≡ false
 plain-first x false false m rest all stands = stands.0
 plain-first x false true m rest all stands = absurd stands
 plain-first x true true m rest all stands = cc stands
@@ -75,7 +77,8 @@ pub record Leaves (s : Dimensions) (v w : State) : Type 0 where
   pub known : AllKnown s w
   pub served : (q : ProcessId) (b : ℕ) → IsProcess s q → v.dead q ≡ false → Served s b (v.process q) → Served s b (w.process q)
 
-module _ (s : Dimensions) (shaped : IsShape s) (v w : State) (members : Members s v) (known : AllKnown s v) (dead : (q : ProcessId) → IsProcess s q → w.dead q ≡ v.dead q) where
+module _ (s : Dimensions) (shaped : IsShape s) (v w : State) (members : Members s v) (known : AllKnown s v)
+    (dead : (q : ProcessId) → IsProcess s q → w.dead q ≡ v.dead q) where
   -- one process acts
   acting : (u : State) (p : ProcessId) (t : ProcessStep) → IsProcess s p → ((q : ProcessId) → IsProcess s q → u.process q ≡ v.process q) → Acted s u w p t
       → Serves s (v.process p) t.process → Leaves s v w
@@ -100,7 +103,12 @@ module _ (s : Dimensions) (shaped : IsShape s) (v w : State) (members : Members 
     serve q b qin (inr other) before = subst (Served s b) (sym (others q qin other)) before
 
   pub move-leaves : Moves s v w → Leaves s v w
-  move-leaves (Stays same) = record { known = subst (AllKnown s) (sym same) known; served = λ q b qin living is. subst (λ (y : State). Served s b (y.process q)) (sym same) is }
+  move-leaves (Stays same) =
+      record {
+        known = subst (AllKnown s) (sym same) known;
+        served = λ q b qin living is.
+            subst (λ (y : State). Served s b (y.process q)) (sym same) is;
+      }
   move-leaves (Failed p keep pin dies) = absurd (cc (sym dies.lived ∙ sym (dead p pin) ∙ dies.dead))
   move-leaves (Treated p t pin up lives treats acts) =
       acting v p t pin (λ q qin. refl) acts (by (makes s (v.process p) p (members.named p pin) pin (members.not_self p pin lives) t treats seated)) where
@@ -111,7 +119,8 @@ module _ (s : Dimensions) (shaped : IsShape s) (v w : State) (members : Members 
         by (inl mild) = serves-alike s (v.process p) t.process mild.alike
         by (inr (block, l, name, heads, is)) = subst (λ (y : ProcessStep). Serves s (v.process p) y.process) (sym is) (start-serves s block (v.process p))
   move-leaves (Received u x p m xin pin apart up lives pops acts) = acting u p (receive s x m (v.process p)) pin pops.processes acts
-      (receive-serves s x m (v.process p) (plain-first x (v.dead x) (knows_dead (v.process p).known x) m (u.link x p) (λ isdead. known p x pin xin apart lives isdead)
+      (receive-serves s x m (v.process p) (plain-first x (v.dead x) (knows_dead (v.process p).known x) m (u.link x p)
+      (λ isdead. known p x pin xin apart lives isdead)
       (subst (Stands x (v.dead x) (knows_dead (v.process p).known x)) pops.first (members.stands x p xin pin apart lives))))
 
 -- a call that has to wait for a block needs it
@@ -164,11 +173,14 @@ module _ (s : Dimensions) (es : List Event) (run : IsRun s es) where
   pub drained-known : IsDrained here.world → AllKnown s (state_of here)
   drained-known drained q x qin xin other living isdead = by (knows_dead ((state_of here).process q).known x) refl where
     empty : (state_of here).link x q ≡ []
-    empty = drained x q (subst (λ (t : Dimensions). IsProcess t x) (sym shape-is) xin) (subst (λ (t : Dimensions). IsProcess t q) (sym shape-is) qin, living) other
+    empty = drained x q (subst (λ (t : Dimensions). IsProcess t x) (sym shape-is) xin)
+        (subst (λ (t : Dimensions). IsProcess t q) (sym shape-is) qin, living) other
 
     by : (b : Bool) → knows_dead ((state_of here).process q).known x ≡ b → knows_dead ((state_of here).process q).known x ≡ true
     by true is = is
-    by false is = absurd (cc (sym isdead ∙ living-by x ((state_of here).dead x) (knows_dead ((state_of here).process q).known x) ((state_of here).link x q) (members.stands x q xin qin other living) is empty))
+    by false is =
+        absurd (cc (sym isdead ∙ living-by x ((state_of here).dead x) (knows_dead ((state_of here).process q).known x)
+        ((state_of here).link x q) (members.stands x q xin qin other living) is empty))
 
   -- the event makes a move without a death
   module _ (e : Event) (may : MayCome here.world e) (goes : IsNoFailure e) where
@@ -176,7 +188,8 @@ module _ (s : Dimensions) (es : List Event) (run : IsRun s es) where
     same-dead q qin = dead-same here e framed may goes q (subst (λ (t : Dimensions). IsProcess t q) (sym shape-is) qin)
 
     pub event-leaves : AllKnown s (state_of here) → Leaves s (state_of here) (state_of (prolonged here e))
-    event-leaves known = move-leaves s run.0 (state_of here) (state_of (prolonged here e)) members known same-dead ((runs_move s).moves es e run (subst (λ (w : World). MayCome w e) world-is may))
+    event-leaves known = move-leaves s run.0 (state_of here) (state_of (prolonged here e)) members known same-dead
+        ((runs_move s).moves es e run (subst (λ (w : World). MayCome w e) world-is may))
 
   -- a call has to wait for a block
   module _ (caller : ℕ) (op : Asked) (p : ProcessId) (b : ℕ) (may : MayCome here.world (Ask caller op p)) (drained : IsDrained here.world)
@@ -187,8 +200,10 @@ module _ (s : Dimensions) (es : List Event) (run : IsRun s es) where
     pub pin : IsProcess s p
     pin = subst (λ (t : Dimensions). IsProcess t p) shape-is may.1
 
-    causes : IsUp here.world p × IsReady here.world p (home_in here.world op) × (NeedsBlock here.world p op b × ComesToBe (step here.world (Ask caller op p)).world p b)
-    causes = subst (AskCause here.world (step here.world (Ask caller op p)).world p op) waits (subst AnswersHaveCauses (sym world-is) (answers_always s es run) (Ask caller op p) may)
+    causes : IsUp here.world p × IsReady here.world p (home_in here.world op)
+        × (NeedsBlock here.world p op b × ComesToBe (step here.world (Ask caller op p)).world p b)
+    causes = subst (AskCause here.world (step here.world (Ask caller op p)).world p op) waits
+        (subst AnswersHaveCauses (sym world-is) (answers_always s es run) (Ask caller op p) may)
 
     pub lives : (state_of here).dead p ≡ false
     lives = causes.0.process
@@ -202,37 +217,53 @@ module _ (s : Dimensions) (es : List Event) (run : IsRun s es) where
 
     -- its partition's data process is known to be dead
     home-lost : knows_dead ((state_of here).process p).known (DataNode home) ≡ true
-    home-lost = drained-known drained p (DataNode home) pin home-in (λ same. cc (same ∙ causes.2.0.misses.parity.1)) lives (by causes.1.rank causes.1.name causes.1.heads.lowest) where
-      by : (r : ℕ) → p ≡ of_rank home r → ((q : ℕ) → q < r → (state_of here).dead (of_rank home q) ≡ true) → (state_of here).dead (DataNode home) ≡ true
-      by zero name lowest = cc (sym name ∙ causes.2.0.misses.parity.1)
-      by (suc r) name lowest = lowest 0 (omega arith)
+    home-lost = drained-known drained p (DataNode home) pin home-in (λ same. cc (same ∙ causes.2.0.misses.parity.1))
+        lives (by causes.1.rank causes.1.name causes.1.heads.lowest) where
+          by : (r : ℕ) → p ≡ of_rank home r → ((q : ℕ) → q < r → (state_of here).dead (of_rank home q) ≡ true) → (state_of here).dead (DataNode home) ≡ true
+          by zero name lowest = cc (sym name ∙ causes.2.0.misses.parity.1)
+          by (suc r) name lowest = lowest 0 (omega arith)
 
     quiet : IsQuiet here.world
     quiet = subst IsQuiet (sym world-is) (quiet_always s es run (subst IsDrained world-is drained) (λ down. causes.0.group (subst IsDown (sym world-is) down)))
 
     -- the block isn't served yet
     pub not-served : Served s b ((state_of here).process p) → ⊥
-    not-served (inr rebuilt) = cc (sym (not-rebuilt here.world.shape home causes.2.0.run ((state_of here).process p).as_leader b causes.2.0.misses.missing) ∙ rebuilt home home-in home-lost)
+    not-served (inr rebuilt) =
+        cc (sym (not-rebuilt here.world.shape home causes.2.0.run ((state_of here).process p).as_leader b
+        causes.2.0.misses.missing) ∙ rebuilt home home-in home-lost)
     not-served (inl awaits) = cc (sym awaits.opens ∙ ap (λ (gs : List Gathering). find (λ g. g.number == awaits.number) gs) none) where
       none : ((state_of here).process p).as_leader.sessions ≡ []
       none = subst (λ (y : ProcessId). ((state_of here).process y).as_leader.sessions ≡ []) (sym causes.2.0.misses.parity.1)
-          (quiet.sessions causes.2.0.misses.parity.0 (subst (IsProcess here.world.shape) causes.2.0.misses.parity.1 may.1, ap (state_of here).dead (sym causes.2.0.misses.parity.1) ∙ lives))
+          (quiet.sessions causes.2.0.misses.parity.0 (
+            subst (IsProcess here.world.shape) causes.2.0.misses.parity.1
+                may.1,
+            ap (state_of here).dead (sym causes.2.0.misses.parity.1) ∙ lives,
+          ))
 
     -- it is one of the space
     decided : (h : Head) × (head_at ((state_of here).process p) home ≡ Some h)
-        × (decide (space_of here.world.shape) h.inherited (replica_of ((state_of here).process p) home) op (found_at here.world.shape home ((state_of here).process p) ((state_of here).process p).name) ≡ decides.NeedBlock b)
+        × (decide (space_of here.world.shape) h.inherited (replica_of ((state_of here).process p) home) op
+        (found_at here.world.shape home ((state_of here).process p) ((state_of here).process p).name)
+        ≡ decides.NeedBlock b)
     decided = by (node_of here.world p).down (node_of here.world p).dead waits where
       headed : (o : Option Head) → head_at ((state_of here).process p) home ≡ o
           → (ask_head here.world.shape (next_name here.world caller) op home ((state_of here).process p) o).answer ≡ says.Retry (cause.Block b)
           → (h : Head) × (head_at ((state_of here).process p) home ≡ Some h)
-          × (decide (space_of here.world.shape) h.inherited (replica_of ((state_of here).process p) home) op (found_at here.world.shape home ((state_of here).process p) ((state_of here).process p).name) ≡ decides.NeedBlock b)
+          × (decide (space_of here.world.shape) h.inherited (replica_of ((state_of here).process p) home) op
+          (found_at here.world.shape home ((state_of here).process p) ((state_of here).process p).name)
+          ≡ decides.NeedBlock b)
       headed None heads is = cc is
       headed (Some h) heads is = (h, heads, act-block here.world.shape (next_name here.world caller) op home h ((state_of here).process p) b _ is)
 
       by : (down dead : Bool)
-          → (if_up down dead (node_of here.world p) (treated here.world.shape (node_of here.world p) (ask_process here.world.shape (next_name here.world caller) op (node_of here.world p).process))).answer ≡ says.Retry (cause.Block b)
+          → (if_up down dead (node_of here.world p)
+          (treated here.world.shape (node_of here.world p)
+          (ask_process here.world.shape (next_name here.world caller) op (node_of here.world p).process))).answer
+          ≡ says.Retry (cause.Block b)
           → (h : Head) × (head_at ((state_of here).process p) home ≡ Some h)
-          × (decide (space_of here.world.shape) h.inherited (replica_of ((state_of here).process p) home) op (found_at here.world.shape home ((state_of here).process p) ((state_of here).process p).name) ≡ decides.NeedBlock b)
+          × (decide (space_of here.world.shape) h.inherited (replica_of ((state_of here).process p) home) op
+          (found_at here.world.shape home ((state_of here).process p) ((state_of here).process p).name)
+          ≡ decides.NeedBlock b)
       by true dead is = cc is
       by false true is = cc is
       by false false is = headed (head_at ((state_of here).process p) home) refl is
@@ -244,7 +275,10 @@ module _ (s : Dimensions) (es : List Event) (run : IsRun s es) where
 
     pub inside : b < s.blocks
     inside = needs home decided.0 op b home-in decided.1
-        (subst (λ (t : Dimensions). decide (space_of t) decided.0.inherited (replica_of ((state_of here).process p) home) op (found_at t home ((state_of here).process p) ((state_of here).process p).name) ≡ decides.NeedBlock b) shape-is decided.2)
+        (subst (λ (t : Dimensions). decide (space_of t) decided.0.inherited
+        (replica_of ((state_of here).process p) home) op
+        (found_at t home ((state_of here).process p) ((state_of here).process p).name) ≡ decides.NeedBlock b) shape-is
+        decided.2)
 
     -- and is served then
     longer : IsRun s (es ++ ask ∷ [])
@@ -277,10 +311,14 @@ module _ (s : Dimensions) (es : List Event) (run : IsRun s es) where
         session = awaited.session;
         opens = opens;
         block = awaited.of_block;
-        lost = ((found-each (λ g. g.number == awaited.session.number) (IsFor s ((state_of (prolonged here (Ask caller op p))).process p).known) ((state_of (prolonged here (Ask caller op p))).process p).as_leader.sessions awaited.session opens (fits p pin living)).1).lost;
+        lost = ((found-each (λ g. g.number == awaited.session.number)
+            (IsFor s ((state_of (prolonged here (Ask caller op p))).process p).known)
+            ((state_of (prolonged here (Ask caller op p))).process p).as_leader.sessions awaited.session opens
+            (fits p pin living)).1).lost;
       }) where
         opens : opened ((state_of (prolonged here (Ask caller op p))).process p) awaited.session.number ≡ Some awaited.session
-        opens = found-rising ((state_of (prolonged here (Ask caller op p))).process p).as_leader.sessions awaited.session (rows.sessions p pin living).rises awaited.opened
+        opens = found-rising ((state_of (prolonged here (Ask caller op p))).process p).as_leader.sessions
+            awaited.session (rows.sessions p pin living).rises awaited.opened
       by (inr one) = inr (λ d low known. rebuilt d low (rebuilt_block ((state_of (prolonged here (Ask caller op p))).process p).as_leader 0 b) refl one.1) where
         rebuilt : (d : ℕ) → d < s.k → (o : Option (List ℕ)) → rebuilt_block ((state_of (prolonged here (Ask caller op p))).process p).as_leader 0 b ≡ o
             → rebuilt_block ((state_of (prolonged here (Ask caller op p))).process p).as_leader 0 b ≢ None

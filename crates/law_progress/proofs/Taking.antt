@@ -1,5 +1,6 @@
 -- What a process makes of marks, rows, blocks and questions that come to it.
-use Rattle.std.proofs.Common.{◌≡◌, ◌≢◌, ℕ, ◌<◌, ◌==◌, ◌&&◌, nat_lt, Bool, true, false, not, List, [], ◌∷◌, is_some, Some, None, ◌⊎◌, inl, inr, refl, sym, ap, subst, ◌∙◌, arith}
+use Rattle.std.proofs.Common.{◌≡◌, ◌≢◌, ℕ, ◌<◌, ◌==◌, ◌&&◌, nat_lt, Bool, true, false, not, List, [], ◌∷◌, is_some}
+use Rattle.std.proofs.Common.{Some, None, ◌⊎◌, inl, inr, refl, sym, ap, subst, ◌∙◌, arith}
 use Rattle.std.proofs.lemmas.Bool.{cases_eq}
 use Rattle.std.proofs.lemmas.Grind.{common_steps}
 use Rattle.group_types.specs.Dimensions.{Dimensions}
@@ -25,7 +26,8 @@ use Rattle.law_progress.proofs.Gathering.{Gathers, block-gathers, row-gathers}
 use Rattle.law_progress.proofs.Marking.{Goes, Outcome, Own, Takes, Waits, mark-takes}
 use Rattle.law_progress.proofs.Mild.{fair-mild, mild-self}
 use Rattle.law_progress.proofs.Sides as sides
-use Rattle.law_progress.proofs.Sides.{Accepts, After, CopyFine, Fair, IsCease, LeaderFine, LeaderSide, Leaves, NoMore, RowFine, RowSide, SentSide, calm-sent, opened, same-leader, same-row}
+use Rattle.law_progress.proofs.Sides.{Accepts, After, CopyFine, Fair, IsCease, LeaderFine, LeaderSide, Leaves, NoMore}
+use Rattle.law_progress.proofs.Sides.{RowFine, RowSide, SentSide, calm-sent, opened, same-leader, same-row}
 use Rattle.law_progress.proofs.Views.{Sends, has-map, map-has}
 
 pub nothing : ⊥ ⊎ ⊥ → ⊥
@@ -54,7 +56,8 @@ module _ (s : Dimensions) (x : ProcessId) (came : List Message) (p : Process) (t
     fresh = fresh;
     fine = gathers.fine;
   } where
-    by : (l n r : ℕ) → p.name ≡ ParityNode l → WantsRow r (opened t.process n) ⊎ ((n ≡ number) × row r) → WantsRow r (opened t.process n) ⊎ NoMore s x came p t l n r
+    by : (l n r : ℕ) → p.name ≡ ParityNode l → WantsRow r (opened t.process n) ⊎ ((n ≡ number) × row r)
+        → WantsRow r (opened t.process n) ⊎ NoMore s x came p t l n r
     by l n r name (inl wants) = inl wants
     by l n r name (inr it) = inr (no_more l n r name it.0 it.1)
 
@@ -128,7 +131,8 @@ module _ (s : Dimensions) (x : ProcessId) (p : Process) (e : ℕ) (session : Ses
     row = same-row s x came_read p read_step refl (λ l n. refl) (λ l n r d is has accepted. nothing has) (λ l n is has. nothing has);
     leader = same-leader s x came_read p read_step refl refl refl (λ l n r is from has. nothing has) (λ l n d is from has. nothing has);
     sent = record {
-      asked = λ l n r d is has. inr (has-map (λ z. (z.to ≡ ParityNode r) × IsMark l n d z.message) mark rows (marks_for l n r d (data-one e d (sym name ∙ is)) has));
+      asked = λ l n r d is has. inr (has-map (λ z. (z.to ≡ ParityNode r) × IsMark l n d z.message) mark rows
+          (marks_for l n r d (data-one e d (sym name ∙ is)) has));
       given = λ l n d is has. inl (read_of l n has);
       marks = λ l n r d sends. inl (inl (asked_of l n r d sends));
       asks = λ l n r d low sends. absurd (no_asks l n r d sends);
@@ -140,7 +144,8 @@ module _ (s : Dimensions) (x : ProcessId) (p : Process) (e : ℕ) (session : Ses
     both A r (i ∷ is) of_it (inl here) = inl (ap ParityNode here, of_it)
     both A r (i ∷ is) of_it (inr there) = inr (both A r is of_it there)
 
-    marks_for : (l n r d : ℕ) → e ≡ d → Has (AsksForBlock l n r) (tells.ReadBlock session block rows ∷ []) → Has (λ i. (ParityNode i ≡ ParityNode r) × (OfSession l n session × (e ≡ d))) rows
+    marks_for : (l n r d : ℕ) → e ≡ d → Has (AsksForBlock l n r) (tells.ReadBlock session block rows ∷ [])
+        → Has (λ i. (ParityNode i ≡ ParityNode r) × (OfSession l n session × (e ≡ d))) rows
     marks_for l n r d same (inl ask) = both (OfSession l n session × (e ≡ d)) r rows (ask.0, same) ask.1
     marks_for l n r d same (inr none) = absurd none
 
@@ -153,11 +158,17 @@ module _ (s : Dimensions) (x : ProcessId) (p : Process) (e : ℕ) (session : Ses
     ones r (i ∷ is) (inl here) = inl (parity-one i r here)
     ones r (i ∷ is) (inr there) = inr (ones r is there)
 
-    asked_of : (l n r d : ℕ) → Sends (IsMark l n d) (ParityNode r) (read_comes s session block rows p (DataNode e)).sent → OfSession l n session × Has (λ i. i ≡ r) rows
+    asked_of : (l n r d : ℕ) → Sends (IsMark l n d) (ParityNode r) (read_comes s session block rows p (DataNode e)).sent
+        → OfSession l n session × Has (λ i. i ≡ r) rows
     asked_of l n r d (inl here) = absurd here.1
     asked_of l n r d (inr there) =
         let it = has-both (λ i. ParityNode i ≡ ParityNode r) (OfSession l n session × (e ≡ d)) rows
-        (map-has (λ z. (z.to ≡ ParityNode r) × IsMark l n d z.message) (λ i. record { to = ParityNode i; message = tells.Mark session (rank 0) block (partition e) (replica_of p e).applied }) rows there) in
+        (map-has (λ z. (z.to ≡ ParityNode r) × IsMark l n d z.message)
+        (λ i. record {
+          to = ParityNode i;
+          message = tells.Mark session (rank 0) block (partition e)
+              (replica_of p e).applied;
+        }) rows there) in
         (it.0.0, ones r rows it.1)
 
     none_of : (l n r d : ℕ) (is : List ℕ) → Sends (AsksForBlock l n r) (DataNode d) (data_marks session block e (replica_of p e).applied is) → ⊥
@@ -226,7 +237,8 @@ accepts-above p l n r d is =
     below : (c : ℕ) → nat_lt c n ≡ true → c < n
     below c e = grind (arith, common_steps)
 
-module _ (s : Dimensions) (x : ProcessId) (p : Process) (i : ℕ) (name : p.name ≡ ParityNode i) (l : ℕ) (session : Session) (leads : session.leader ≡ ParityNode l) (r block d n : ℕ) where
+module _ (s : Dimensions) (x : ProcessId) (p : Process) (i : ℕ) (name : p.name ≡ ParityNode i) (l : ℕ)
+    (session : Session) (leads : session.leader ≡ ParityNode l) (r block d n : ℕ) where
   abbrev came_mark : List Message
   came_mark = tells.Mark session (rank r) block (partition d) n ∷ []
 
@@ -252,7 +264,12 @@ module _ (s : Dimensions) (x : ProcessId) (p : Process) (i : ℕ) (name : p.name
   copies : (k j : ℕ) → is_some (marks_in taken.process k j) ≡ true → ((k ≡ l) × (j ≡ session.number)) ⊎ (((k ≡ l) × (j ≡ session.number)) → ⊥)
       → (is_some (marks_in p k j) ≡ true) ⊎ ((e : ℕ) × Has (IsMark k j e) came_mark) ⊎ ((i ≡ k) × WantsRow i (opened taken.process j))
   copies k j some (inr other) = inl (ap is_some (sym (takes.others k j other)) ∙ some)
-  copies k j some (inl same) = inr (inl (d, subst (λ (y : ℕ). Has (IsMark y j d) came_mark) (sym same.0) (subst (λ (y : ℕ). Has (IsMark l y d) came_mark) (sym same.1) has-it)))
+  copies k j some (inl same) =
+      inr (inl (
+        d,
+        subst (λ (y : ℕ). Has (IsMark y j d) came_mark) (sym same.0)
+            (subst (λ (y : ℕ). Has (IsMark l y d) came_mark) (sym same.1) has-it),
+      ))
 
   leads-on : Outcome s p taken l session.number d → LeaderSide s x came_mark p taken
   leads-on (Waits marks is lacks made kept was gathers) = leader-gathers s x came_mark p taken takes.known session.number (λ q. ⊥) (λ e. ⊥) gathers
@@ -262,7 +279,9 @@ module _ (s : Dimensions) (x : ProcessId) (p : Process) (i : ℕ) (name : p.name
   leads-on (Own none rest own gathers) = leader-gathers s x came_mark p taken takes.known session.number (λ q. q ≡ l) (λ e. ⊥) gathers
       (λ k j q is_name from has. absurd (nothing has)) (λ k j e is_name from has. absurd (nothing has))
       (λ k j q is_name here mine. let same = parity-one k l (sym is_name ∙ own) in
-      subst (λ (y : ℕ). NoMore s x came_mark p taken k y q) (sym here) (subst (λ (y : ℕ). NoMore s x came_mark p taken y session.number q) (sym same) (sides.Finished mine none d has-it rest)))
+      subst (λ (y : ℕ). NoMore s x came_mark p taken k y q) (sym here)
+      (subst (λ (y : ℕ). NoMore s x came_mark p taken y session.number q) (sym same)
+      (sides.Finished mine none d has-it rest)))
 
   fair-taken : accepts_mark p l session.number r d ≡ true → Fair s x came_mark p taken
   fair-taken accepted_it = record {
@@ -275,20 +294,25 @@ module _ (s : Dimensions) (x : ProcessId) (p : Process) (i : ℕ) (name : p.name
       below = λ k j q is low fresh leaves. let c = same_ceased k in omega (arith, c, low);
       rises = λ k. let c = same_ceased k in omega (arith, c);
       heard = λ k j q is from has. absurd (nothing has);
-      fine = λ within fine. fine-mark s x came_mark p taken l session.number d takes (within l session.number d has-it) (accepts-above p l session.number r d accepted_it) fine;
+      fine = λ within fine. fine-mark s x came_mark p taken l session.number d takes (within l session.number d has-it)
+          (accepts-above p l session.number r d accepted_it) fine;
     };
     leader = leads-on takes.outcome;
     sent = calm-sent s x came_mark p taken (λ k j q e is has. nothing has) (λ k j e is has. nothing has) takes.calm;
   } where
-    to_row : {k j : ℕ} (q : ℕ) → i ≡ q → (is_some (marks_in p k j) ≡ true) ⊎ ((e : ℕ) × Has (IsMark k j e) came_mark) ⊎ ((i ≡ k) × WantsRow i (opened taken.process j))
+    to_row : {k j : ℕ} (q : ℕ) → i ≡ q → (is_some (marks_in p k j) ≡ true) ⊎ ((e : ℕ) × Has (IsMark k j e) came_mark)
+        ⊎ ((i ≡ k) × WantsRow i (opened taken.process j))
         → (is_some (marks_in p k j) ≡ true) ⊎ ((e : ℕ) × Has (IsMark k j e) came_mark) ⊎ ((q ≡ k) × WantsRow q (opened taken.process j))
-    to_row {k} {j} q same is = subst (λ (y : ℕ). (is_some (marks_in p k j) ≡ true) ⊎ ((e : ℕ) × Has (IsMark k j e) came_mark) ⊎ ((y ≡ k) × WantsRow y (opened taken.process j))) same is
+    to_row {k} {j} q same is =
+        subst (λ (y : ℕ). (is_some (marks_in p k j) ≡ true) ⊎ ((e : ℕ) × Has (IsMark k j e) came_mark)
+        ⊎ ((y ≡ k) × WantsRow y (opened taken.process j))) same is
 
   -- a mark comes to a row
   pub mark-fair : Fair s x came_mark p (mark_comes s (parity_number session.leader) session.number r block d n p)
-  mark-fair = subst (λ (y : ℕ). Fair s x came_mark p (mark_comes s y session.number r block d n p)) (sym (ap parity_number leads)) (by (accepts_mark p l session.number r d) refl) where
-    by : (b : Bool) → accepts_mark p l session.number r d ≡ b → Fair s x came_mark p (when b p taken)
-    by false denies =
-        fair-mild s x came_mark p (quiet p) (mild-self p) (λ k j q e is has accepted. refused denies accepted) (λ k j from has. nothing has)
-        (λ k j q is from has. nothing has) (λ k j e is from has. nothing has) (λ k j q e is has. nothing has) (λ k j e is has. nothing has)
-    by true accepted_it = fair-taken accepted_it
+  mark-fair = subst (λ (y : ℕ). Fair s x came_mark p (mark_comes s y session.number r block d n p))
+      (sym (ap parity_number leads)) (by (accepts_mark p l session.number r d) refl) where
+        by : (b : Bool) → accepts_mark p l session.number r d ≡ b → Fair s x came_mark p (when b p taken)
+        by false denies =
+            fair-mild s x came_mark p (quiet p) (mild-self p) (λ k j q e is has accepted. refused denies accepted) (λ k j from has. nothing has)
+            (λ k j q is from has. nothing has) (λ k j e is from has. nothing has) (λ k j q e is has. nothing has) (λ k j e is has. nothing has)
+        by true accepted_it = fair-taken accepted_it

@@ -1,5 +1,7 @@
 -- Members of lists that are so, what is sent to a process, and what is kept of marks and sessions.
-use Rattle.std.proofs.Common.{◌≡◌, ◌≢◌, ℕ, zero, suc, ◌+◌, ◌<◌, ◌≤◌, ◌==◌, Bool, true, false, not, List, [], ◌∷◌, ◌++◌, take, map, filter, flat_map, find, cond, Some, None, ◌⊎◌, inl, inr, refl, sym, ap, subst, ◌∙◌, if◌then◌else◌, arith}
+use Rattle.std.proofs.Common.{◌≡◌, ◌≢◌, ℕ, zero, suc, ◌+◌, ◌<◌, ◌≤◌, ◌==◌, Bool, true, false, not, List, [], ◌∷◌, ◌++◌}
+use Rattle.std.proofs.Common.{take, map, filter, flat_map, find, cond, Some, None, ◌⊎◌, inl, inr, refl, sym, ap, subst}
+use Rattle.std.proofs.Common.{◌∙◌, if◌then◌else◌, arith}
 use Rattle.std.proofs.lemmas.Bool.{cases_eq, eq-eqb, ne_eqb}
 use Rattle.std.specs.List.{range_with_len}
 use Rattle.group_types.specs.Dimensions.{Dimensions}
@@ -60,7 +62,8 @@ module _ {X : Type 0} (test : X → Bool) where
   pub find-new : (xs : List X) (y : X) → find test xs ≡ None → test y ≡ true → find test (xs ++ y ∷ []) ≡ Some y
   find-new [] y none passes = ap (λ (b : Bool). cond b (Some y) None) passes
   find-new (x ∷ xs) y none passes = by (test x) none (λ rest. find-new xs y rest passes) where
-    by : (b : Bool) → cond b (Some x) (find test xs) ≡ None → (find test xs ≡ None → find test (xs ++ y ∷ []) ≡ Some y) → cond b (Some x) (find test (xs ++ y ∷ [])) ≡ Some y
+    by : (b : Bool) → cond b (Some x) (find test xs) ≡ None → (find test xs ≡ None → find test (xs ++ y ∷ []) ≡ Some y)
+        → cond b (Some x) (find test (xs ++ y ∷ [])) ≡ Some y
     by true is later = absurd (cc is)
     by false is later = later is
 
@@ -85,7 +88,9 @@ module _ {X Y : Type 0} (P : Y → Type 0) (f : X → List Y) where
 pub has-filter : (test : ℕ → Bool) (x : ℕ) (xs : List ℕ) → Has (λ i. i ≡ x) xs → test x ≡ true → Has (λ i. i ≡ x) (filter test xs)
 has-filter test x [] has passes = absurd has
 has-filter test x (y ∷ ys) has passes = by (test y) refl has (λ there. has-filter test x ys there passes) where
-  by : (b : Bool) → test y ≡ b → (y ≡ x) ⊎ Has (λ i. i ≡ x) ys → (Has (λ i. i ≡ x) ys → Has (λ i. i ≡ x) (filter test ys)) → Has (λ i. i ≡ x) (cond b (y ∷ filter test ys) (filter test ys))
+  by : (b : Bool) → test y ≡ b → (y ≡ x) ⊎ Has (λ i. i ≡ x) ys
+      → (Has (λ i. i ≡ x) ys → Has (λ i. i ≡ x) (filter test ys))
+      → Has (λ i. i ≡ x) (cond b (y ∷ filter test ys) (filter test ys))
   by true is (inl here) later = inl here
   by true is (inr there) later = inr (later there)
   by false is (inl here) later = cc (sym is ∙ ap test here ∙ passes)
@@ -118,7 +123,8 @@ Sends P y sent = Has (λ z. (z.to ≡ y) × P z.message) sent
 
 pub sends-link : (P : Message → Type 0) (y : ProcessId) (sent : List Sent) → Sends P y sent → Has P (sent_to y sent)
 sends-link P y [] has = absurd has
-sends-link P y (z ∷ zs) (inl (same, is)) = subst (λ (b : Bool). Has P (front_if b z.message (sent_to y zs))) (sym (ap (λ (a : ProcessId). same_process a y) same ∙ same-refl y)) (inl is)
+sends-link P y (z ∷ zs) (inl (same, is)) = subst (λ (b : Bool). Has P (front_if b z.message (sent_to y zs)))
+    (sym (ap (λ (a : ProcessId). same_process a y) same ∙ same-refl y)) (inl is)
 sends-link P y (z ∷ zs) (inr there) = by (same_process z.to y) (sends-link P y zs there) where
   by : (b : Bool) → Has P (sent_to y zs) → Has P (front_if b z.message (sent_to y zs))
   by true rest = inr rest
@@ -136,16 +142,19 @@ link-sends P y (z ∷ zs) has = by (same_process z.to y) refl has (λ there. lin
 module _ (s : Dimensions) (g h : Gathering) (state : LeaderState) (number : ℕ) (opens : open_session state number ≡ Some h) (is : g.number ≡ number) where
   pub gathered-here : (complete : Bool) → open_session (gathered_when complete s g state) number ≡ (if complete then None else Some g)
   gathered-here true =
-      ap (λ (gs : List Gathering). find (λ x. x.number == number) gs) (decoded-same s g g.lost (record state { sessions = without_session g.number state.sessions })).0
+      ap (λ (gs : List Gathering). find (λ x. x.number == number) gs)
+      (decoded-same s g g.lost (record state { sessions = without_session g.number state.sessions })).0
       ∙ found-filter (λ x. x.number == number) (λ x. not (x.number == g.number)) false state.sessions
       (λ x passes. ap not (eq-eqb x.number g.number (number-is x number passes ∙ sym is)))
   gathered-here false =
       ap (λ (k : ℕ). find (λ x. x.number == k) (map (λ x. if x.number == g.number then g else x) state.sessions)) (sym is)
-      ∙ found-exchanged (λ x. x.number == g.number) g h state.sessions (eq-eqb g.number g.number refl) (ap (λ (k : ℕ). find (λ x. x.number == k) state.sessions) is ∙ opens)
+      ∙ found-exchanged (λ x. x.number == g.number) g h state.sessions (eq-eqb g.number g.number refl)
+      (ap (λ (k : ℕ). find (λ x. x.number == k) state.sessions) is ∙ opens)
 
   pub gathered-other : (complete : Bool) (n : ℕ) → n ≢ number → open_session (gathered_when complete s g state) n ≡ open_session state n
   gathered-other true n other =
-      ap (λ (gs : List Gathering). find (λ x. x.number == n) gs) (decoded-same s g g.lost (record state { sessions = without_session g.number state.sessions })).0
+      ap (λ (gs : List Gathering). find (λ x. x.number == n) gs)
+      (decoded-same s g g.lost (record state { sessions = without_session g.number state.sessions })).0
       ∙ found-filter (λ x. x.number == n) (λ x. not (x.number == g.number)) true state.sessions
       (λ x passes. ap not (ne_eqb x.number g.number (λ same. other (sym (number-is x n passes) ∙ same ∙ is))))
   gathered-other false n other =

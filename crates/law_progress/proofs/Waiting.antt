@@ -62,7 +62,8 @@ WantsBlock d (Some g) = at None g.blocks_in d ≡ None
 -- something is under way from partition d to row r, or from there to the leader
 pub data RowComes (s : Dimensions) (v : State) (l n r d : ℕ) : Type 0 where
   Asked : v.dead (DataNode d) ≡ false → Has (AsksForBlock l n r) (v.link (ParityNode l) (DataNode d)) → RowComes s v l n r d
-  Marking : (x : ProcessId) → IsProcess s x → x ≢ ParityNode r → v.dead x ≡ false → (x ≡ ParityNode l) ⊎ (x ≡ DataNode d) → Has (IsMark l n d) (v.link x (ParityNode r)) → RowComes s v l n r d
+  Marking : (x : ProcessId) → IsProcess s x → x ≢ ParityNode r → v.dead x ≡ false → (x ≡ ParityNode l)
+      ⊎ (x ≡ DataNode d) → Has (IsMark l n d) (v.link x (ParityNode r)) → RowComes s v l n r d
   Copied : Marked d (marks_in (v.process (ParityNode r)) l n) → RowComes s v l n r d
   Given : r ≢ l → Has (IsRow l n) (v.link (ParityNode r) (ParityNode l)) → RowComes s v l n r d
 
@@ -72,9 +73,11 @@ BlockComes v l n d = Has (IsRead l n) (v.link (ParityNode l) (DataNode d)) ⊎ H
 
 -- so it is for all that open sessions of living leaders wait for, as far as those who are to give it live
 pub record Waited (s : Dimensions) (v : State) : Type 0 where
-  pub rows : (l n r d : ℕ) → l < s.m → r < s.m → d < s.k → v.dead (ParityNode l) ≡ false → v.dead (ParityNode r) ≡ false → WantsRow r (open_session (v.process (ParityNode l)).as_leader n)
+  pub rows : (l n r d : ℕ) → l < s.m → r < s.m → d < s.k → v.dead (ParityNode l) ≡ false → v.dead (ParityNode r) ≡ false
+      → WantsRow r (open_session (v.process (ParityNode l)).as_leader n)
       → (knows_dead (v.process (ParityNode l)).known (DataNode d) ≡ true) ⊎ (v.dead (DataNode d) ≡ false) → RowComes s v l n r d
-  pub blocks : (l n d : ℕ) → l < s.m → d < s.k → v.dead (ParityNode l) ≡ false → v.dead (DataNode d) ≡ false → WantsBlock d (open_session (v.process (ParityNode l)).as_leader n) → BlockComes v l n d
+  pub blocks : (l n d : ℕ) → l < s.m → d < s.k → v.dead (ParityNode l) ≡ false → v.dead (DataNode d) ≡ false
+      → WantsBlock d (open_session (v.process (ParityNode l)).as_leader n) → BlockComes v l n d
 
 -- so it is along every run
 abbrev pub WaitedAlways : Type 0

@@ -1,6 +1,7 @@
 -- At most as many calls as there are blocks have to wait for one, while no process fails and each is asked where the group
 -- is drained.
-use Rattle.std.proofs.Common.{◌≡◌, ℕ, ◌+◌, ◌<◌, ◌≤◌, Bool, true, false, List, [], ◌∷◌, ◌++◌, length, ◌⊎◌, inl, inr, refl, sym, ap, subst, ◌∙◌, if◌then◌else◌, arith}
+use Rattle.std.proofs.Common.{◌≡◌, ℕ, ◌+◌, ◌<◌, ◌≤◌, Bool, true, false, List, [], ◌∷◌, ◌++◌, length, ◌⊎◌, inl, inr}
+use Rattle.std.proofs.Common.{refl, sym, ap, subst, ◌∙◌, if◌then◌else◌, arith}
 use Rattle.std.proofs.lemmas.List.Sums.{sum_by-cons}
 use Rattle.group_types.specs.Dimensions.{Dimensions}
 use Rattle.group_types.specs.Names.{IsProcess, same_process}
@@ -23,7 +24,8 @@ use Rattle.law_progress.proofs.Starting.{NoRepeat}
 use Rattle.law_progress.specs.FewWaits.{FewWaitsAlways}
 use Rattle.law_progress.proofs.Counting.{few-below}
 use Rattle.law_progress.proofs.Serving.{Served}
-use Rattle.law_progress.proofs.Steps.{AllKnown, Leaves, drained-known, event-leaves, history-append, inside, lives, not-served, pin, run-append, same-dead, shape-is, then-served, world-is}
+use Rattle.law_progress.proofs.Steps.{AllKnown, Leaves, drained-known, event-leaves, history-append, inside, lives}
+use Rattle.law_progress.proofs.Steps.{not-served, pin, run-append, same-dead, shape-is, then-served, world-is}
 
 -- an answer that a block is waited for, or another one
 abbrev IsBlockWait : ProcessId → Event → Answer → Type 0
@@ -31,7 +33,8 @@ IsBlockWait p e a = (caller : ℕ) × (op : Asked) × (b : ℕ) × (e ≡ Ask ca
 
 no-wait : (p : ProcessId) (e : Event) (a : Answer) → (waits_here p e a ≡ 0) ⊎ ((waits_here p e a ≤ 1) × IsBlockWait p e a)
 no-wait p (Ask caller op q) (says.Retry (cause.Block b)) = by (same_process p q) refl where
-  by : (c : Bool) → same_process p q ≡ c → (◌≡◌ {A = ℕ} (if c then 1 else 0) 0) ⊎ (((if c then 1 else 0) ≤ 1) × IsBlockWait p (Ask caller op q) (says.Retry (cause.Block b)))
+  by : (c : Bool) → same_process p q ≡ c → (◌≡◌ {A = ℕ} (if c then 1 else 0) 0)
+      ⊎ (((if c then 1 else 0) ≤ 1) × IsBlockWait p (Ask caller op q) (says.Retry (cause.Block b)))
   by false is = inl refl
   by true is = inr (omega arith, (caller, op, b, ap (Ask caller op) (sym (same-eq p q is)), refl))
 no-wait p (Ask caller op q) (says.Retry (cause.Pending d n)) = inl refl
@@ -58,15 +61,20 @@ no-wait p (Trace caller call d q) a = inl refl
 record Counted (s : Dimensions) (h : History) (p : ProcessId) (bs : List ℕ) : Type 0 where
   pub differ : NoRepeat bs
   pub below : (b : ℕ) → Has (λ i. i ≡ b) bs → b < s.blocks
-  pub served : (bs ≡ []) ⊎ (AllKnown s (state_of h) × IsProcess s p × ((state_of h).dead p ≡ false) × ((b : ℕ) → Has (λ i. i ≡ b) bs → Served s b ((state_of h).process p)))
+  pub served : (bs ≡ []) ⊎ (AllKnown s (state_of h) × IsProcess s p × ((state_of h).dead p ≡ false)
+      × ((b : ℕ) → Has (λ i. i ≡ b) bs → Served s b ((state_of h).process p)))
 
 module _ (s : Dimensions) (p : ProcessId) (before : List Event) (run : IsRun s before) (e : Event) (bs : List ℕ) (may : MayCome (history_of s before).world e)
     (goes : IsNoFailure e) (count : Counted s (history_of s before) p bs) where
   -- an event leaves what was counted
   leaves-count : Counted s (prolonged (history_of s before) e) p bs
   leaves-count = record { differ = count.differ; below = count.below; served = by count.served } where
-    by : (bs ≡ []) ⊎ (AllKnown s (state_of (history_of s before)) × IsProcess s p × ((state_of (history_of s before)).dead p ≡ false) × ((b : ℕ) → Has (λ i. i ≡ b) bs → Served s b ((state_of (history_of s before)).process p)))
-        → (bs ≡ []) ⊎ (AllKnown s (state_of (prolonged (history_of s before) e)) × IsProcess s p × ((state_of (prolonged (history_of s before) e)).dead p ≡ false) × ((b : ℕ) → Has (λ i. i ≡ b) bs → Served s b ((state_of (prolonged (history_of s before) e)).process p)))
+    by : (bs ≡ []) ⊎ (AllKnown s (state_of (history_of s before)) × IsProcess s p
+        × ((state_of (history_of s before)).dead p ≡ false)
+        × ((b : ℕ) → Has (λ i. i ≡ b) bs → Served s b ((state_of (history_of s before)).process p)))
+        → (bs ≡ []) ⊎ (AllKnown s (state_of (prolonged (history_of s before) e)) × IsProcess s p
+        × ((state_of (prolonged (history_of s before) e)).dead p ≡ false)
+        × ((b : ℕ) → Has (λ i. i ≡ b) bs → Served s b ((state_of (prolonged (history_of s before) e)).process p)))
     by (inl none) = inl none
     by (inr (known, pin, lives, all)) =
         let leaves = event-leaves s before run e may goes known in
@@ -97,7 +105,8 @@ module _ (s : Dimensions) (p : ProcessId) (before : List Event) (run : IsRun s b
     leaves = event-leaves s before run e may goes (drained-known s before run drained)
 
     new-served : Served s b ((state_of (prolonged (history_of s before) e)).process p)
-    new-served = subst (λ (x : Event). Served s b ((state_of (prolonged (history_of s before) x)).process p)) (sym is) (then-served s before run caller op p b may-ask drained waits)
+    new-served = subst (λ (x : Event). Served s b ((state_of (prolonged (history_of s before) x)).process p)) (sym is)
+        (then-served s before run caller op p b may-ask drained waits)
 
     one-more : Counted s (prolonged (history_of s before) e) p (b ∷ bs)
     one-more = record {
@@ -106,7 +115,9 @@ module _ (s : Dimensions) (p : ProcessId) (before : List Event) (run : IsRun s b
       served = inr (leaves.known, here-pin, same-dead s before run e may goes p here-pin ∙ here-lives, λ c has. all c has count.served);
     } where
       new : Has (λ i. i ≡ b) bs
-          → (bs ≡ []) ⊎ (AllKnown s (state_of (history_of s before)) × IsProcess s p × ((state_of (history_of s before)).dead p ≡ false) × ((c : ℕ) → Has (λ i. i ≡ c) bs → Served s c ((state_of (history_of s before)).process p)))
+          → (bs ≡ []) ⊎ (AllKnown s (state_of (history_of s before)) × IsProcess s p
+          × ((state_of (history_of s before)).dead p ≡ false)
+          × ((c : ℕ) → Has (λ i. i ≡ c) bs → Served s c ((state_of (history_of s before)).process p)))
           → ⊥
       new has (inl none) = subst (Has (λ i. i ≡ b)) none has
       new has (inr (known, inside_p, living, served)) = not-yet (served b has)
@@ -116,7 +127,9 @@ module _ (s : Dimensions) (p : ProcessId) (before : List Event) (run : IsRun s b
       below c (inr there) = count.below c there
 
       all : (c : ℕ) → (b ≡ c) ⊎ Has (λ i. i ≡ c) bs
-          → (bs ≡ []) ⊎ (AllKnown s (state_of (history_of s before)) × IsProcess s p × ((state_of (history_of s before)).dead p ≡ false) × ((x : ℕ) → Has (λ i. i ≡ x) bs → Served s x ((state_of (history_of s before)).process p)))
+          → (bs ≡ []) ⊎ (AllKnown s (state_of (history_of s before)) × IsProcess s p
+          × ((state_of (history_of s before)).dead p ≡ false)
+          × ((x : ℕ) → Has (λ i. i ≡ x) bs → Served s x ((state_of (history_of s before)).process p)))
           → Served s c ((state_of (prolonged (history_of s before) e)).process p)
       all c (inl same) _ = subst (λ (x : ℕ). Served s x ((state_of (prolonged (history_of s before) e)).process p)) same new-served
       all c (inr there) (inl none) = absurd (subst (Has (λ i. i ≡ c)) none there)
@@ -129,14 +142,22 @@ module _ (s : Dimensions) (p : ProcessId) where
   counted [] before run comes asked bs count = let few = few-below s.blocks bs count.differ count.below in omega (arith, few)
   counted (e ∷ es) before run comes asked bs count = by (no-wait p e (step (history_of s before).world e).turn.answer)
       (λ more now. subst (λ (x : History). length more + block_waits p (turns_from x.world es) ≤ s.blocks) (history-append (no_history s) before e)
-      (counted es (before ++ e ∷ []) (run.0, run-append (no_history s) before e run.1 comes.0) (subst (λ (x : History). IsRunFrom x.world es) (sym (history-append (no_history s) before e)) comes.1)
-      (subst (λ (x : History). AskedDrained x.world es) (sym (history-append (no_history s) before e)) asked.2) more (subst (λ (x : History). Counted s x p more) (sym (history-append (no_history s) before e)) now)))
+      (counted es (before ++ e ∷ []) (run.0, run-append (no_history s) before e run.1 comes.0)
+      (subst (λ (x : History). IsRunFrom x.world es) (sym (history-append (no_history s) before e)) comes.1)
+      (subst (λ (x : History). AskedDrained x.world es) (sym (history-append (no_history s) before e)) asked.2) more
+      (subst (λ (x : History). Counted s x p more) (sym (history-append (no_history s) before e)) now)))
     where
-      split : block_waits p (turns_from (history_of s before).world (e ∷ es)) ≡ waits_here p e (step (history_of s before).world e).turn.answer + block_waits p (turns_from (step (history_of s before).world e).world es)
-      split = sum_by-cons (λ turn. waits_here p turn.event turn.answer) (step (history_of s before).world e).turn (turns_from (step (history_of s before).world e).world es)
+      split : block_waits p (turns_from (history_of s before).world (e ∷ es))
+          ≡ waits_here p e (step (history_of s before).world e).turn.answer + block_waits p
+          (turns_from (step (history_of s before).world e).world es)
+      split = sum_by-cons (λ turn. waits_here p turn.event turn.answer) (step (history_of s before).world e).turn
+          (turns_from (step (history_of s before).world e).world es)
 
-      by : (waits_here p e (step (history_of s before).world e).turn.answer ≡ 0) ⊎ ((waits_here p e (step (history_of s before).world e).turn.answer ≤ 1) × IsBlockWait p e (step (history_of s before).world e).turn.answer)
-          → ((more : List ℕ) → Counted s (prolonged (history_of s before) e) p more → length more + block_waits p (turns_from (step (history_of s before).world e).world es) ≤ s.blocks)
+      by : (waits_here p e (step (history_of s before).world e).turn.answer ≡ 0)
+          ⊎ ((waits_here p e (step (history_of s before).world e).turn.answer ≤ 1)
+          × IsBlockWait p e (step (history_of s before).world e).turn.answer)
+          → ((more : List ℕ) → Counted s (prolonged (history_of s before) e) p more → length more + block_waits p
+          (turns_from (step (history_of s before).world e).world es) ≤ s.blocks)
           → length bs + block_waits p (turns_from (history_of s before).world (e ∷ es)) ≤ s.blocks
       by (inl none) later = let sum = split in let rest = later bs (leaves-count s p before run e bs comes.0 asked.0 count) in omega (arith, sum, none, rest)
       by (inr (one, (caller, op, b, is, answered))) later =
@@ -149,6 +170,7 @@ few_waits_always s es run later p comes asked =
     let world = world-is s es run in
     let few = counted s p later es run (subst (λ (w : World). IsRunFrom w later) (sym world) comes)
     (subst (λ (w : World). AskedDrained w later) (sym world) asked) [] (record { differ = tt; below = λ b has. absurd has; served = inl refl }) in
-    let same : block_waits p (turns_from (history_of s es).world later) ≡ block_waits p (turns_from (after s es) later) = ap (λ (w : World). block_waits p (turns_from w later)) world in
+    let same : block_waits p (turns_from (history_of s es).world later)
+    ≡ block_waits p (turns_from (after s es) later) = ap (λ (w : World). block_waits p (turns_from w later)) world in
     let shape : (after s es).shape.blocks ≡ s.blocks = ap (λ (w : World). w.shape.blocks) (sym world) ∙ ap (λ (t : Dimensions). t.blocks) (shape-is s es run) in
     omega (arith, few, same, shape)

@@ -37,14 +37,16 @@ lowers w ready up (Fail p keep) comes = absurd comes.delivery
 lowers w ready up (Flush p) comes = absurd comes.delivery
 lowers w ready up (Trace caller call d p) comes = absurd comes.delivery
 
-whole : (n : ℕ) (w : World) → ((gs : List Event) → IsRunFrom w gs → Drainable (world_after w gs)) → ¬ (IsDown w) → load_of w ≤ n → next_delivery (world_after w (drain_events n w)) ≡ None
+whole : (n : ℕ) (w : World) → ((gs : List Event) → IsRunFrom w gs → Drainable (world_after w gs)) → ¬ (IsDown w)
+    → load_of w ≤ n → next_delivery (world_after w (drain_events n w)) ≡ None
 whole zero w always up most = by (next_delivery w) refl where
   by : (o : Option Event) → next_delivery w ≡ o → next_delivery w ≡ None
   by None is = is
   by (Some e) is = let less = (lowers w (always [] tt).ready up e (next-in w (always [] tt) up e is)).0 in absurd (omega (arith, less, most))
 whole (suc n) w always up most = by (next_delivery w) refl (λ v. whole n v) where
   by : (o : Option Event) → next_delivery w ≡ o
-      → ((v : World) → ((gs : List Event) → IsRunFrom v gs → Drainable (world_after v gs)) → ¬ (IsDown v) → load_of v ≤ n → next_delivery (world_after v (drain_events n v)) ≡ None)
+      → ((v : World) → ((gs : List Event) → IsRunFrom v gs → Drainable (world_after v gs)) → ¬ (IsDown v) → load_of v
+      ≤ n → next_delivery (world_after v (drain_events n v)) ≡ None)
       → next_delivery (world_after w (elim o [ None ↦ [] | Some e ↦ e ∷ drain_events n (step w e).world ])) ≡ None
   by None is later = is
   by (Some e) is later =
@@ -59,4 +61,5 @@ always-after w always [] run = always
 always-after w always (e ∷ es) run = always-after (step w e).world (λ gs more. always (e ∷ gs) (run.0, more)) es run.1
 
 pub drains-whole : DrainsWholeAlways
-drains-whole s es run up = whole (load_of (after s es)) (after s es) (always-after (opening s) (λ gs more. drainable-after s gs (run.0, more)) es run.1) up (omega arith)
+drains-whole s es run up = whole (load_of (after s es)) (after s es)
+    (always-after (opening s) (λ gs more. drainable-after s gs (run.0, more)) es run.1) up (omega arith)

@@ -1,5 +1,6 @@
 -- A base is the number of updates that earlier eras have logged.
-use Rattle.std.proofs.Common.{ℕ, ◌≡◌, ◌<◌, ◌≤◌, ◌+◌, ◌==◌, nat_lt, Bool, true, false, cond, List, [], ◌∷◌, ◌++◌, map, if◌then◌else◌, refl, sym, ap, subst, ◌∙◌, arith}
+use Rattle.std.proofs.Common.{ℕ, ◌≡◌, ◌<◌, ◌≤◌, ◌+◌, ◌==◌, nat_lt, Bool, true, false, cond, List, [], ◌∷◌, ◌++◌, map}
+use Rattle.std.proofs.Common.{if◌then◌else◌, refl, sym, ap, subst, ◌∙◌, arith}
 use Rattle.std.specs.Prelude.{filter}
 use Rattle.std.proofs.lemmas.Grind.{common_steps}
 use Rattle.std.proofs.lemmas.List.{append-nil, length-replicate}
@@ -33,9 +34,11 @@ kept-earlier : (era : ℕ) (xs : List EraEntry) → Each (λ x. x.0 < era) xs �
 kept-earlier era [] all = refl
 kept-earlier era (x ∷ xs) all =
     let low : nat_lt x.0 era ≡ true = (let less = all.0 in grind (arith, common_steps)) in
-    ap (λ (b : Bool). cond b (x ∷ filter (is_earlier era) xs) (filter (is_earlier era) xs)) low ∙ ap (λ (ys : List EraEntry). x ∷ ys) (kept-earlier era xs all.1)
+    ap (λ (b : Bool). cond b (x ∷ filter (is_earlier era) xs) (filter (is_earlier era) xs)) low
+    ∙ ap (λ (ys : List EraEntry). x ∷ ys) (kept-earlier era xs all.1)
 
-left-out : (bases : Bases) (k : ℕ) (asked : List Event) (era : ℕ) (xs : List Entry) (ys : List EraEntry) → AreTold bases k asked era xs ys → filter (is_earlier era) ys ≡ []
+left-out : (bases : Bases) (k : ℕ) (asked : List Event) (era : ℕ) (xs : List Entry) (ys : List EraEntry)
+    → AreTold bases k asked era xs ys → filter (is_earlier era) ys ≡ []
 left-out bases k asked era [] [] told = refl
 left-out bases k asked era [] (y ∷ ys) told = absurd told
 left-out bases k asked era (x ∷ xs) [] told = absurd told
@@ -48,7 +51,8 @@ filter-both : (era : ℕ) (xs ys : List EraEntry) → filter (is_earlier era) (x
 filter-both era [] ys = refl
 filter-both era (x ∷ xs) ys = by (is_earlier era x) (filter-both era xs ys) where
   by : (b : Bool) → filter (is_earlier era) (xs ++ ys) ≡ filter (is_earlier era) xs ++ filter (is_earlier era) ys
-      → cond b (x ∷ filter (is_earlier era) (xs ++ ys)) (filter (is_earlier era) (xs ++ ys)) ≡ cond b (x ∷ filter (is_earlier era) xs) (filter (is_earlier era) xs) ++ filter (is_earlier era) ys
+      → cond b (x ∷ filter (is_earlier era) (xs ++ ys)) (filter (is_earlier era) (xs ++ ys))
+      ≡ cond b (x ∷ filter (is_earlier era) xs) (filter (is_earlier era) xs) ++ filter (is_earlier era) ys
   by true rest = ap (λ (zs : List EraEntry). x ∷ zs) rest
   by false rest = rest
 
@@ -74,7 +78,8 @@ same-update bases k d asked x y tells =
     ∙ ap (λ (other : List ℕ). if accepts x.reply then home_of other k == d else false)
     (sym (key-cas (without_base bases (home_of key k)) y.op.act) ∙ sym (ap (λ (o : _). key_of o.act) tells.op))
 
-same-updates : (bases : Bases) (k d : ℕ) (asked : List Event) (era : ℕ) (xs : List Entry) (ys : List EraEntry) → AreTold bases k asked era xs ys → updates_among k d (map (λ y. y.1) ys) ≡ updates_among k d xs
+same-updates : (bases : Bases) (k d : ℕ) (asked : List Event) (era : ℕ) (xs : List Entry) (ys : List EraEntry)
+    → AreTold bases k asked era xs ys → updates_among k d (map (λ y. y.1) ys) ≡ updates_among k d xs
 same-updates bases k d asked era [] [] told = refl
 same-updates bases k d asked era [] (y ∷ ys) told = absurd told
 same-updates bases k d asked era (x ∷ xs) [] told = absurd told
@@ -94,12 +99,14 @@ module _ (e : Eras) (stands : Stands e) where
   before-is = ap (map (λ x. x.1))
       (ap (filter (is_earlier e.era)) stands.era.log
       ∙ filter-both e.era stands.era.before stands.era.own
-      ∙ ap (λ (zs : List EraEntry). filter (is_earlier e.era) stands.era.before ++ zs) (left-out e.bases k stands.era.asked e.era e.world.log stands.era.own stands.era.told)
+      ∙ ap (λ (zs : List EraEntry). filter (is_earlier e.era) stands.era.before ++ zs)
+      (left-out e.bases k stands.era.asked e.era e.world.log stands.era.own stands.era.told)
       ∙ append-nil (filter (is_earlier e.era) stands.era.before)
       ∙ kept-earlier e.era stands.era.before stands.era.earlier)
 
   pub log-is : one_log e ≡ earlier e ++ map (λ x. x.1) stands.era.own
-  log-is = ap (map (λ x. x.1)) stands.era.log ∙ map-both (λ x. x.1) stands.era.before stands.era.own ∙ ap (λ (es : List Entry). es ++ map (λ x. x.1) stands.era.own) (sym before-is)
+  log-is = ap (map (λ x. x.1)) stands.era.log ∙ map-both (λ x. x.1) stands.era.before stands.era.own
+      ∙ ap (λ (es : List Entry). es ++ map (λ x. x.1) stands.era.own) (sym before-is)
 
   own-legal : IsLegal e.world.shape.k e.world.log
   own-legal = subst (λ (w : World). IsLegal e.world.shape.k w.log) (sym stands.era.stands) stands.era.headline.one_log.legal

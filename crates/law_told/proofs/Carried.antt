@@ -1,5 +1,6 @@
 -- The items that are carried are those of the keys that live at some moment, and have as many bytes as their values.
-use Rattle.std.proofs.Common.{ℕ, zero, suc, ◌≡◌, ◌≢◌, ◌<◌, ◌≤◌, ◌+◌, true, false, List, [], ◌∷◌, ◌++◌, length, map, Option, Some, None, ◌⊎◌, inl, inr, refl, sym, ap, subst, ◌∙◌, arith}
+use Rattle.std.proofs.Common.{ℕ, zero, suc, ◌≡◌, ◌≢◌, ◌<◌, ◌≤◌, ◌+◌, true, false, List, [], ◌∷◌, ◌++◌, length, map}
+use Rattle.std.proofs.Common.{Option, Some, None, ◌⊎◌, inl, inr, refl, sym, ap, subst, ◌∙◌, arith}
 use Rattle.std.specs.Prelude.{Contains}
 use Rattle.std.specs.List.{range_with_len, sum_by}
 use Rattle.std.proofs.lemmas.Bool.{cases_lt}
@@ -47,7 +48,8 @@ two-right R (x ∷ xs) ys two = two-right R xs ys two.1
 map-of : {X Y : Type 0} (f : X → Y) (xs : List X) (y : Y) → Contains (map f xs) y → (x : X) × Contains xs x × (f x ≡ y)
 map-of f [] y there = absurd (let low = there.1 in omega (arith, low))
 map-of f (x ∷ xs) y (zero, low, is) = (x, (0, omega arith, refl), is)
-map-of f (x ∷ xs) y (suc i, low, is) = let rest = map-of f xs y (i, omega (arith, low), is) in (rest.0, (suc rest.1.0, (let less = rest.1.1 in omega (arith, less)), rest.1.2), rest.2)
+map-of f (x ∷ xs) y (suc i, low, is) = let rest = map-of f xs y (i, omega (arith, low), is) in
+    (rest.0, (suc rest.1.0, (let less = rest.1.1 in omega (arith, less)), rest.1.2), rest.2)
 
 abbrev keys_of : List Load → List (List ℕ)
 keys_of xs = map (λ x. x.key) xs
@@ -58,7 +60,8 @@ Apart x y = x.key ≢ y.key
 two-in : (w : World) (n a d : ℕ) → a ≤ d → d < a + n → EachTwo Apart (loads_of w (range_with_len a n)) → EachTwo Apart (loads_in w d)
 two-in w zero a d from to two = absurd (omega (arith, from, to))
 two-in w (suc n) a d from to two =
-    by (cases_lt a d) (λ less. two-in w n (a + 1) d (omega (arith, less)) (omega (arith, to)) (two-right Apart (loads_in w a) (loads_of w (range_with_len (a + 1) n)) two))
+    by (cases_lt a d) (λ less. two-in w n (a + 1) d (omega (arith, less)) (omega (arith, to))
+    (two-right Apart (loads_in w a) (loads_of w (range_with_len (a + 1) n)) two))
   where
     by : (a < d) ⊎ (d ≤ a) → (a < d → EachTwo Apart (loads_in w d)) → EachTwo Apart (loads_in w d)
     by (inl less) later = later less
@@ -117,7 +120,13 @@ module _ (e : Eras) (stands : Stands e) (rest : IsAtRest e.world) where
   to-whole : (key : List ℕ) (old : Holding) → (own_table e).items key ≡ Some old → Whole key old
   to-whole key old own = by ((stands.joined some).items key) where
     by : Meets e.bases s.k some NoKey key ((table_over e).items key) ((own_table e).items key) → Whole key old
-    by (inl (Alike is has)) = record { now = shifted e.bases (home_of key s.k) old; there = is ∙ ap (shift e.bases (home_of key s.k)) own; until = refl; value = refl }
+    by (inl (Alike is has)) =
+        record {
+          now = shifted e.bases (home_of key s.k) old;
+          there = is ∙ ap (shift e.bases (home_of key s.k)) own;
+          until = refl;
+          value = refl;
+        }
     by (inl (Gone x is ends none)) = absurd (cc (own, none))
     by (inr both) = absurd both.0
 
@@ -130,7 +139,8 @@ module _ (e : Eras) (stands : Stands e) (rest : IsAtRest e.world) where
 
   held-of : (x : Load) → IsLoad s w x → Held x
   held-of x load =
-      let in-table : finding.InTable s es rests x.partition load.below (x.key, x.slot) = finding.in-table s es rests x.partition load.below (x.key, x.slot) load.there in
+      let in-table : finding.InTable s es rests x.partition load.below (x.key, x.slot) =
+      finding.in-table s es rests x.partition load.below (x.key, x.slot) load.there in
       let old : Holding = _ in
       let whole = to-whole x.key old (ap (λ (t : Contents). t.items x.key) own-is ∙ in-table.there) in
       record {
@@ -141,7 +151,8 @@ module _ (e : Eras) (stands : Stands e) (rest : IsAtRest e.world) where
       }
 
   -- and one that lives is carried
-  carried-of : (key : List ℕ) (h : Holding) → (table_over e).items key ≡ Some h → is_live 0 h.until ≡ true → Contains (keys_of (loads_in w (home_of key s.k))) key
+  carried-of : (key : List ℕ) (h : Holding) → (table_over e).items key ≡ Some h → is_live 0 h.until ≡ true
+      → Contains (keys_of (loads_in w (home_of key s.k))) key
   carried-of key h there live =
       let d : ℕ = home_of key s.k in
       let own : Own key h = to-own key h there live in
@@ -181,13 +192,18 @@ module _ (e : Eras) (stands : Stands e) (rest : IsAtRest e.world) where
   living-in : (d : ℕ) → d < s.k → AreLivingIn s.k d (table_over e) (keys_of (loads_in w d))
   living-in d below = record {
     once = two-map (λ a b. a ≢ b) (λ (x : Load). x.key) (loads_in w d)
-        (two-in w s.k 0 d (omega arith) (omega (arith, below)) (subst (λ (k : ℕ). EachTwo Apart (loads_of w (range_with_len 0 k))) partitions (keys-differ s es rests)));
+        (two-in w s.k 0 d (omega arith) (omega (arith, below))
+        (subst (λ (k : ℕ). EachTwo Apart (loads_of w (range_with_len 0 k))) partitions (keys-differ s es rests)));
     all = λ key h home there live. subst (λ (i : ℕ). Contains (keys_of (loads_in w i)) key) home (carried-of key h there live);
     live = λ key there.
         let x = map-of (λ (x : Load). x.key) (loads_in w d) key there in
         let held : Held x.0 = held-of x.0 (each-contained (IsLoad s w) (loads_in w d) x.0 (held-in d below) x.1) in
-        let home = (each-contained (λ (y : Load). (y.partition ≡ d) × (home_of y.key s.k ≡ d)) (loads_in w d) x.0 (of-partition s es rests d below) x.1).1 in
-        (ap (λ (other : List ℕ). home_of other s.k) (sym x.2) ∙ home, held.now, ap (λ (other : List ℕ). (table_over e).items other) (sym x.2) ∙ held.there, held.live);
+        let home = (each-contained (λ (y : Load). (y.partition ≡ d) × (home_of y.key s.k ≡ d)) (loads_in w d) x.0 (of-partition s es rests d below) x.1).1 in (
+          ap (λ (other : List ℕ). home_of other s.k) (sym x.2) ∙ home,
+          held.now,
+          ap (λ (other : List ℕ). (table_over e).items other) (sym x.2) ∙ held.there,
+          held.live,
+        );
   }
 
   -- how many bytes they have

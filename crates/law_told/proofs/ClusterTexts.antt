@@ -1,5 +1,7 @@
 -- What lines of a script of several groups write.
-use Rattle.std.proofs.Common.{ℕ, ◌≡◌, ◌+◌, ◌⊎◌, inl, inr, Bool, true, false, nat_lt, List, [], ◌∷◌, ◌++◌, codes, length, map, Option, Some, None, Result, Ok, Err, if◌then◌else◌, refl, sym, ap, subst, ◌∙◌, append_assoc}
+use Rattle.std.proofs.Common.{ℕ, ◌≡◌, ◌+◌, ◌⊎◌, inl, inr, Bool, true, false, nat_lt, List, [], ◌∷◌, ◌++◌, codes, length}
+use Rattle.std.proofs.Common.{map, Option, Some, None, Result, Ok, Err, if◌then◌else◌, refl, sym, ap, subst, ◌∙◌}
+use Rattle.std.proofs.Common.{append_assoc}
 use Rattle.std.proofs.lemmas.List.{append-nil}
 use Rattle.std.specs.Fmt.{decimal}
 use Rattle.group_types.specs.Lists.{at}
@@ -27,7 +29,9 @@ use Rattle.group_layout.specs.declared.event.ClusterEvent.TheVariants.{InGroup}
 use Rattle.group_layout.proofs.Moves.{log-moved}
 use Rattle.group_cluster.specs.Plan.{IsPlan, Plan}
 use Rattle.cluster_run.specs.Meaning.{failure_line, in_group}
-use Rattle.cluster_run.specs.Playing.{ClusterNext, ClusterPlay, ClusterTurn, all_deliveries, by_drain, by_event, by_line, by_trace, by_words, group_in, log_of, next_of, opening_of, then_by, then_in, turns_from}
+use Rattle.cluster_run.specs.Playing.{ClusterNext, ClusterPlay, ClusterTurn, all_deliveries, by_drain, by_event}
+use Rattle.cluster_run.specs.Playing.{by_line, by_trace, by_words, group_in, log_of, next_of, opening_of, then_by}
+use Rattle.cluster_run.specs.Playing.{then_in, turns_from}
 use Rattle.cluster_run.specs.Script.{plan_in}
 use Rattle.cluster_run.specs.Texts.{cluster_answer_text, cluster_entries_text, cluster_entry_text}
 use Rattle.cluster_run.specs.declared.fault.ClusterFault.TheVariants.{BadLine}
@@ -69,13 +73,17 @@ answer-is Done = refl
 answer-is AlreadyDead = refl
 
 -- a line that is said, and entries behind it or in front of it
-said-first : (line : List ℕ) (es : List ClusterEntry) → is_log_line line ≡ false → Tells cluster_entry_text (line ++ 10 ∷ cluster_entries_text es) es (line ∷ [])
+said-first : (line : List ℕ) (es : List ClusterEntry) → is_log_line line ≡ false
+    → Tells cluster_entry_text (line ++ 10 ∷ cluster_entries_text es) es (line ∷ [])
 said-first line es other =
-    subst (λ (t : List ℕ). Tells cluster_entry_text (line ++ 10 ∷ t) es (line ∷ [])) (sym (entries-lines es)) (lines.said-first cluster_entry_text entry-marked line es other)
+    subst (λ (t : List ℕ). Tells cluster_entry_text (line ++ 10 ∷ t) es (line ∷ [])) (sym (entries-lines es))
+    (lines.said-first cluster_entry_text entry-marked line es other)
 
-said-last : (line : List ℕ) (es : List ClusterEntry) → is_log_line line ≡ false → Tells cluster_entry_text (cluster_entries_text es ++ (line ++ 10 ∷ [])) es (line ∷ [])
+said-last : (line : List ℕ) (es : List ClusterEntry) → is_log_line line ≡ false
+    → Tells cluster_entry_text (cluster_entries_text es ++ (line ++ 10 ∷ [])) es (line ∷ [])
 said-last line es other =
-    subst (λ (t : List ℕ). Tells cluster_entry_text (t ++ (line ++ 10 ∷ [])) es (line ∷ [])) (sym (entries-lines es)) (lines.said-last cluster_entry_text entry-marked line es other)
+    subst (λ (t : List ℕ). Tells cluster_entry_text (t ++ (line ++ 10 ∷ [])) es (line ∷ [])) (sym (entries-lines es))
+    (lines.said-last cluster_entry_text entry-marked line es other)
 
 -- ---- the log
 
@@ -110,7 +118,13 @@ ComesTo p line (Refused fault) = Unit {0}
 -- nothing is done, and these lines are said
 idle : (p q : ClusterPlay) (line : List ℕ) (said : List (List ℕ)) → q.cluster ≡ p.cluster → lines.AreOthers said → Comes p line (Some q) [] (text_of said)
 idle p q line said same others = record {
-  tells = record { said = said; is_said = inl refl; logged = []; grows = sym (append-nil p.cluster.groups.log); tells = tells-said cluster_entry_text said others };
+  tells = record {
+    said = said;
+    is_said = inl refl;
+    logged = [];
+    grows = sym (append-nil p.cluster.groups.log);
+    tells = tells-said cluster_entry_text said others;
+  };
   play = q;
   is = refl;
   to = same;
@@ -126,7 +140,8 @@ event-comes p line e =
         is_said = inr (inl (record { event = e; only = refl; answer = refl }));
         logged = logged;
         grows = step-logs p.cluster e;
-        tells = subst (λ (t : List ℕ). Tells cluster_entry_text (t ++ 10 ∷ cluster_entries_text logged) logged (answer_line answer ∷ [])) (sym (answer-is answer))
+        tells = subst (λ (t : List ℕ). Tells cluster_entry_text (t ++ 10 ∷ cluster_entries_text logged) logged
+            (answer_line answer ∷ [])) (sym (answer-is answer))
             (said-first (answer_line answer) logged (said-other answer));
       };
       play = record { cluster = (cluster_step p.cluster e).cluster; moment = p.moment };
@@ -140,7 +155,8 @@ trace-comes p line j caller call e = by (nat_lt call (at 0 (group_in p j).asked 
   by true = event-comes p line (InGroup j e)
   by false = tt
 
-drain-comes : (p : ClusterPlay) (line : List ℕ) (es : List ClusterEvent) → line_of (Some p.cluster.groups.shape) line ≡ Ok Drain → ComesTo p line (by_drain p es)
+drain-comes : (p : ClusterPlay) (line : List ℕ) (es : List ClusterEvent) → line_of (Some p.cluster.groups.shape) line
+    ≡ Ok Drain → ComesTo p line (by_drain p es)
 drain-comes p line es reads =
     let turns : List ClusterTurn = turns_from p.cluster es in
     let wrote : List ℕ = codes "drained " ++ decimal (length turns) in
@@ -168,7 +184,8 @@ in-comes p line j (Collect caller call from) = event-comes p line (InGroup j (ha
 in-comes p line j (Deliver from to) = event-comes p line (InGroup j (happens.Deliver from to))
 in-comes p line j (Flush from) = event-comes p line (InGroup j (happens.Flush from))
 in-comes p line j (Trace caller call partition from) = trace-comes p line j caller call (happens.Trace caller call partition from)
-in-comes p line j (Show from run) = show-comes p line (look (group_in p j) from (held (group_in p j) from run)) (look-other (group_in p j) from (held (group_in p j) from run))
+in-comes p line j (Show from run) = show-comes p line (look (group_in p j) from (held (group_in p j) from run))
+    (look-other (group_in p j) from (held (group_in p j) from run))
 in-comes p line j Skipped = tt
 in-comes p line j (Group shape) = tt
 in-comes p line j (Fail from keep) = tt
@@ -196,7 +213,8 @@ inside : (p : ClusterPlay) (line : List ℕ) (j : ℕ) (l : Result Line LineFaul
 inside p line j (Err fault) = tt
 inside p line j (Ok l) = in-comes p line j l
 
-outside : (p : ClusterPlay) (line : List ℕ) (l : Result Line LineFault) → line_of (Some p.cluster.groups.shape) line ≡ l → ComesTo p line (by_line (then_by p) l)
+outside : (p : ClusterPlay) (line : List ℕ) (l : Result Line LineFault) → line_of (Some p.cluster.groups.shape) line ≡ l
+    → ComesTo p line (by_line (then_by p) l)
 outside p line (Err fault) reads = tt
 outside p line (Ok l) reads = then-comes p line l reads
 
@@ -262,7 +280,9 @@ record Begun (lines : List (List ℕ)) : Type 0 where
 begins : (n : ℕ) (lines : List (List ℕ)) → fault_in next_of BadLine n None lines ≡ None → Begun lines
 begins n [] ends = absurd (cc ends)
 begins n (line ∷ lines) ends = by (next_of None line) refl ends (begins (n + 1) lines) where
-  begun : (next : Option ClusterPlay) (turns : List ClusterTurn) (text : List ℕ) → next_of None line ≡ Goes next turns text → Opens next turns text → fault_in next_of BadLine (n + 1) next lines ≡ None
+  begun : (next : Option ClusterPlay) (turns : List ClusterTurn) (text : List ℕ)
+      → next_of None line ≡ Goes next turns text → Opens next turns text → fault_in next_of BadLine (n + 1) next lines
+      ≡ None
       → (fault_in next_of BadLine (n + 1) None lines ≡ None → Begun lines) → Begun (line ∷ lines)
   begun next turns text is opens rest later = either opens.is where
     turns_are : (q : Option ClusterPlay) → next ≡ q → turns_in next_of None (line ∷ lines) ≡ turns_in next_of q lines
@@ -270,21 +290,34 @@ begins n (line ∷ lines) ends = by (next_of None line) refl ends (begins (n + 1
         ∙ ap (λ (x : Option ClusterPlay). turns_in next_of x lines) same
 
     text_is : (q : Option ClusterPlay) → next ≡ q → text_in next_of None (line ∷ lines) ≡ text_in next_of q lines
-    text_is q same = ap (λ (x : ClusterNext). text_after next_of x lines) is ∙ ap (λ (t : List ℕ). t ++ text_in next_of next lines) opens.silent ∙ ap (λ (x : Option ClusterPlay). text_in next_of x lines) same
+    text_is q same = ap (λ (x : ClusterNext). text_after next_of x lines) is
+        ∙ ap (λ (t : List ℕ). t ++ text_in next_of next lines) opens.silent
+        ∙ ap (λ (x : Option ClusterPlay). text_in next_of x lines) same
 
     plan_is : (q : Option ClusterPlay) → next ≡ q → plan_in (named_in next_of None (line ∷ lines)) ≡ plan_in (named_in next_of q lines)
     plan_is q same = ap plan_in (named-line next_of line lines (Goes next turns text) is ∙ ap (λ (x : Option ClusterPlay). named_in next_of x lines) same)
 
-    into : (plan : Plan) (said : List (List ℕ)) (q : Option ClusterPlay) → next ≡ q → Tells cluster_entry_text (text_in next_of q lines) (cluster_after (opening_of plan) (events_in (turns_in next_of q lines))).groups.log said
-        → Tells cluster_entry_text (text_in next_of None (line ∷ lines)) (cluster_after (opening_of plan) (events_in (turns_in next_of None (line ∷ lines)))).groups.log said
+    into : (plan : Plan) (said : List (List ℕ)) (q : Option ClusterPlay) → next ≡ q
+        → Tells cluster_entry_text (text_in next_of q lines)
+        (cluster_after (opening_of plan) (events_in (turns_in next_of q lines))).groups.log said
+        → Tells cluster_entry_text (text_in next_of None (line ∷ lines))
+        (cluster_after (opening_of plan) (events_in (turns_in next_of None (line ∷ lines)))).groups.log said
     into plan said q same tells =
-        subst (λ (t : List ℕ). Tells cluster_entry_text t (cluster_after (opening_of plan) (events_in (turns_in next_of None (line ∷ lines)))).groups.log said) (sym (text_is q same))
-        (subst (λ (ts : List ClusterTurn). Tells cluster_entry_text (text_in next_of q lines) (cluster_after (opening_of plan) (events_in ts)).groups.log said) (sym (turns_are q same)) tells)
+        subst (λ (t : List ℕ). Tells cluster_entry_text t
+        (cluster_after (opening_of plan) (events_in (turns_in next_of None (line ∷ lines)))).groups.log said)
+        (sym (text_is q same))
+        (subst (λ (ts : List ClusterTurn). Tells cluster_entry_text (text_in next_of q lines)
+        (cluster_after (opening_of plan) (events_in ts)).groups.log said) (sym (turns_are q same)) tells)
 
     either : (next ≡ None) ⊎ ((plan : Plan) × IsPlan plan × (next ≡ Some (record { cluster = opening_of plan; moment = 0 }))) → Begun (line ∷ lines)
     either (inl nothing) =
         let behind = later (subst (λ (q : Option ClusterPlay). fault_in next_of BadLine (n + 1) q lines ≡ None) nothing rest) in
-        record { plan = behind.plan; named = plan_is None nothing ∙ behind.named; said = behind.said; tells = into behind.plan behind.said None nothing behind.tells }
+        record {
+          plan = behind.plan;
+          named = plan_is None nothing ∙ behind.named;
+          said = behind.said;
+          tells = into behind.plan behind.said None nothing behind.tells;
+        }
     either (inr (plan, limits, some)) =
         let p : ClusterPlay = record { cluster = opening_of plan; moment = 0 } in
         let all = whole p lines in
@@ -296,13 +329,18 @@ begins n (line ∷ lines) ends = by (next_of None line) refl ends (begins (n + 1
               ∙ ap (λ (g : ℕ). Some (record { groups = g; nodes = length (opening_of plan).failed; shape = plan.shape })) many
               ∙ ap (λ (n : ℕ). Some (record { groups = plan.groups; nodes = n; shape = plan.shape })) nodes;
           said = all.said;
-          tells = into plan all.said (Some p) some (subst (λ (log : List ClusterEntry). Tells cluster_entry_text (text_in next_of (Some p) lines) log all.said) (sym all.grows) all.tells);
+          tells = into plan all.said (Some p) some
+              (subst (λ (log : List ClusterEntry). Tells cluster_entry_text (text_in next_of (Some p) lines) log
+              all.said) (sym all.grows) all.tells);
         }
 
-  by : (next : ClusterNext) → next_of None line ≡ next → fault_in next_of BadLine n None (line ∷ lines) ≡ None → (fault_in next_of BadLine (n + 1) None lines ≡ None → Begun lines) → Begun (line ∷ lines)
+  by : (next : ClusterNext) → next_of None line ≡ next → fault_in next_of BadLine n None (line ∷ lines) ≡ None
+      → (fault_in next_of BadLine (n + 1) None lines ≡ None → Begun lines) → Begun (line ∷ lines)
   by Ends is ends later = absurd (never-ends line is)
   by (Refused fault) is ends later = absurd (cc (sym (ap (λ (x : ClusterNext). fault_after next_of BadLine n x lines) is) ∙ ends))
-  by (Goes next turns text) is ends later = begun next turns text is (line-opens line next turns text is) (sym (ap (λ (x : ClusterNext). fault_after next_of BadLine n x lines) is) ∙ ends) later
+  by (Goes next turns text) is ends later = begun next turns text is (line-opens line next turns text is)
+      (sym (ap (λ (x : ClusterNext). fault_after next_of BadLine n x lines) is) ∙ ends) later
 
 pub cluster_transcripts_tell : ClusterTranscriptsTell
-cluster_transcripts_tell text ends = let begun = begins 1 (lines_of text) ends in record { plan = begun.plan; named = begun.named; said = begun.said; tells = begun.tells }
+cluster_transcripts_tell text ends = let begun = begins 1 (lines_of text) ends in
+    record { plan = begun.plan; named = begun.named; said = begun.said; tells = begun.tells }

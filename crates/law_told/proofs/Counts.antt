@@ -1,5 +1,6 @@
 -- The table of a legal log counts its accepted updates.
-use Rattle.std.proofs.Common.{ℕ, ◌≡◌, ◌≢◌, ◌<◌, ◌≤◌, ◌+◌, ◌==◌, Bool, false, List, [], ◌∷◌, ◌++◌, length, if◌then◌else◌, ◌⊎◌, inl, inr, refl, sym, ap, subst, ◌∙◌, arith}
+use Rattle.std.proofs.Common.{ℕ, ◌≡◌, ◌≢◌, ◌<◌, ◌≤◌, ◌+◌, ◌==◌, Bool, false, List, [], ◌∷◌, ◌++◌, length, if◌then◌else◌}
+use Rattle.std.proofs.Common.{◌⊎◌, inl, inr, refl, sym, ap, subst, ◌∙◌, arith}
 use Rattle.std.specs.Prelude.{slice_index, slice_set}
 use Rattle.std.proofs.lemmas.Bool.{cases_eq, eq-eqb, ne_eqb}
 use Rattle.std.proofs.lemmas.List.{get_or-set_other, get_or-set_same, length-set}
@@ -48,7 +49,8 @@ module _ (k : ℕ) (some : 1 ≤ k) where
       many = length-set t.counts (partition_of t key) (count_of t key + 1) ∙ many;
       count = which (cases_eq home d) ∙ ap (λ (b : Bool). one_if (update_if b home d) + slice_index t.counts d) (sym well.0);
     } where
-      which : (home ≡ d) ⊎ (home ≢ d) → slice_index (slice_set t.counts (partition_of t key) (count_of t key + 1)) d ≡ one_if (home == d) + slice_index t.counts d
+      which : (home ≡ d) ⊎ (home ≢ d) → slice_index (slice_set t.counts (partition_of t key) (count_of t key + 1)) d
+          ≡ one_if (home == d) + slice_index t.counts d
       which (inl here) =
           let place : partition_of t key ≡ d = same-home ∙ here in
           ap (λ (i : ℕ). slice_index (slice_set t.counts i (slice_index t.counts i + 1)) d) place
@@ -58,10 +60,13 @@ module _ (k : ℕ) (some : 1 ≤ k) where
           get_or-set_other t.counts (partition_of t key) d (count_of t key + 1) 0 (λ same. apart (sym same-home ∙ sym same))
           ∙ (let none : one_if (home == d) ≡ 0 = ap one_if (ne_eqb home d apart) in omega (arith, none))
 
-  pub counted : (t : Contents) (es : List Entry) (d : ℕ) → IsLegalFrom t es → length t.counts ≡ k → d < k → slice_index (table_of t es).counts d ≡ updates_among k d es + slice_index t.counts d
+  pub counted : (t : Contents) (es : List Entry) (d : ℕ) → IsLegalFrom t es → length t.counts ≡ k → d < k
+      → slice_index (table_of t es).counts d ≡ updates_among k d es + slice_index t.counts d
   counted t [] d legal many below = let none : updates_among k d [] ≡ 0 = refl in omega (arith, none)
   counted t (e ∷ es) d legal many below =
-      let one : Counted t (table_after t e.op) e.op e.reply d = subst (λ (r : Reply). Counted t (table_after t e.op) e.op r d) (sym legal.0) (counted-one t e.op d many below) in
+      let one : Counted t (table_after t e.op) e.op e.reply d =
+      subst (λ (r : Reply). Counted t (table_after t e.op) e.op r d) (sym legal.0)
+      (counted-one t e.op d many below) in
       let rest = counted (table_after t e.op) es d legal.1 one.many below in
       let here = one.count in
       omega (arith, rest, here)

@@ -1,5 +1,7 @@
 -- Processes that are dead stand on nodes that failed, and all that stand there are dead.
-use Rattle.std.proofs.Common.{ℕ, zero, suc, ◌≡◌, ◌≢◌, ◌<◌, ◌≤◌, ◌+◌, ◌==◌, Bool, true, false, List, [], ◌∷◌, length, map, replicate, Option, Some, None, if◌then◌else◌, ◌⊎◌, inl, inr, refl, sym, ap, subst, ◌∙◌, arith}
+use Rattle.std.proofs.Common.{ℕ, zero, suc, ◌≡◌, ◌≢◌, ◌<◌, ◌≤◌, ◌+◌, ◌==◌, Bool, true, false, List, [], ◌∷◌, length}
+use Rattle.std.proofs.Common.{map, replicate, Option, Some, None, if◌then◌else◌, ◌⊎◌, inl, inr, refl, sym, ap, subst}
+use Rattle.std.proofs.Common.{◌∙◌, arith}
 use Rattle.std.specs.List.{range_with_len}
 use Rattle.std.proofs.lemmas.Bool.{cases_eq, eq-eqb, eqb-true, ne_eqb}
 use Rattle.group_types.specs.Dimensions.{Dimensions}
@@ -12,7 +14,9 @@ use Rattle.group_types.proofs.Names.{index-process_at}
 use Rattle.group_calls.specs.declared.event.Event.TheVariants.{Fail}
 use Rattle.group_run.specs.Process.{Node}
 use Rattle.group_run.specs.World.{World, all_change, node_failed, node_of, opening, opening_node, step, with_down, with_node}
-use Rattle.group_layout.specs.Cluster.{Cluster, Groups, IsFailure, IsLayout, MayAllHappen, MayHappen, Move, all_moved, cluster_after, cluster_step, failure_of, failures, move_unless, moved, moves_of, node_failure, opening_cluster, other_group, world_in}
+use Rattle.group_layout.specs.Cluster.{Cluster, Groups, IsFailure, IsLayout, MayAllHappen, MayHappen, Move, all_moved}
+use Rattle.group_layout.specs.Cluster.{cluster_after, cluster_step, failure_of, failures, move_unless, moved, moves_of}
+use Rattle.group_layout.specs.Cluster.{node_failure, opening_cluster, other_group, world_in}
 use Rattle.group_layout.specs.Layout as layout
 use Rattle.group_layout.specs.Layout.{first_on, process_on}
 use Rattle.group_layout.specs.declared.event.ClusterEvent.{ClusterEvent}
@@ -47,18 +51,22 @@ fail-own w p keep = by (node_of w p).dead refl where
   by : (dead : Bool) → (node_of w p).dead ≡ dead → (at (opening_node w.shape p) (all_change dead w.shape w.nodes p keep).nodes (index_of w.shape p)).dead ≡ true
   by true is = is
   by false is = told-same _ (opening_node w.shape p) cut (index_of w.shape p)
-      ∙ ap (λ (x : Node). x.dead) (at-put (opening_node w.shape p) (opening_node w.shape p) w.nodes (index_of w.shape p) (node_failed w.shape p keep (node_of w p)))
+      ∙ ap (λ (x : Node). x.dead) (at-put (opening_node w.shape p) (opening_node w.shape p) w.nodes (index_of w.shape p)
+      (node_failed w.shape p keep (node_of w p)))
 
 -- which process of a group stands on a node
 on-none : (n node j a m : ℕ) → first_on n node j (range_with_len a m) ≡ None → (x : ℕ) → a ≤ x → x < a + m → (layout.node_of n j x == node) ≡ false
 on-none n node j a zero none x from to = absurd (omega (arith, from, to))
 on-none n node j a (suc m) none x from to = by (layout.node_of n j a == node) refl (on-none n node j (a + 1) m) (cases_eq x a) where
-  by : (b : Bool) → (layout.node_of n j a == node) ≡ b → (first_on n node j (range_with_len (a + 1) m) ≡ None → (y : ℕ) → a + 1 ≤ y → y < a + 1 + m → (layout.node_of n j y == node) ≡ false)
+  by : (b : Bool) → (layout.node_of n j a == node) ≡ b
+      → (first_on n node j (range_with_len (a + 1) m) ≡ None → (y : ℕ) → a + 1 ≤ y → y < a + 1 + m
+      → (layout.node_of n j y == node) ≡ false)
       → (x ≡ a) ⊎ (x ≢ a) → (layout.node_of n j x == node) ≡ false
   by true word later which = absurd (cc (sym (ap (λ (b : Bool). if b then Some a else first_on n node j (range_with_len (a + 1) m)) word) ∙ none))
   by false word later (inl here) = ap (λ (y : ℕ). layout.node_of n j y == node) here ∙ word
   by false word later (inr apart) =
-      later (sym (ap (λ (b : Bool). if b then Some a else first_on n node j (range_with_len (a + 1) m)) word) ∙ none) x (omega (arith, from, apart)) (omega (arith, to))
+      later (sym (ap (λ (b : Bool). if b then Some a else first_on n node j (range_with_len (a + 1) m)) word) ∙ none) x
+      (omega (arith, from, apart)) (omega (arith, to))
 
 record Found (n node j a m q : ℕ) : Type 0 where
   pub there : (layout.node_of n j q == node) ≡ true
@@ -67,7 +75,9 @@ record Found (n node j a m q : ℕ) : Type 0 where
 on-some : (n node j a m q : ℕ) → first_on n node j (range_with_len a m) ≡ Some q → Found n node j a m q
 on-some n node j a zero q some = absurd (cc some)
 on-some n node j a (suc m) q some = by (layout.node_of n j a == node) refl (on-some n node j (a + 1) m q) where
-  by : (b : Bool) → (layout.node_of n j a == node) ≡ b → (first_on n node j (range_with_len (a + 1) m) ≡ Some q → Found n node j (a + 1) m q) → Found n node j a (suc m) q
+  by : (b : Bool) → (layout.node_of n j a == node) ≡ b
+      → (first_on n node j (range_with_len (a + 1) m) ≡ Some q → Found n node j (a + 1) m q)
+      → Found n node j a (suc m) q
   by true word later =
       let here : Some a ≡ Some q = sym (ap (λ (b : Bool). if b then Some a else first_on n node j (range_with_len (a + 1) m)) word) ∙ some in
       let same : a ≡ q = cc here in
@@ -127,9 +137,11 @@ module _ (s : Dimensions) (n count : ℕ) (is : IsLayout s n count) where
   abbrev fails_on : ℕ → ℕ → ℕ → List Move
   fails_on node keep j = failure_of s keep j (process_on n (s.k + s.m) node j)
 
-  here : (g : Groups) → Shaped g → (node keep j x : ℕ) → x < s.k + s.m → dead_in (all_moved g (fails_on node keep j)) j x ≡ or (layout.node_of n j x == node) (dead_in g j x)
+  here : (g : Groups) → Shaped g → (node keep j x : ℕ) → x < s.k + s.m → dead_in (all_moved g (fails_on node keep j)) j
+      x ≡ or (layout.node_of n j x == node) (dead_in g j x)
   here g shaped node keep j x below = by (process_on n (s.k + s.m) node j) refl where
-    by : (o : Option ℕ) → process_on n (s.k + s.m) node j ≡ o → dead_in (all_moved g (failure_of s keep j o)) j x ≡ or (layout.node_of n j x == node) (dead_in g j x)
+    by : (o : Option ℕ) → process_on n (s.k + s.m) node j ≡ o → dead_in (all_moved g (failure_of s keep j o)) j x
+        ≡ or (layout.node_of n j x == node) (dead_in g j x)
     by None none = sym (ap (λ (b : Bool). or b (dead_in g j x)) (on-none n node j 0 (s.k + s.m) none x (omega arith) (omega (arith, below))))
     by (Some q) some = which (cases_eq x q) where
       found : Found n node j 0 (s.k + s.m) q
@@ -182,7 +194,8 @@ module _ (s : Dimensions) (n count : ℕ) (is : IsLayout s n count) where
           → dead_in (all_moved first (all_on node keep (a + 1) m)) j x ≡ or (layout.node_of n j x == node) (dead_in g j x)
       by (inl same) later =
           ap (λ (w : World). (at start w.nodes x).dead) (behind first node keep (a + 1) m j (omega (arith, same)))
-          ∙ subst (λ (i : ℕ). dead_in (all_moved g (fails_on node keep i)) j x ≡ or (layout.node_of n j x == node) (dead_in g j x)) (sym same) (here g shaped node keep j x below)
+          ∙ subst (λ (i : ℕ). dead_in (all_moved g (fails_on node keep i)) j x ≡ or (layout.node_of n j x == node)
+          (dead_in g j x)) (sym same) (here g shaped node keep j x below)
       by (inr apart) later =
           later (omega (arith, from, apart))
           ∙ ap (λ (w : World). or (layout.node_of n j x == node) ((at start w.nodes x).dead)) (away g node keep a j apart)
@@ -226,7 +239,8 @@ module _ (s : Dimensions) (n count : ℕ) (is : IsLayout s n count) where
         ∙ ap (λ (l : ℕ). failures s n node keep (range_with_len 0 l)) matches.even.many
 
     by : (j x : ℕ) → j < count → x < s.k + s.m → (b : Bool) → at false c.failed node ≡ b
-        → dead_in (all_moved c.groups (if b then [] else node_failure c node keep)) j x ≡ or (layout.node_of n j x == node) (at false c.failed (layout.node_of n j x))
+        → dead_in (all_moved c.groups (if b then [] else node_failure c node keep)) j x
+        ≡ or (layout.node_of n j x == node) (at false c.failed (layout.node_of n j x))
     by j x low below false word =
         ap (λ (ms : List Move). dead_in (all_moved c.groups ms) j x) moves
         ∙ within c.groups matches.even.worlds node keep 0 count j x (omega arith) (omega (arith, low)) below
@@ -235,7 +249,9 @@ module _ (s : Dimensions) (n count : ℕ) (is : IsLayout s n count) where
       which : (layout.node_of n j x ≡ node) ⊎ (layout.node_of n j x ≢ node)
           → at false c.failed (layout.node_of n j x) ≡ or (layout.node_of n j x == node) (at false c.failed (layout.node_of n j x))
       which (inl same) =
-          ap (at false c.failed) same ∙ word ∙ sym (ap (λ (b : Bool). or b (at false c.failed (layout.node_of n j x))) (eq-eqb (layout.node_of n j x) node same))
+          ap (at false c.failed) same ∙ word
+          ∙ sym (ap (λ (b : Bool). or b (at false c.failed (layout.node_of n j x)))
+          (eq-eqb (layout.node_of n j x) node same))
       which (inr apart) = sym (ap (λ (b : Bool). or b (at false c.failed (layout.node_of n j x))) (ne_eqb (layout.node_of n j x) node apart))
 
   all-steps : (c : Cluster) (es : List ClusterEvent) → MayAllHappen c es → Matches c → Matches (cluster_after c es)
@@ -246,7 +262,8 @@ module _ (s : Dimensions) (n count : ℕ) (is : IsLayout s n count) where
   opens = record {
     even = even-start s count;
     nodes = long n;
-    dead = λ j x low below. ap (λ (w : World). (at start w.nodes x).dead) (at-replicate (opening s) count j) ∙ none-dead-at s start refl (range_with_len 0 (s.k + s.m)) x
+    dead = λ j x low below. ap (λ (w : World). (at start w.nodes x).dead) (at-replicate (opening s) count j)
+        ∙ none-dead-at s start refl (range_with_len 0 (s.k + s.m)) x
         ∙ sym (at-replicate false n (layout.node_of n j x));
   } where
     long : (l : ℕ) → length (replicate l false) ≡ l
@@ -273,7 +290,8 @@ failed-are c (FailNode other keep ∷ es) node =
       twice false = refl
     order false = refl
 
-    by : (node ≡ other) ⊎ (node ≢ other) → with (at false (put false c.failed other true) node) ≡ or (at false c.failed node) (or (other == node) (fails_in node es))
+    by : (node ≡ other) ⊎ (node ≢ other) → with (at false (put false c.failed other true) node)
+        ≡ or (at false c.failed node) (or (other == node) (fails_in node es))
     by (inl same) =
         ap with (ap (at false (put false c.failed other true)) same ∙ at-put false false c.failed other true) ∙ order true
         ∙ sym (ap (λ (b : Bool). or (at false c.failed node) (or b (fails_in node es))) (eq-eqb other node (sym same)))

@@ -1,5 +1,7 @@
 -- What lines of a script over eras write.
-use Rattle.std.proofs.Common.{ℕ, zero, suc, ◌≡◌, ◌+◌, ◌⊎◌, inl, inr, Bool, true, false, nat_lt, List, [], ◌∷◌, ◌++◌, codes, length, map, Option, Some, None, Result, Ok, Err, if◌then◌else◌, refl, sym, ap, subst, ◌∙◌, append_assoc}
+use Rattle.std.proofs.Common.{ℕ, zero, suc, ◌≡◌, ◌+◌, ◌⊎◌, inl, inr, Bool, true, false, nat_lt, List, [], ◌∷◌, ◌++◌}
+use Rattle.std.proofs.Common.{codes, length, map, Option, Some, None, Result, Ok, Err, if◌then◌else◌, refl, sym, ap}
+use Rattle.std.proofs.Common.{subst, ◌∙◌, append_assoc}
 use Rattle.std.proofs.lemmas.List.{append-nil}
 use Rattle.std.specs.Fmt.{decimal}
 use Rattle.std.specs.List.{range_with_len}
@@ -32,7 +34,9 @@ use Rattle.group_eras.specs.Eras.{EraEntry, Eras, carrier, era_step, eras_after,
 use Rattle.group_eras.specs.Promise.{Carries, Deed, Makes, all_done, done}
 use Rattle.group_eras.proofs.Promises.{logs_only_grow}
 use Rattle.regroup_run.specs.Meaning.{regroup_line}
-use Rattle.regroup_run.specs.Playing.{EraNext, EraPlay, by_call, by_carry, by_drain, by_event, by_regroup, by_trace, has_space, logged_since, look, next_by, next_of, refuses, regroup_by, regroups, shape_in, then_by}
+use Rattle.regroup_run.specs.Playing.{EraNext, EraPlay, by_call, by_carry, by_drain, by_event, by_regroup, by_trace}
+use Rattle.regroup_run.specs.Playing.{has_space, logged_since, look, next_by, next_of, refuses, regroup_by, regroups}
+use Rattle.regroup_run.specs.Playing.{shape_in, then_by}
 use Rattle.regroup_run.specs.Texts.{era_entries_text, era_entry_text, era_mark}
 use Rattle.regroup_run.proofs.Leading.{done-append}
 use Rattle.regroup_run.proofs.Running.{Opens, line-opens, never-ends}
@@ -66,11 +70,13 @@ entries-lines (e ∷ es) = ap (λ (t : List ℕ). era_entry_text e ++ 10 ∷ t) 
 -- a line that is said, and entries behind it or in front of it
 said-first : (line : List ℕ) (es : List EraEntry) → is_log_line line ≡ false → Tells era_entry_text (line ++ 10 ∷ era_entries_text es) es (line ∷ [])
 said-first line es other =
-    subst (λ (t : List ℕ). Tells era_entry_text (line ++ 10 ∷ t) es (line ∷ [])) (sym (entries-lines es)) (lines.said-first era_entry_text entry-marked line es other)
+    subst (λ (t : List ℕ). Tells era_entry_text (line ++ 10 ∷ t) es (line ∷ [])) (sym (entries-lines es))
+    (lines.said-first era_entry_text entry-marked line es other)
 
 said-last : (line : List ℕ) (es : List EraEntry) → is_log_line line ≡ false → Tells era_entry_text (era_entries_text es ++ (line ++ 10 ∷ [])) es (line ∷ [])
 said-last line es other =
-    subst (λ (t : List ℕ). Tells era_entry_text (t ++ (line ++ 10 ∷ [])) es (line ∷ [])) (sym (entries-lines es)) (lines.said-last era_entry_text entry-marked line es other)
+    subst (λ (t : List ℕ). Tells era_entry_text (t ++ (line ++ 10 ∷ [])) es (line ∷ [])) (sym (entries-lines es))
+    (lines.said-last era_entry_text entry-marked line es other)
 
 -- runs
 record Said (text : List ℕ) : Type 0 where
@@ -96,7 +102,8 @@ both-said t u first next = record {
 
 runs-said : (bases : List ℕ) (w : World) (ds : List ℕ) → Said (runs_text bases w ds)
 runs-said bases w [] = record { lines = []; others = tt; is = refl }
-runs-said bases w (d ∷ ds) = both-said (places_text d (at 0 bases d) (at [] w.places d)) (runs_text bases w ds) (places-said d (at 0 bases d) (at [] w.places d)) (runs-said bases w ds)
+runs-said bases w (d ∷ ds) = both-said (places_text d (at 0 bases d) (at [] w.places d)) (runs_text bases w ds)
+    (places-said d (at 0 bases d) (at [] w.places d)) (runs-said bases w ds)
 
 placed-said : (bases : List ℕ) (w : World) → Said (placed_text bases w)
 placed-said bases w =
@@ -197,8 +204,13 @@ drain-comes p line es reads =
         is_said = inr (inr (inl (record { drains = reads; many = refl })));
         logged = more.0;
         grows = more.1;
-        tells = subst (λ (n : ℕ). Tells era_entry_text (era_entries_text (logged_since p.eras.log (eras_after p.eras es).log) ++ (codes "drained " ++ (decimal (length es) ++ codes "\n"))) more.0 ((codes "drained " ++ decimal n) ∷ [])) long
-            (subst (λ (xs : List EraEntry). Tells era_entry_text (era_entries_text xs ++ (codes "drained " ++ (decimal (length es) ++ codes "\n"))) more.0 ((codes "drained " ++ decimal (length es)) ∷ []))
+        tells = subst
+            (λ (n : ℕ). Tells era_entry_text (era_entries_text (logged_since p.eras.log (eras_after p.eras es).log)
+            ++ (codes "drained " ++ (decimal (length es) ++ codes "\n"))) more.0 ((codes "drained " ++ decimal n) ∷ []))
+            long
+            (subst (λ (xs : List EraEntry). Tells era_entry_text
+            (era_entries_text xs ++ (codes "drained " ++ (decimal (length es) ++ codes "\n"))) more.0
+            ((codes "drained " ++ decimal (length es)) ∷ []))
             (sym (more-is p.eras.log (eras_after p.eras es).log more.0 grows))
             (subst (λ (t : List ℕ). Tells era_entry_text (era_entries_text more.0 ++ t) more.0 ((codes "drained " ++ decimal (length es)) ∷ []))
             (append_assoc (codes "drained ") (decimal (length es)) (codes "\n")) (said-last (codes "drained " ++ decimal (length es)) more.0 refl)));
@@ -222,7 +234,10 @@ carry-comes p line s =
         is_said = inr (inr (inr (record { shape = s; only = refl; many = refl })));
         logged = more.0;
         grows = more.1;
-        tells = subst (λ (xs : List EraEntry). Tells era_entry_text (codes "regrouped " ++ (decimal n ++ 10 ∷ era_entries_text xs)) more.0 ((codes "regrouped " ++ decimal n) ∷ []))
+        tells = subst
+            (λ (xs : List EraEntry). Tells era_entry_text
+            (codes "regrouped " ++ (decimal n ++ 10 ∷ era_entries_text xs)) more.0
+            ((codes "regrouped " ++ decimal n) ∷ []))
             (sym (more-is p.eras.log (carried p.eras s).log more.0 more.1))
             (subst (λ (t : List ℕ). Tells era_entry_text t more.0 ((codes "regrouped " ++ decimal n) ∷ []))
             (append_assoc (codes "regrouped ") (decimal n) (10 ∷ era_entries_text more.0)) (said-first (codes "regrouped " ++ decimal n) more.0 refl));
@@ -234,7 +249,10 @@ carry-comes p line s =
 
 regroup-comes : (p : EraPlay) (line : List ℕ) (s : Dimensions) → ComesTo p line (by_regroup p s)
 regroup-comes p line s = by (is_down p.eras.world) (is_some (next_delivery p.eras.world)) (has_space p.eras.world s) where
-  by : (down way space : Bool) → ComesTo p line (if down then refuses p (codes "down") else (if way then refuses p (codes "not_drained") else (if space then by_carry p s else refuses p (codes "no_space"))))
+  by : (down way space : Bool)
+      → ComesTo p line
+      (if down then refuses p (codes "down") else
+      (if way then refuses p (codes "not_drained") else (if space then by_carry p s else refuses p (codes "no_space"))))
   by true way space = idle p p line (codes "down" ++ 10 ∷ []) refl (one-line (codes "down") refl)
   by false true space = idle p p line (codes "not_drained" ++ 10 ∷ []) refl (one-line (codes "not_drained") refl)
   by false false true = carry-comes p line s
@@ -251,7 +269,8 @@ then-comes p line (Flush from) reads = event-comes p line (happens.Flush from)
 then-comes p line (Trace caller call partition from) reads = trace-comes p line caller call (happens.Trace caller call partition from)
 then-comes p line Drain reads = drain-comes p line (draining p.eras.world) reads
 then-comes p line (Show from run) reads =
-    idle p p line (look p.eras from (held p.eras.world from run) ++ 10 ∷ []) refl (one-line (look p.eras from (held p.eras.world from run)) (look-other p.eras from (held p.eras.world from run)))
+    idle p p line (look p.eras from (held p.eras.world from run) ++ 10 ∷ []) refl
+    (one-line (look p.eras from (held p.eras.world from run)) (look-other p.eras from (held p.eras.world from run)))
 then-comes p line Places reads = idle p p line (placed_text p.eras.bases p.eras.world) refl (placed-said p.eras.bases p.eras.world)
 then-comes p line (Time moment) reads = idle p (record { eras = p.eras; moment = moment }) line [] refl silent
 then-comes p line Stop reads = tt
@@ -266,7 +285,9 @@ regroup-line-comes p line (Ok s) = regroup-comes p line s
 
 comes : (p : EraPlay) (line : List ℕ) → ComesTo p line (next_of (Some p) line)
 comes p line = by (regroups line) where
-  by : (b : Bool) → ComesTo p line (if b then regroup_by p (regroup_line p.eras.world.shape.k (words_of line)) else next_by (Some p) (line_of (shape_in (Some p)) line))
+  by : (b : Bool)
+      → ComesTo p line (if b then regroup_by p (regroup_line p.eras.world.shape.k (words_of line)) else next_by (Some p)
+      (line_of (shape_in (Some p)) line))
   by true = regroup-line-comes p line (regroup_line p.eras.world.shape.k (words_of line))
   by false = read-comes p line (line_of (shape_in (Some p)) line) refl
 
@@ -318,28 +339,41 @@ record Begun (lines : List (List ℕ)) : Type 0 where
 begins : (n : ℕ) (lines : List (List ℕ)) → fault_in next_of BadLine n None lines ≡ None → Begun lines
 begins n [] ends = absurd (cc ends)
 begins n (line ∷ lines) ends = by (next_of None line) refl ends (begins (n + 1) lines) where
-  begun : (next : Option EraPlay) (deeds : List Deed) (text : List ℕ) → next_of None line ≡ Goes next deeds text → Opens next deeds text → fault_in next_of BadLine (n + 1) next lines ≡ None
+  begun : (next : Option EraPlay) (deeds : List Deed) (text : List ℕ) → next_of None line ≡ Goes next deeds text
+      → Opens next deeds text → fault_in next_of BadLine (n + 1) next lines ≡ None
       → (fault_in next_of BadLine (n + 1) None lines ≡ None → Begun lines) → Begun (line ∷ lines)
   begun next deeds text is opens rest later = either opens.is where
     deeds_are : (q : Option EraPlay) → next ≡ q → turns_in next_of None (line ∷ lines) ≡ turns_in next_of q lines
-    deeds_are q same = ap (λ (x : EraNext). turns_after next_of x lines) is ∙ ap (λ (ts : List Deed). ts ++ turns_in next_of next lines) opens.quiet ∙ ap (λ (x : Option EraPlay). turns_in next_of x lines) same
+    deeds_are q same = ap (λ (x : EraNext). turns_after next_of x lines) is
+        ∙ ap (λ (ts : List Deed). ts ++ turns_in next_of next lines) opens.quiet
+        ∙ ap (λ (x : Option EraPlay). turns_in next_of x lines) same
 
     text_is : (q : Option EraPlay) → next ≡ q → text_in next_of None (line ∷ lines) ≡ text_in next_of q lines
-    text_is q same = ap (λ (x : EraNext). text_after next_of x lines) is ∙ ap (λ (t : List ℕ). t ++ text_in next_of next lines) opens.silent ∙ ap (λ (x : Option EraPlay). text_in next_of x lines) same
+    text_is q same = ap (λ (x : EraNext). text_after next_of x lines) is
+        ∙ ap (λ (t : List ℕ). t ++ text_in next_of next lines) opens.silent
+        ∙ ap (λ (x : Option EraPlay). text_in next_of x lines) same
 
     shape_is : (q : Option EraPlay) → next ≡ q → shape_in (named_in next_of None (line ∷ lines)) ≡ shape_in (named_in next_of q lines)
     shape_is q same = ap shape_in (named-line next_of line lines (Goes next deeds text) is ∙ ap (λ (x : Option EraPlay). named_in next_of x lines) same)
 
-    into : (s : Dimensions) (said : List (List ℕ)) (q : Option EraPlay) → next ≡ q → Tells era_entry_text (text_in next_of q lines) (all_done (first_era (opening s)) (turns_in next_of q lines)).log said
+    into : (s : Dimensions) (said : List (List ℕ)) (q : Option EraPlay) → next ≡ q
+        → Tells era_entry_text (text_in next_of q lines)
+        (all_done (first_era (opening s)) (turns_in next_of q lines)).log said
         → Tells era_entry_text (text_in next_of None (line ∷ lines)) (all_done (first_era (opening s)) (turns_in next_of None (line ∷ lines))).log said
     into s said q same tells =
         subst (λ (t : List ℕ). Tells era_entry_text t (all_done (first_era (opening s)) (turns_in next_of None (line ∷ lines))).log said) (sym (text_is q same))
-        (subst (λ (ds : List Deed). Tells era_entry_text (text_in next_of q lines) (all_done (first_era (opening s)) ds).log said) (sym (deeds_are q same)) tells)
+        (subst (λ (ds : List Deed). Tells era_entry_text (text_in next_of q lines)
+        (all_done (first_era (opening s)) ds).log said) (sym (deeds_are q same)) tells)
 
     either : (next ≡ None) ⊎ ((s : Dimensions) × IsShape s × (next ≡ Some (record { eras = first_era (opening s); moment = 0 }))) → Begun (line ∷ lines)
     either (inl nothing) =
         let behind = later (subst (λ (q : Option EraPlay). fault_in next_of BadLine (n + 1) q lines ≡ None) nothing rest) in
-        record { shape = behind.shape; named = shape_is None nothing ∙ behind.named; said = behind.said; tells = into behind.shape behind.said None nothing behind.tells }
+        record {
+          shape = behind.shape;
+          named = shape_is None nothing ∙ behind.named;
+          said = behind.said;
+          tells = into behind.shape behind.said None nothing behind.tells;
+        }
     either (inr (s, limits, some)) =
         let p : EraPlay = record { eras = first_era (opening s); moment = 0 } in
         let all = whole p lines in
@@ -347,13 +381,18 @@ begins n (line ∷ lines) ends = by (next_of None line) refl ends (begins (n + 1
           shape = s;
           named = shape_is (Some p) some;
           said = all.said;
-          tells = into s all.said (Some p) some (subst (λ (log : List EraEntry). Tells era_entry_text (text_in next_of (Some p) lines) log all.said) (sym all.grows) all.tells);
+          tells = into s all.said (Some p) some
+              (subst (λ (log : List EraEntry). Tells era_entry_text (text_in next_of (Some p) lines) log all.said)
+              (sym all.grows) all.tells);
         }
 
-  by : (next : EraNext) → next_of None line ≡ next → fault_in next_of BadLine n None (line ∷ lines) ≡ None → (fault_in next_of BadLine (n + 1) None lines ≡ None → Begun lines) → Begun (line ∷ lines)
+  by : (next : EraNext) → next_of None line ≡ next → fault_in next_of BadLine n None (line ∷ lines) ≡ None
+      → (fault_in next_of BadLine (n + 1) None lines ≡ None → Begun lines) → Begun (line ∷ lines)
   by Ends is ends later = absurd (never-ends line is)
   by (Refused fault) is ends later = absurd (cc (sym (ap (λ (x : EraNext). fault_after next_of BadLine n x lines) is) ∙ ends))
-  by (Goes next deeds text) is ends later = begun next deeds text is (line-opens line next deeds text is) (sym (ap (λ (x : EraNext). fault_after next_of BadLine n x lines) is) ∙ ends) later
+  by (Goes next deeds text) is ends later = begun next deeds text is (line-opens line next deeds text is)
+      (sym (ap (λ (x : EraNext). fault_after next_of BadLine n x lines) is) ∙ ends) later
 
 pub era_transcripts_tell : EraTranscriptsTell
-era_transcripts_tell text ends = let begun = begins 1 (lines_of text) ends in record { shape = begun.shape; named = begun.named; said = begun.said; tells = begun.tells }
+era_transcripts_tell text ends = let begun = begins 1 (lines_of text) ends in
+    record { shape = begun.shape; named = begun.named; said = begun.said; tells = begun.tells }

@@ -29,7 +29,8 @@ use Rattle.law_told.specs.Eras.{PendingsGoOn, StampsGoOn}
 use Rattle.law_told.proofs.Bases.{base-is}
 
 -- the update that an ask waits for is of a partition of the group
-waits-below : (w after : World) (p : ProcessId) (op : Asked) (d : Partition) (n : ℕ) → 1 ≤ w.shape.k → AskCause w after p op (says.Retry (cause.Pending d n)) → d.0 < w.shape.k
+waits-below : (w after : World) (p : ProcessId) (op : Asked) (d : Partition) (n : ℕ) → 1 ≤ w.shape.k
+    → AskCause w after p op (says.Retry (cause.Pending d n)) → d.0 < w.shape.k
 waits-below w after p op d n some causes = by causes.2 where
   below : home_of (key_of op.act) w.shape.k < w.shape.k
   below = home-below (key_of op.act) w.shape.k some
@@ -51,7 +52,8 @@ pendings_go_on e caller op p d n led may is =
     came = op_in e.bases e.world.shape.k op
 
     causes : AskCause e.world (step e.world (Ask caller came p)).world p came (turn_in e (Ask caller op p)).answer
-    causes = subst (λ (v : World). MayCome v (Ask caller came p) → AskCause v (step v (Ask caller came p)).world p came (step v (Ask caller came p)).turn.answer) (sym stands.era.stands)
+    causes = subst (λ (v : World). MayCome v (Ask caller came p) → AskCause v (step v (Ask caller came p)).world p came
+        (step v (Ask caller came p)).turn.answer) (sym stands.era.stands)
         (asks_always e.world.shape stands.era.events stands.era.run caller came p) (may-in e.bases e.world.shape.k e.world (Ask caller op p) may.may)
 
     below : d.0 < e.world.shape.k
@@ -62,7 +64,8 @@ pendings_go_on e caller op p d n led may is =
 told-at : (bases : Bases) (d : ℕ) (ns : List ℕ) (i : ℕ) → i < length ns → at 0 (told_stamp bases d ns) i ≡ with_base bases (d + i) (at 0 ns i)
 told-at bases d [] i low = absurd (omega (arith, low))
 told-at bases d (n ∷ ns) zero low = ap (λ (j : ℕ). with_base bases j n) (let same : d ≡ d + 0 = omega arith in same)
-told-at bases d (n ∷ ns) (suc i) low = told-at bases (suc d) ns i (omega (arith, low)) ∙ ap (λ (j : ℕ). with_base bases j (at 0 ns i)) (let same : suc d + i ≡ d + suc i = omega arith in same)
+told-at bases d (n ∷ ns) (suc i) low = told-at bases (suc d) ns i (omega (arith, low))
+    ∙ ap (λ (j : ℕ). with_base bases j (at 0 ns i)) (let same : suc d + i ≡ d + suc i = omega arith in same)
 
 long-range : (a n : ℕ) → length (range_with_len a n) ≡ n
 long-range a zero = refl

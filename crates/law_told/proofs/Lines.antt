@@ -18,7 +18,8 @@ text-append (x ∷ xs) ys = ap (λ (t : List ℕ). x ++ 10 ∷ t) (text-append x
 filter-append : {X : Type 0} (p : X → Bool) (xs ys : List X) → filter p (xs ++ ys) ≡ filter p xs ++ filter p ys
 filter-append p [] ys = refl
 filter-append p (x ∷ xs) ys = by (p x) (filter-append p xs ys) where
-  by : (b : Bool) → filter p (xs ++ ys) ≡ filter p xs ++ filter p ys → cond b (x ∷ filter p (xs ++ ys)) (filter p (xs ++ ys)) ≡ cond b (x ∷ filter p xs) (filter p xs) ++ filter p ys
+  by : (b : Bool) → filter p (xs ++ ys) ≡ filter p xs ++ filter p ys
+      → cond b (x ∷ filter p (xs ++ ys)) (filter p (xs ++ ys)) ≡ cond b (x ∷ filter p xs) (filter p xs) ++ filter p ys
   by true rest = ap (λ (zs : List _). x ∷ zs) rest
   by false rest = rest
 
@@ -42,7 +43,8 @@ others-log (line ∷ lines) all = ap (λ (b : Bool). cond b (line ∷ filter is_
 others-kept : (lines : List (List ℕ)) → AreOthers lines → filter is_other lines ≡ lines
 others-kept [] all = refl
 others-kept (line ∷ lines) all =
-    ap (λ (b : Bool). cond (not b) (line ∷ filter is_other lines) (filter is_other lines)) all.0 ∙ ap (λ (ls : List (List ℕ)). line ∷ ls) (others-kept lines all.1)
+    ap (λ (b : Bool). cond (not b) (line ∷ filter is_other lines) (filter is_other lines)) all.0
+    ∙ ap (λ (ls : List (List ℕ)). line ∷ ls) (others-kept lines all.1)
 
 -- an answer is on no line of a log
 pub answer-other : (a : Answer) → is_log_line (answer_text a) ≡ false
@@ -68,7 +70,8 @@ module _ {E : Type 0} (entry_text : E → List ℕ) where
   tells-none = record { lines = []; written = refl; log = refl; others = refl }
 
   -- one text behind another
-  pub tells-append : (t u : List ℕ) (es fs : List E) (said more : List (List ℕ)) → Tells entry_text t es said → Tells entry_text u fs more → Tells entry_text (t ++ u) (es ++ fs) (said ++ more)
+  pub tells-append : (t u : List ℕ) (es fs : List E) (said more : List (List ℕ)) → Tells entry_text t es said
+      → Tells entry_text u fs more → Tells entry_text (t ++ u) (es ++ fs) (said ++ more)
   tells-append t u es fs said more first then = record {
     lines = first.lines ++ then.lines;
     written = ap₂ (λ (a b : List ℕ). a ++ b) first.written then.written ∙ sym (text-append first.lines then.lines);
@@ -87,7 +90,8 @@ module _ {E : Type 0} (entry_text : E → List ℕ) where
     tells-entries (e ∷ es) = let rest = tells-entries es in record {
       lines = entry_text e ∷ rest.lines;
       written = ap (λ (t : List ℕ). entry_text e ++ 10 ∷ t) rest.written;
-      log = ap (λ (b : Bool). cond b (entry_text e ∷ filter is_log_line rest.lines) (filter is_log_line rest.lines)) (marked e) ∙ ap (λ (ls : List (List ℕ)). entry_text e ∷ ls) rest.log;
+      log = ap (λ (b : Bool). cond b (entry_text e ∷ filter is_log_line rest.lines) (filter is_log_line rest.lines))
+          (marked e) ∙ ap (λ (ls : List (List ℕ)). entry_text e ∷ ls) rest.log;
       others = ap (λ (b : Bool). cond (not b) (entry_text e ∷ filter is_other rest.lines) (filter is_other rest.lines)) (marked e) ∙ rest.others;
     }
 
@@ -97,7 +101,8 @@ module _ {E : Type 0} (entry_text : E → List ℕ) where
         subst (λ (t : List ℕ). Tells entry_text t es (line ∷ [])) (append_assoc line (10 ∷ []) (text_of (map entry_text es)))
         (tells-append (line ++ 10 ∷ []) (text_of (map entry_text es)) [] es (line ∷ []) [] (tells-said (line ∷ []) (other, tt)) (tells-entries es))
 
-    pub said-last : (line : List ℕ) (es : List E) → is_log_line line ≡ false → Tells entry_text (text_of (map entry_text es) ++ (line ++ 10 ∷ [])) es (line ∷ [])
+    pub said-last : (line : List ℕ) (es : List E) → is_log_line line ≡ false
+        → Tells entry_text (text_of (map entry_text es) ++ (line ++ 10 ∷ [])) es (line ∷ [])
     said-last line es other =
         subst (λ (xs : List E). Tells entry_text (text_of (map entry_text es) ++ (line ++ 10 ∷ [])) xs (line ∷ [])) (append-nil es)
         (tells-append (text_of (map entry_text es)) (line ++ 10 ∷ []) es [] [] (line ∷ []) (tells-entries es) (tells-said (line ∷ []) (other, tt)))

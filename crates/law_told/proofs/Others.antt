@@ -35,7 +35,9 @@ module _ (c : Cluster) (j : ℕ) (caller : ℕ) (op : Asked) (p : ProcessId) (i 
   asks : NamesAnother c (InGroup j (Ask caller op p)) i
   asks = record {
     named = λ another. ap (λ (o : Option ℕ). inner_unless o turn) (other (λ is. another.1 (sym another.0 ∙ is))) ∙ ap WrongGroup another.0;
-    stays = λ another. ap (λ (o : Option ℕ). record { failed = c.failed; groups = all_moved c.groups (move_unless o move) }) (other (λ is. another.1 (sym another.0 ∙ is)));
+    stays = λ another.
+        ap (λ (o : Option ℕ). record { failed = c.failed; groups = all_moved c.groups (move_unless o move) })
+        (other (λ is. another.1 (sym another.0 ∙ is)));
     only = λ is. by is (cases_eq own j);
   } where
     by : inner_unless (unless_own j own) turn ≡ WrongGroup i → (own ≡ j) ⊎ (own ≢ j) → (own ≡ i) × (i ≢ j)
@@ -47,9 +49,11 @@ module _ (c : Cluster) (j : ℕ) (caller : ℕ) (op : Asked) (p : ProcessId) (i 
 
 pub other_groups_are_named : OtherGroupsAreNamed
 other_groups_are_named c (InGroup j (Ask caller op p)) i = asks c j caller op p i
-other_groups_are_named c (InGroup j (Collect caller call p)) i = record { named = λ another. absurd another; stays = λ another. absurd another; only = λ is. cc is }
+other_groups_are_named c (InGroup j (Collect caller call p)) i =
+    record { named = λ another. absurd another; stays = λ another. absurd another; only = λ is. cc is }
 other_groups_are_named c (InGroup j (Deliver from to)) i = record { named = λ another. absurd another; stays = λ another. absurd another; only = λ is. cc is }
 other_groups_are_named c (InGroup j (Fail p keep)) i = record { named = λ another. absurd another; stays = λ another. absurd another; only = λ is. cc is }
 other_groups_are_named c (InGroup j (Flush p)) i = record { named = λ another. absurd another; stays = λ another. absurd another; only = λ is. cc is }
-other_groups_are_named c (InGroup j (Trace caller call d p)) i = record { named = λ another. absurd another; stays = λ another. absurd another; only = λ is. cc is }
+other_groups_are_named c (InGroup j (Trace caller call d p)) i =
+    record { named = λ another. absurd another; stays = λ another. absurd another; only = λ is. cc is }
 other_groups_are_named c (FailNode node keep) i = record { named = λ another. absurd another; stays = λ another. absurd another; only = λ is. of-node _ i is }

@@ -1,5 +1,6 @@
 -- What a line `regroup` tells that names a shape.
-use Rattle.std.proofs.Common.{ℕ, zero, suc, ◌≡◌, ◌≤◌, ◌<◌, ◌+◌, Bool, true, false, ◌&&◌, nat_le, List, [], ◌∷◌, ◌++◌, codes, Option, Some, None, if◌then◌else◌, refl, sym, ap, ◌∙◌, arith}
+use Rattle.std.proofs.Common.{ℕ, zero, suc, ◌≡◌, ◌≤◌, ◌<◌, ◌+◌, Bool, true, false, ◌&&◌, nat_le, List, [], ◌∷◌, ◌++◌}
+use Rattle.std.proofs.Common.{codes, Option, Some, None, if◌then◌else◌, refl, sym, ap, ◌∙◌, arith}
 use Rattle.std.proofs.lemmas.Bool.Decides.{nat_tests}
 use Rattle.std.specs.List.{list_all, range_with_len}
 use Rattle.std.specs.Option.{is_some}
@@ -45,7 +46,8 @@ at-most : (a b : ℕ) → a ≤ b → nat_le a b ≡ true
 at-most a b fits = grind (arith, nat_tests)
 
 has-space : (w : World) (s : Dimensions) → CanCarry w s → has_space w s ≡ true
-has-space w s can = all-pass (λ d. nat_le (bytes_in w d) (space_of s)) 0 w.shape.k (λ d low high. at-most (bytes_in w d) (space_of s) (can.space d (omega (arith, high))))
+has-space w s can = all-pass (λ d. nat_le (bytes_in w d) (space_of s)) 0 w.shape.k
+    (λ d low high. at-most (bytes_in w d) (space_of s) (can.space d (omega (arith, high))))
 
 module _ (p : EraPlay) (s : Dimensions) (led : IsLed p.eras) (next : Option EraPlay) (deeds : List Deed) (text : List ℕ) where
   -- nothing is carried
@@ -53,7 +55,9 @@ module _ (p : EraPlay) (s : Dimensions) (led : IsLed p.eras) (next : Option EraP
   refusal reason is = let all = parts (Some p) next [] deeds (reason ++ 10 ∷ []) text is in record { nothing = all.1; written = all.2 }
 
   tells : (down waits space : Bool) → is_down p.eras.world ≡ down → is_some (next_delivery p.eras.world) ≡ waits → has_space p.eras.world s ≡ space
-      → (if down then refuses p (codes "down") else (if waits then refuses p (codes "not_drained") else (if space then by_carry p s else refuses p (codes "no_space")))) ≡ Goes next deeds text
+      → (if down then refuses p (codes "down") else
+      (if waits then refuses p (codes "not_drained") else
+      (if space then by_carry p s else refuses p (codes "no_space")))) ≡ Goes next deeds text
       → RegroupTells p s deeds text
   tells true waits space isdown iswaits isspace is = record {
     down = λ why. refusal (codes "down") is;
@@ -81,8 +85,10 @@ module _ (p : EraPlay) (s : Dimensions) (led : IsLed p.eras) (next : Option EraP
   }
 
 pub regroups_tell : RegroupsTell
-regroups_tell p line s next deeds text led names is = tells p s led next deeds text (is_down p.eras.world) (is_some (next_delivery p.eras.world)) (has_space p.eras.world s) refl refl refl goes where
-  goes : by_regroup p s ≡ Goes next deeds text
-  goes = ap (regroup_by p) (sym names.shape)
-      ∙ sym (ap (λ (b : Bool). if b then regroup_by p (regroup_line p.eras.world.shape.k (words_of line)) else next_by (Some p) (line_of (shape_in (Some p)) line)) names.word)
-      ∙ is
+regroups_tell p line s next deeds text led names is = tells p s led next deeds text (is_down p.eras.world)
+    (is_some (next_delivery p.eras.world)) (has_space p.eras.world s) refl refl refl goes where
+      goes : by_regroup p s ≡ Goes next deeds text
+      goes = ap (regroup_by p) (sym names.shape)
+          ∙ sym (ap (λ (b : Bool). if b then regroup_by p (regroup_line p.eras.world.shape.k (words_of line)) else next_by
+          (Some p) (line_of (shape_in (Some p)) line)) names.word)
+          ∙ is

@@ -1,5 +1,7 @@
 -- How a text is cut at the line `====`, and the numbers of a text that is verified.
-use Rattle.std.proofs.Common.{ℕ, zero, suc, ◌≡◌, ◌≢◌, ◌<◌, ◌+◌, ◌==◌, inl, inr, Bool, true, false, cond, List, [], ◌∷◌, ◌++◌, codes, drop, length, All, Option, Some, None, Result, Ok, Err, if◌then◌else◌, refl, sym, ap, ap₂, subst, ◌∙◌, append_assoc, arith}
+use Rattle.std.proofs.Common.{ℕ, zero, suc, ◌≡◌, ◌≢◌, ◌<◌, ◌+◌, ◌==◌, inl, inr, Bool, true, false, cond, List, [], ◌∷◌}
+use Rattle.std.proofs.Common.{◌++◌, codes, drop, length, All, Option, Some, None, Result, Ok, Err, if◌then◌else◌, refl}
+use Rattle.std.proofs.Common.{sym, ap, ap₂, subst, ◌∙◌, append_assoc, arith}
 use Rattle.std.proofs.lemmas.Bool.Decides.{nat_tests}
 use Rattle.std.proofs.lemmas.Slice.Eq.{bytes_eq-Decides}
 use Rattle.std.proofs.lemmas.List.Splits.{length-slice_split, slice_split_at}
@@ -16,7 +18,8 @@ use Rattle.scenario_text.specs.Texts.{answer_text, place_text}
 use Rattle.scenario_text.specs.declared.line.LineFault.{LineFault}
 use Rattle.scenario_run.specs.Course.{Fault}
 use Rattle.scenario_run.specs.Lines.{lines_of, without_empty_last}
-use Rattle.run_verify.specs.Passing.{Account, Due, PassAll, Passes, PassesBy, PassesEntry, PassesPlace, PassesStep, State, after_event, begins_entry, dues_from, first_state, is_taken}
+use Rattle.run_verify.specs.Passing.{Account, Due, PassAll, Passes, PassesBy, PassesEntry, PassesPlace, PassesStep}
+use Rattle.run_verify.specs.Passing.{State, after_event, begins_entry, dues_from, first_state, is_taken}
 use Rattle.run_verify.specs.Sheet.{Sheet, before_separator, behind_separator, joined, separator, sheet_in}
 use Rattle.run_verify.specs.Steps.{Script, script_in}
 use Rattle.run_verify.specs.Told.{drained_line, placed_line}
@@ -83,7 +86,8 @@ cut (line ∷ lines) transcript each =
     = ap lines_of (append_assoc line (10 ∷ text_of lines) (codes "====\n" ++ transcript)) ∙ first-line line more each.0.whole in
     let other = other-line line each.0.other in
     record {
-      before = ap before_separator whole ∙ ap (λ (b : Bool). if b then [] else line ∷ before_separator (lines_of more)) other ∙ ap (λ (ls : List (List ℕ)). line ∷ ls) rest.before;
+      before = ap before_separator whole ∙ ap (λ (b : Bool). if b then [] else line ∷ before_separator (lines_of more))
+          other ∙ ap (λ (ls : List (List ℕ)). line ∷ ls) rest.before;
       behind = ap behind_separator whole ∙ ap (λ (b : Bool). if b then Some (lines_of more) else behind_separator (lines_of more)) other ∙ rest.behind;
       alone = first-line line (text_of lines) each.0.whole ∙ ap (λ (ls : List (List ℕ)). line ∷ ls) rest.alone;
     }
@@ -96,10 +100,14 @@ pub sheets_are_cut : SheetsAreCut
 sheets_are_cut script transcript is =
     let both : List (List ℕ) = lines_of (text_of is.lines ++ (codes "====\n" ++ transcript)) in
     let cuts = cut is.lines transcript is.each in
-    let reads : script_in 1 None (before_separator both) ≡ script_in 1 None (lines_of (text_of is.lines)) = ap (script_in 1 None) (cuts.before ∙ sym cuts.alone) in
+    let reads : script_in 1 None (before_separator both) ≡ script_in 1 None (lines_of (text_of is.lines)) =
+    ap (script_in 1 None) (cuts.before ∙ sym cuts.alone) in
     let read : Result Script (Fault LineFault) = script_in 1 None (lines_of (text_of is.lines)) in
-    subst (λ (text : List ℕ). IsCutInto (script_in 1 None (lines_of text)) transcript (sheet_in (lines_of (text ++ (codes "====\n" ++ transcript))))) (sym is.is)
-    (subst (IsCutInto read transcript) (sym (ap₂ (λ (r : Result Script (Fault LineFault)) (o : Option (List (List ℕ))). joined (length both + 1) r o) reads cuts.behind))
+    subst (λ (text : List ℕ). IsCutInto (script_in 1 None (lines_of text)) transcript
+    (sheet_in (lines_of (text ++ (codes "====\n" ++ transcript))))) (sym is.is)
+    (subst (IsCutInto read transcript)
+    (sym (ap₂ (λ (r : Result Script (Fault LineFault)) (o : Option (List (List ℕ))). joined (length both + 1) r o)
+    reads cuts.behind))
     (into (length both + 1) read transcript))
 
 -- ---- the numbers
@@ -139,20 +147,23 @@ plus-none n m false fails is = let same : m ≡ 0 + n = omega (arith, is) in sam
 -- a line of the log shows no bytes
 log-silent : (line : List ℕ) → begins_entry line ≡ true → is_shown_line line ≡ false
 log-silent [] is = refl
-log-silent (b ∷ bs) is = let test : (115 == b) ≡ false = grind (arith, nat_tests, is) in ap (λ (t : Bool). if t then begins_with (codes "hown ") bs else false) test
+log-silent (b ∷ bs) is = let test : (115 == b) ≡ false = grind (arith, nat_tests, is) in
+    ap (λ (t : Bool). if t then begins_with (codes "hown ") bs else false) test
 
 same-mark : (line : List ℕ) → is_log_line line ≡ begins_entry line
 same-mark [] = refl
 same-mark (b ∷ bs) = refl
 
-entry-adds : (sheet : Sheet) (s : State) (line : List ℕ) (next : State) → begins_entry line ≡ true → PassesEntry sheet s line next → Adds line s.account next.account
+entry-adds : (sheet : Sheet) (s : State) (line : List ℕ) (next : State) → begins_entry line ≡ true
+    → PassesEntry sheet s line next → Adds line s.account next.account
 entry-adds sheet s line next log (may, e, run, tells, told, is) = record {
   entries = plus-one s.account.entries next.account.entries (is_log_line line) (same-mark line ∙ log) (ap (λ (t : State). t.account.entries) is);
   shown = plus-none s.account.shown next.account.shown (is_shown_line line) (log-silent line log) (ap (λ (t : State). t.account.shown) is);
 }
 
 -- no entry is counted, nor any line that shows bytes
-none : (line text : List ℕ) (a b : Account) → begins_entry line ≡ false → line ≡ text → is_shown_line text ≡ false → b.entries ≡ a.entries → b.shown ≡ a.shown → Adds line a b
+none : (line text : List ℕ) (a b : Account) → begins_entry line ≡ false → line ≡ text → is_shown_line text ≡ false
+    → b.entries ≡ a.entries → b.shown ≡ a.shown → Adds line a b
 none line text a b plain is silent entries shown = record {
   entries = plus-none a.entries b.entries (is_log_line line) (same-mark line ∙ plain) entries;
   shown = plus-none a.shown b.shown (is_shown_line line) (ap is_shown_line is ∙ silent) shown;
@@ -176,17 +187,21 @@ shown-stays a (happens.Fail p keep) taken = refl
 shown-stays a (happens.Flush p) taken = refl
 
 -- lines of the places
-place-adds : (sheet : Sheet) (a : Account) (steps : List Step) (dues : List Due) (line : List ℕ) (next : State) → begins_entry line ≡ false → PassesPlace sheet a steps dues line next → Adds line a next.account
+place-adds : (sheet : Sheet) (a : Account) (steps : List Step) (dues : List Due) (line : List ℕ) (next : State)
+    → begins_entry line ≡ false → PassesPlace sheet a steps dues line next → Adds line a next.account
 place-adds sheet a steps [] line next plain (text, is) =
     none line (placed_line a.placed) a next.account plain text refl (ap (λ (t : State). t.account.entries) is) (ap (λ (t : State). t.account.shown) is)
 place-adds sheet a steps (due ∷ dues) line next plain (tells, is) =
-    none line (place_text due.partition due.number tells.run) a next.account plain tells.text refl (ap (λ (t : State). t.account.entries) is) (ap (λ (t : State). t.account.shown) is)
+    none line (place_text due.partition due.number tells.run) a next.account plain tells.text refl
+    (ap (λ (t : State). t.account.entries) is) (ap (λ (t : State). t.account.shown) is)
 
-step-adds : (sheet : Sheet) (a : Account) (steps : List Step) (line : List ℕ) (ahead : List (List ℕ)) (next : State) → begins_entry line ≡ false → PassesStep sheet a steps line ahead next → Adds line a next.account
+step-adds : (sheet : Sheet) (a : Account) (steps : List Step) (line : List ℕ) (ahead : List (List ℕ)) (next : State)
+    → begins_entry line ≡ false → PassesStep sheet a steps line ahead next → Adds line a next.account
 step-adds sheet a [] line ahead next plain passes = absurd passes
 step-adds sheet a (Make event ∷ steps) line ahead next plain (answer, answers, is) =
     none line (answer_text answer) a next.account plain answers.text (answer-silent answer)
-    (ap (λ (t : State). t.account.entries) is ∙ entries-stay a event (is_taken answer)) (ap (λ (t : State). t.account.shown) is ∙ shown-stays a event (is_taken answer))
+    (ap (λ (t : State). t.account.entries) is ∙ entries-stay a event (is_taken answer))
+    (ap (λ (t : State). t.account.shown) is ∙ shown-stays a event (is_taken answer))
 step-adds sheet a (Deliveries ∷ steps) line ahead next plain (n, low, text, is) =
     none line (drained_line n) a next.account plain text refl (ap (λ (t : State). t.account.entries) is) (ap (λ (t : State). t.account.shown) is)
 step-adds sheet a (Look p run ∷ steps) line ahead next plain (inl (tells, is)) = record {
@@ -197,9 +212,11 @@ step-adds sheet a (Look p run ∷ steps) line ahead next plain (inr (inl text, i
     none line (codes "lost") a next.account plain text refl (ap (λ (t : State). t.account.entries) is) (ap (λ (t : State). t.account.shown) is)
 step-adds sheet a (Look p run ∷ steps) line ahead next plain (inr (inr text, is)) =
     none line (codes "down") a next.account plain text refl (ap (λ (t : State). t.account.entries) is) (ap (λ (t : State). t.account.shown) is)
-step-adds sheet a (Placing ∷ steps) line ahead next plain passes = place-adds sheet a steps (drop a.placed (dues_from a 0 sheet.script.shape.k)) line next plain passes
+step-adds sheet a (Placing ∷ steps) line ahead next plain passes =
+    place-adds sheet a steps (drop a.placed (dues_from a 0 sheet.script.shape.k)) line next plain passes
 
-line-adds : (sheet : Sheet) (s : State) (line : List ℕ) (ahead : List (List ℕ)) (next : State) → Passes sheet s line ahead next → Adds line s.account next.account
+line-adds : (sheet : Sheet) (s : State) (line : List ℕ) (ahead : List (List ℕ)) (next : State)
+    → Passes sheet s line ahead next → Adds line s.account next.account
 line-adds sheet s line ahead next passes = by (begins_entry line) refl passes where
   by : (b : Bool) → begins_entry line ≡ b → PassesBy b sheet s line ahead next → Adds line s.account next.account
   by true log entry = entry-adds sheet s line next log entry

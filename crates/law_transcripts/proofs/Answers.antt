@@ -59,7 +59,8 @@ store w after p op says.Gone cause = absurd cause.2
 store w after p op (says.Stale x) cause = absurd cause.2
 
 -- a get
-get : (w after : World) (p : ProcessId) (moment : ℕ) (key : List ℕ) (a : Answer) → AskCause w after p (record { moment = moment; act = Get key }) a → MayAnswer kind.Read a
+get : (w after : World) (p : ProcessId) (moment : ℕ) (key : List ℕ) (a : Answer)
+    → AskCause w after p (record { moment = moment; act = Get key }) a → MayAnswer kind.Read a
 get w after p moment key (says.Reply x) cause = refl
 get w after p moment key (says.Ticket x) cause = absurd (cc (sym (refused-get (table_now w) moment key) ∙ cause.2.accepted))
 get w after p moment key says.NotYet cause = absurd cause.2
@@ -76,7 +77,8 @@ get w after p moment key says.Gone cause = absurd cause.2
 get w after p moment key (says.Stale x) cause = absurd cause.2
 
 -- a delete, and a touch
-delete : (w after : World) (p : ProcessId) (moment : ℕ) (key : List ℕ) (a : Answer) → AskCause w after p (record { moment = moment; act = Delete key }) a → MayAnswer kind.Alter a
+delete : (w after : World) (p : ProcessId) (moment : ℕ) (key : List ℕ) (a : Answer)
+    → AskCause w after p (record { moment = moment; act = Delete key }) a → MayAnswer kind.Alter a
 delete w after p moment key (says.Reply x) cause = refl
 delete w after p moment key (says.Ticket x) cause = refl
 delete w after p moment key says.NotYet cause = absurd cause.2
@@ -92,7 +94,8 @@ delete w after p moment key says.AlreadyDead cause = absurd cause.2
 delete w after p moment key says.Gone cause = absurd cause.2
 delete w after p moment key (says.Stale x) cause = absurd cause.2
 
-touch : (w after : World) (p : ProcessId) (moment : ℕ) (key : List ℕ) (expiry : ℤ) (a : Answer) → AskCause w after p (record { moment = moment; act = Touch key expiry }) a → MayAnswer kind.Alter a
+touch : (w after : World) (p : ProcessId) (moment : ℕ) (key : List ℕ) (expiry : ℤ) (a : Answer)
+    → AskCause w after p (record { moment = moment; act = Touch key expiry }) a → MayAnswer kind.Alter a
 touch w after p moment key expiry (says.Reply x) cause = refl
 touch w after p moment key expiry (says.Ticket x) cause = refl
 touch w after p moment key expiry says.NotYet cause = absurd cause.2
@@ -109,7 +112,8 @@ touch w after p moment key expiry says.Gone cause = absurd cause.2
 touch w after p moment key expiry (says.Stale x) cause = absurd cause.2
 
 -- an ask of any act
-asked : (w after : World) (p : ProcessId) (moment : ℕ) (act : Act) (a : Answer) → AskCause w after p (record { moment = moment; act = act }) a → MayAnswer (kind_of_act act) a
+asked : (w after : World) (p : ProcessId) (moment : ℕ) (act : Act) (a : Answer)
+    → AskCause w after p (record { moment = moment; act = act }) a → MayAnswer (kind_of_act act) a
 asked w after p moment (Get key) a cause = get w after p moment key a cause
 asked w after p moment (Delete key) a cause = delete w after p moment key a cause
 asked w after p moment (Touch key expiry) a cause = touch w after p moment key expiry a cause

@@ -1,5 +1,6 @@
 -- The lines of a script's transcript are those that its course tells: none holds a line end within.
-use Rattle.std.proofs.Common.{◌≡◌, ℕ, suc, Bool, true, false, nat_lt, List, [], ◌∷◌, ◌++◌, ◌∙◌, codes, length, map, Option, Some, None, Result, Ok, Err, if◌then◌else◌, sym, ap, subst}
+use Rattle.std.proofs.Common.{◌≡◌, ℕ, suc, Bool, true, false, nat_lt, List, [], ◌∷◌, ◌++◌, ◌∙◌, codes, length, map}
+use Rattle.std.proofs.Common.{Option, Some, None, Result, Ok, Err, if◌then◌else◌, sym, ap, subst}
 use Rattle.std.proofs.lemmas.List.{append-nil}
 use Rattle.std.proofs.lemmas.List.Elements.{All-append, All-cons, All-head, All-nil, All-tail}
 use Rattle.std.specs.Fmt.{decimal}
@@ -24,7 +25,8 @@ use Rattle.scenario_run.specs.Course.{Ends, Goes, Refused, text_in, turns_in}
 use Rattle.scenario_run.specs.Lines.{lines_of}
 use Rattle.scenario_run.specs.Playing.{Play, PlayNext, by_event, draining, first_by, next_by, next_of, shape_in, then_by}
 use Rattle.scenario_run.proofs.Following.{turns_after}
-use Rattle.run_verify.specs.Told.{Down, Drained, Lost, Made, Placed, Shown, Told, count_placed, drained_line, lines_told, place_lines, placed_line, run_lines, told_lines}
+use Rattle.run_verify.specs.Told.{Down, Drained, Lost, Made, Placed, Shown, Told, count_placed, drained_line}
+use Rattle.run_verify.specs.Told.{lines_told, place_lines, placed_line, run_lines, told_lines}
 use Rattle.law_transcripts.proofs.Joining.{lines-joined}
 use Rattle.law_transcripts.proofs.Parts.{back-all, front-all, log-append}
 use Rattle.law_transcripts.proofs.Plain.{Plain, append, number}

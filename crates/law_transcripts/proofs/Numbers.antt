@@ -1,5 +1,6 @@
 -- The numbers of what a group answers are within their limits, where its events are few.
-use Rattle.std.proofs.Common.{◌≡◌, ◌<◌, ◌≤◌, ◌+◌, ◌^◌, ◌⊎◌, inl, inr, ℕ, zero, suc, false, List, [], ◌∷◌, ◌∙◌, length, take, Some, None, refl, sym, ap, subst, arith}
+use Rattle.std.proofs.Common.{◌≡◌, ◌<◌, ◌≤◌, ◌+◌, ◌^◌, ◌⊎◌, inl, inr, ℕ, zero, suc, false, List, [], ◌∷◌, ◌∙◌, length}
+use Rattle.std.proofs.Common.{take, Some, None, refl, sym, ap, subst, arith}
 use Rattle.std.proofs.lemmas.List.Elements.{All-head, All-tail, All-take}
 use Rattle.std.specs.Prelude.{All}
 use Rattle.group_types.specs.Dimensions.{Dimensions, callers, space_of}

@@ -10,7 +10,8 @@ use Rattle.group_calls.specs.Turns.{Turn}
 use Rattle.group_calls.specs.declared.event.Event.{Event}
 use Rattle.group_run.specs.Applying.{Settlement}
 use Rattle.group_run.specs.Replica.{run_of}
-use Rattle.group_run.specs.World.{Ledger, Ticket, World, call_of, group_step, grown, ledger_after, ledger_with, logged_at_once, new_ones, settled_in, step, tickets_after, world_after}
+use Rattle.group_run.specs.World.{Ledger, Ticket, World, call_of, group_step, grown, ledger_after, ledger_with}
+use Rattle.group_run.specs.World.{logged_at_once, new_ones, settled_in, step, tickets_after, world_after}
 use Rattle.law_moves.proofs.Reading.{grown-is}
 use Rattle.scenario_run.proofs.Leading.{Leads}
 

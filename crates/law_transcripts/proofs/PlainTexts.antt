@@ -12,7 +12,9 @@ use Rattle.group_calls.specs.declared.event.Answer.{Answer}
 use Rattle.group_calls.specs.declared.event.Answer.TheVariants as answered
 use Rattle.group_calls.specs.declared.event.Cause.{Cause}
 use Rattle.group_calls.specs.declared.event.Cause.TheVariants.{Pending, Block}
-use Rattle.scenario_text.specs.Texts.{act_text, answer_text, behind_commas, cause_text, entry_text, expiry_text, flagged_text, moment_text, name_text, next_number, place_text, reply_text, shown_text, stamp_text, stored_text, value_text}
+use Rattle.scenario_text.specs.Texts.{act_text, answer_text, behind_commas, cause_text, entry_text, expiry_text}
+use Rattle.scenario_text.specs.Texts.{flagged_text, moment_text, name_text, next_number, place_text, reply_text}
+use Rattle.scenario_text.specs.Texts.{shown_text, stamp_text, stored_text, value_text}
 use Rattle.law_transcripts.proofs.Plain.{Plain, append, behind-space, none, number, signed, value, word}
 
 -- ---- answers

@@ -56,7 +56,13 @@ told_on _ _ = []
 -- for lines, up to the end
 abbrev pub told_along : Option Play → List (List ℕ) → List Told
 told_along play [] = []
-told_along play (line ∷ lines) = elim (next_of play line) [ Goes next turns text ↦ told_on play (line_of (shape_in play) line) ++ told_along next lines | Ends ↦ [] | Refused cause ↦ [] ]
+told_along play (line ∷ lines) =
+    elim (next_of play line) [
+      | Goes next turns text ↦ told_on play (line_of (shape_in play) line)
+          ++ told_along next lines
+      | Ends ↦ []
+      | Refused cause ↦ []
+    ]
 
 -- the steps of a line of this meaning behind the group line
 abbrev pub steps_by : Play → Line → List Step
@@ -79,4 +85,10 @@ steps_on _ _ = []
 -- of lines, up to the end
 abbrev pub steps_along : Option Play → List (List ℕ) → List Step
 steps_along play [] = []
-steps_along play (line ∷ lines) = elim (next_of play line) [ Goes next turns text ↦ steps_on play (line_of (shape_in play) line) ++ steps_along next lines | Ends ↦ [] | Refused cause ↦ [] ]
+steps_along play (line ∷ lines) =
+    elim (next_of play line) [
+      | Goes next turns text ↦ steps_on play (line_of (shape_in play) line)
+          ++ steps_along next lines
+      | Ends ↦ []
+      | Refused cause ↦ []
+    ]

@@ -1,5 +1,7 @@
 -- What is written for the lines of a script is what its course tells, line by line.
-use Rattle.std.proofs.Common.{◌≡◌, ◌+◌, ℕ, zero, suc, Bool, true, false, nat_lt, List, [], ◌∷◌, ◌++◌, ◌∙◌, codes, length, map, append_assoc, Option, Some, None, Result, Ok, Err, if◌then◌else◌, refl, sym, ap, arith}
+use Rattle.std.proofs.Common.{◌≡◌, ◌+◌, ℕ, zero, suc, Bool, true, false, nat_lt, List, [], ◌∷◌, ◌++◌, ◌∙◌, codes}
+use Rattle.std.proofs.Common.{length, map, append_assoc, Option, Some, None, Result, Ok, Err, if◌then◌else◌, refl, sym}
+use Rattle.std.proofs.Common.{ap, arith}
 use Rattle.std.proofs.lemmas.List.{append-nil}
 use Rattle.std.specs.Fmt.{decimal}
 use Rattle.std.specs.List.{range_with_len}
@@ -23,7 +25,8 @@ use Rattle.scenario_text.specs.declared.line.LineFault.TheVariants.{BadLine}
 use Rattle.scenario_run.specs.Course.{Ends, Goes, Refused, text_in}
 use Rattle.scenario_run.specs.Placing.{many_runs, placed_text, runs_text}
 use Rattle.scenario_run.specs.Playing.{Play, PlayNext, by_event, draining, drained_text, first_by, look, next_by, next_of, shape_in, then_by, turn_text}
-use Rattle.run_verify.specs.Told.{Down, Drained, Lost, Made, Placed, Shown, Told, count_placed, drained_line, lines_told, place_lines, placed_line, run_lines, told_lines}
+use Rattle.run_verify.specs.Told.{Down, Drained, Lost, Made, Placed, Shown, Told, count_placed, drained_line}
+use Rattle.run_verify.specs.Told.{lines_told, place_lines, placed_line, run_lines, told_lines}
 use Rattle.law_transcripts.proofs.Joining.{joined, joined-append}
 use Rattle.law_transcripts.proofs.Telling.{looked, places_of, told_along, told_by, told_on}
 

@@ -1,5 +1,7 @@
 -- Replies that need no byte of the item, and rulings that differ in bytes alone.
-use Rattle.std.proofs.Common.{ℕ, ◌≡◌, ◌≢◌, ◌+◌, ◌-◌, ◌%◌, ◌^◌, ◌<◌, ◌≤◌, ◌==◌, nat_le, nat_lt, Bool, true, false, ◌&&◌, ◌||◌, List, [], ◌∷◌, ◌++◌, length, ◌⊎◌, inl, inr, Option, Some, None, if◌then◌else◌, refl, sym, ap, subst, ◌∙◌, arith}
+use Rattle.std.proofs.Common.{ℕ, ◌≡◌, ◌≢◌, ◌+◌, ◌-◌, ◌%◌, ◌^◌, ◌<◌, ◌≤◌, ◌==◌, nat_le, nat_lt, Bool, true, false, ◌&&◌}
+use Rattle.std.proofs.Common.{◌||◌, List, [], ◌∷◌, ◌++◌, length, ◌⊎◌, inl, inr, Option, Some, None, if◌then◌else◌, refl}
+use Rattle.std.proofs.Common.{sym, ap, subst, ◌∙◌, arith}
 use Rattle.std.proofs.lemmas.Bool.{cases_lt}
 use Rattle.std.proofs.lemmas.Grind.{common_steps}
 use Rattle.std.proofs.lemmas.List.{length-append}
@@ -49,7 +51,8 @@ unread-alike t n (Get key) slot bytes others unread = absurd (cc unread)
 unread-alike t n (Set key flags expiry value) slot bytes others unread = alike-refl false (anew t n flags expiry value)
 unread-alike t n (Add key flags expiry value) slot bytes others unread = refl
 unread-alike t n (Replace key flags expiry value) slot bytes others unread = alike-refl false (anew t n flags expiry value)
-unread-alike t n (Cas key flags expiry cas value) slot bytes others unread = alike-refl false (if slot.cas == cas then anew t n flags expiry value else Refused reply.Exists)
+unread-alike t n (Cas key flags expiry cas value) slot bytes others unread =
+    alike-refl false (if slot.cas == cas then anew t n flags expiry value else Refused reply.Exists)
 unread-alike t n (Delete key) slot bytes others unread = (refl, tt)
 unread-alike t n (Touch key expiry) slot bytes others unread = (refl, refl)
 unread-alike t n (Append key value) slot bytes others unread = absurd (cc unread)
@@ -115,12 +118,14 @@ module _ (slot : Slot) (bytes others : List ℕ) (long : length bytes ≡ slot.l
 
   blind-raised : (n by : ℕ) (h k : Holding) (v : Option ℕ) → Blindly slot.len (raised n h by v) (raised n k by (number_of others))
   unfolding reply-of
-  blind-raised n by h k None r is blind = let same : reply.NotNumber ≡ r = ap (reply-of r) is in ap (raised n k by) (blind-number r same blind) ∙ ap Refused same
+  blind-raised n by h k None r is blind = let same : reply.NotNumber ≡ r = ap (reply-of r) is in
+      ap (raised n k by) (blind-number r same blind) ∙ ap Refused same
   blind-raised n by h k (Some v) r is blind = blind-accepted slot.len (reply.Number ((v + by) % 2 ^ 64)) _ (raised n k by (number_of others)) r is blind
 
   blind-lowered : (n by : ℕ) (h k : Holding) (v : Option ℕ) → Blindly slot.len (lowered n h by v) (lowered n k by (number_of others))
   unfolding reply-of
-  blind-lowered n by h k None r is blind = let same : reply.NotNumber ≡ r = ap (reply-of r) is in ap (lowered n k by) (blind-number r same blind) ∙ ap Refused same
+  blind-lowered n by h k None r is blind = let same : reply.NotNumber ≡ r = ap (reply-of r) is in
+      ap (lowered n k by) (blind-number r same blind) ∙ ap Refused same
   blind-lowered n by h k (Some v) r is blind = blind-accepted slot.len (reply.Number (v - by)) _ (lowered n k by (number_of others)) r is blind
 
   both-long : (value : List ℕ) → length (bytes ++ value) ≡ length (others ++ value)
@@ -129,7 +134,8 @@ module _ (slot : Slot) (bytes others : List ℕ) (long : length bytes ≡ slot.l
   also-long : (value : List ℕ) → length (value ++ bytes) ≡ length (value ++ others)
   also-long value = omega (arith, length-append value bytes, length-append value others, long, as_long)
 
-  blind-some : (t n : ℕ) (act : Act) → slot.len ≢ 0 → Blindly slot.len (ruling_of t n act (Some (held_as slot bytes))) (ruling_of t n act (Some (held_as slot others)))
+  blind-some : (t n : ℕ) (act : Act) → slot.len ≢ 0 → Blindly slot.len (ruling_of t n act (Some (held_as slot bytes)))
+      (ruling_of t n act (Some (held_as slot others)))
   blind-some t n (Get key) some = blind-value slot.len (held_as slot bytes) (Refused (reply.Value (held_as slot others).item)) some
   blind-some t n (Set key flags expiry value) some = λ r is blind. is
   blind-some t n (Add key flags expiry value) some = λ r is blind. is
@@ -137,8 +143,10 @@ module _ (slot : Slot) (bytes others : List ℕ) (long : length bytes ≡ slot.l
   blind-some t n (Cas key flags expiry cas value) some = λ r is blind. is
   blind-some t n (Delete key) some = λ r is blind. is
   blind-some t n (Touch key expiry) some = blind-accepted slot.len reply.Touched _ (touched t (held_as slot others) expiry)
-  blind-some t n (Append key value) some = blind-joined slot.len n (held_as slot bytes) (held_as slot others) (bytes ++ value) (others ++ value) (both-long value)
-  blind-some t n (Prepend key value) some = blind-joined slot.len n (held_as slot bytes) (held_as slot others) (value ++ bytes) (value ++ others) (also-long value)
+  blind-some t n (Append key value) some = blind-joined slot.len n (held_as slot bytes) (held_as slot others)
+      (bytes ++ value) (others ++ value) (both-long value)
+  blind-some t n (Prepend key value) some = blind-joined slot.len n (held_as slot bytes) (held_as slot others)
+      (value ++ bytes) (value ++ others) (also-long value)
   blind-some t n (Incr key by) some = blind-raised n by (held_as slot bytes) (held_as slot others) (number_of bytes)
   blind-some t n (Decr key by) some = blind-lowered n by (held_as slot bytes) (held_as slot others) (number_of bytes)
 

@@ -1,5 +1,7 @@
 -- What writes clear of all that may still be read.
-use Rattle.std.proofs.Common.{ℕ, zero, suc, ◌≡◌, ◌≢◌, ◌+◌, ◌<◌, ◌≤◌, nat_le, nat_lt, Bool, true, false, not, ◌&&◌, ◌||◌, List, [], ◌∷◌, ◌++◌, take, drop, Option, Some, None, if◌then◌else◌, refl, ap, subst, ◌∙◌, arith}
+use Rattle.std.proofs.Common.{ℕ, zero, suc, ◌≡◌, ◌≢◌, ◌+◌, ◌<◌, ◌≤◌, nat_le, nat_lt, Bool, true, false, not, ◌&&◌, ◌||◌}
+use Rattle.std.proofs.Common.{List, [], ◌∷◌, ◌++◌, take, drop, Option, Some, None, if◌then◌else◌, refl, ap, subst, ◌∙◌}
+use Rattle.std.proofs.Common.{arith}
 use Rattle.std.specs.Prelude.{IfSome}
 use Rattle.std.specs.List.{list_any}
 use Rattle.std.proofs.lemmas.Grind.{common_steps}
@@ -24,7 +26,11 @@ use Rattle.law_updates.proofs.Spaces.{in_run-is}
 pub clear-take : (k : ℕ) (items : Items) (us : List Update) → AreClear items us → AreClear items (take k us)
 clear-take zero items us clear = tt
 clear-take (suc k) items [] clear = tt
-clear-take (suc k) items (u ∷ us) clear = (each-take (WritesClear items) (suc k) (u ∷ us) clear.0, each-take (λ v. u.key ≢ v.key) k us clear.1, clear-take k (item_settled u items) us clear.2)
+clear-take (suc k) items (u ∷ us) clear = (
+  each-take (WritesClear items) (suc k) (u ∷ us) clear.0,
+  each-take (λ v. u.key ≢ v.key) k us clear.1,
+  clear-take k (item_settled u items) us clear.2,
+)
 
 -- once the first of them are applied
 pub clear-drop : (k : ℕ) (items : Items) (us : List Update) → AreClear items us → AreClear (items_after items (take k us)) (drop k us)
@@ -46,7 +52,8 @@ settled-clear run v items apart clear =
     (slot-clear run v.number v.body (slot_in items v.key) apart (each-slot (λ x. AreApart run (run_in x)) v.key items clear)) clear
 
 -- and once all of them are
-pub after-clear : (run : Run) (items : Items) (us : List Update) → Each (λ v. IfSome (run_of v.body) (AreApart run)) us → IsClear items run → IsClear (items_after items us) run
+pub after-clear : (run : Run) (items : Items) (us : List Update) → Each (λ v. IfSome (run_of v.body) (AreApart run)) us
+    → IsClear items run → IsClear (items_after items us) run
 after-clear run items [] apart clear = clear
 after-clear run items (u ∷ us) apart clear = after-clear run (item_settled u items) us apart.1 (settled-clear run u items apart.0 clear)
 
@@ -54,12 +61,15 @@ after-clear run items (u ∷ us) apart clear = after-clear run (item_settled u i
 abbrev pub WritesApart : Update → Update → Type 0
 WritesApart u v = IfSome (run_of u.body) (λ run. IfSome (run_of v.body) (AreApart run))
 
-writes-settled : (u v : Update) (items : Items) (run : Option Run) → IfSome run (λ x. IfSome (run_of v.body) (AreApart x)) → IfSome run (IsClear items) → IfSome run (IsClear (item_settled v items))
+writes-settled : (u v : Update) (items : Items) (run : Option Run)
+    → IfSome run (λ x. IfSome (run_of v.body) (AreApart x)) → IfSome run (IsClear items)
+    → IfSome run (IsClear (item_settled v items))
 writes-settled u v items None apart clear = tt
 writes-settled u v items (Some run) apart clear = settled-clear run v items apart clear
 
 -- one more at the end
-pub clear-push : (items : Items) (us : List Update) (u : Update) → AreClear items us → WritesClear items u → Each (WritesApart u) us → Each (λ v. v.key ≢ u.key) us
+pub clear-push : (items : Items) (us : List Update) (u : Update) → AreClear items us → WritesClear items u
+    → Each (WritesApart u) us → Each (λ v. v.key ≢ u.key) us
     → AreClear items (us ++ u ∷ [])
 clear-push items [] u all clear apart others = ((clear, tt), tt, tt)
 clear-push items (v ∷ vs) u all clear apart others = (
@@ -80,7 +90,8 @@ pub free-is : (space : ℕ) (r : Replica) (a : ℕ) → is_free space r a ≡ tr
 free-is space r a free =
     by (nat_lt a space) refl (list_any (λ x. in_run a (run_in x.1)) r.items) refl (list_any (λ u. in_some_run a (run_of u.body)) r.log) refl
     (list_any (λ u. in_some_run a u.frees) r.log) refl free where
-      by : (b : Bool) → nat_lt a space ≡ b → (c : Bool) → list_any (λ x. in_run a (run_in x.1)) r.items ≡ c → (d : Bool) → list_any (λ u. in_some_run a (run_of u.body)) r.log ≡ d
+      by : (b : Bool) → nat_lt a space ≡ b → (c : Bool) → list_any (λ x. in_run a (run_in x.1)) r.items ≡ c → (d : Bool)
+          → list_any (λ u. in_some_run a (run_of u.body)) r.log ≡ d
           → (e : Bool) → list_any (λ u. in_some_run a u.frees) r.log ≡ e → (b && not c && not d && not e) ≡ true → IsFree space r a
       by true p false q false t false z free = record { inside = grind (arith, common_steps); items = q; writes = t; frees = z }
       by false p c q d t e z free = absurd (cc free)
@@ -95,7 +106,8 @@ is-free space r a free =
     (list_any (λ u. in_some_run a u.frees) r.log) free.frees where
       by : (b : Bool) → b ≡ true → (c : Bool) → c ≡ false → (d : Bool) → d ≡ false → (e : Bool) → e ≡ false → (b && not c && not d && not e) ≡ true
       by b p c q d t e z =
-          ap (λ (x : Bool). x && not c && not d && not e) p ∙ ap (λ (x : Bool). true && not x && not d && not e) q ∙ ap (λ (x : Bool). true && not false && not x && not e) t
+          ap (λ (x : Bool). x && not c && not d && not e) p ∙ ap (λ (x : Bool). true && not x && not d && not e) q
+          ∙ ap (λ (x : Bool). true && not false && not x && not e) t
           ∙ ap (λ (x : Bool). true && not false && not false && not x) z
 
 -- a test that nothing passes
@@ -139,24 +151,30 @@ module _ (space : ℕ) (r : Replica) (run : Run) where
   -- and apart from what the updates in the log write
   pub free-apart : AllFree (is_free space r) run.at run.len → Each (λ v. IfSome (run_of v.body) (AreApart run)) r.log
   free-apart free =
-      each-weaker (λ v. (a : ℕ) → in_run a run ≡ true → in_some_run a (run_of v.body) ≡ false) (λ v. IfSome (run_of v.body) (AreApart run)) (λ v apart. some-apart run (run_of v.body) apart) r.log
+      each-weaker (λ v. (a : ℕ) → in_run a run ≡ true → in_some_run a (run_of v.body) ≡ false)
+      (λ v. IfSome (run_of v.body) (AreApart run)) (λ v apart. some-apart run (run_of v.body) apart) r.log
       (each-every (λ a. in_run a run ≡ true) (λ v a. in_some_run a (run_of v.body) ≡ false) r.log (λ a here.
       let ends = in_run-bounds a run here in
       none-passes (λ v. in_some_run a (run_of v.body)) r.log (free-is space r a (free a ends.0 ends.1)).writes))
 
   -- a run of the space that is clear of the settled items, and apart from what the updates in the log write and
   -- give back, is free
-  pub clear-free : run.at + run.len ≤ space → IsClear r.items run → Each (λ v. IfSome (run_of v.body) (AreApart run)) r.log → Each (λ v. IfSome v.frees (AreApart run)) r.log
+  pub clear-free : run.at + run.len ≤ space → IsClear r.items run → Each (λ v. IfSome (run_of v.body) (AreApart run))
+      r.log → Each (λ v. IfSome v.frees (AreApart run)) r.log
       → AllFree (is_free space r) run.at run.len
   clear-free inside clear writes frees a from to =
       let here : in_run a run ≡ true = in_run-is a run.at run.len from to in
       is-free space r a (record {
         inside = omega arith;
-        items = passes-none (λ x. in_run a (run_in x.1)) r.items (each-weaker (λ x. AreApart run (run_in x.1)) (λ x. in_run a (run_in x.1) ≡ false) (λ x apart. apart a here) r.items clear);
+        items = passes-none (λ x. in_run a (run_in x.1)) r.items
+            (each-weaker (λ x. AreApart run (run_in x.1)) (λ x. in_run a (run_in x.1) ≡ false) (λ x apart. apart a here)
+            r.items clear);
         writes = passes-none (λ v. in_some_run a (run_of v.body)) r.log
-            (each-weaker (λ v. IfSome (run_of v.body) (AreApart run)) (λ v. in_some_run a (run_of v.body) ≡ false) (λ v apart. apart-some run (run_of v.body) a here apart) r.log writes);
+            (each-weaker (λ v. IfSome (run_of v.body) (AreApart run)) (λ v. in_some_run a (run_of v.body) ≡ false)
+            (λ v apart. apart-some run (run_of v.body) a here apart) r.log writes);
         frees = passes-none (λ v. in_some_run a v.frees) r.log
-            (each-weaker (λ v. IfSome v.frees (AreApart run)) (λ v. in_some_run a v.frees ≡ false) (λ v apart. apart-some run v.frees a here apart) r.log frees);
+            (each-weaker (λ v. IfSome v.frees (AreApart run)) (λ v. in_some_run a v.frees ≡ false)
+            (λ v apart. apart-some run v.frees a here apart) r.log frees);
       })
 
 -- a key that no update of the log is on
@@ -176,7 +194,8 @@ clear-middle items [] u us clear = clear.0.0
 clear-middle items (v ∷ vs) u us clear = each-middle (WritesClear items) (v ∷ vs) u us clear.0
 
 -- and apart from what those write
-slot-apart : (run : Run) (n : ℕ) (body : Body) (slot : Option Slot) → OfSlot (λ x. AreApart run (run_in x)) (slot_after n body slot) → IfSome (run_of body) (AreApart run)
+slot-apart : (run : Run) (n : ℕ) (body : Body) (slot : Option Slot)
+    → OfSlot (λ x. AreApart run (run_in x)) (slot_after n body slot) → IfSome (run_of body) (AreApart run)
 slot-apart run n (Put flags until other delta) slot apart = apart
 slot-apart run n Remove slot apart = tt
 slot-apart run n (Touch until) slot apart = tt
@@ -184,7 +203,8 @@ slot-apart run n (Touch until) slot apart = tt
 writes-is : (u : Update) (items : Items) (run : Run) → run_of u.body ≡ Some run → WritesClear items u → IsClear items run
 writes-is u items run is clear = subst (λ (x : Option Run). IfSome x (IsClear items)) is clear
 
-pub clear-at : (items : Items) (vs : List Update) (u : Update) (us : List Update) (run : Run) → run_of u.body ≡ Some run → AreClear items (vs ++ u ∷ us) → IsClear items run
+pub clear-at : (items : Items) (vs : List Update) (u : Update) (us : List Update) (run : Run) → run_of u.body ≡ Some run
+    → AreClear items (vs ++ u ∷ us) → IsClear items run
 clear-at items vs u us run is clear = writes-is u items run is (clear-middle items vs u us clear)
 
 pub apart-before : (items : Items) (vs : List Update) (u : Update) (us : List Update) (run : Run) → run_of u.body ≡ Some run → AreClear items (vs ++ u ∷ us)
@@ -192,7 +212,8 @@ pub apart-before : (items : Items) (vs : List Update) (u : Update) (us : List Up
 apart-before items [] u us run is clear = tt
 apart-before items (v ∷ vs) u us run is clear =
     let w : Option Slot = slot_after v.number v.body (slot_in items v.key) in
-    let slot : slot_in (item_settled v items) v.key ≡ w = slot_in-with v.key v.key w items ∙ ap (λ (b : Bool). if b then w else slot_in items v.key) (key-refl v.key) in
+    let slot : slot_in (item_settled v items) v.key ≡ w = slot_in-with v.key v.key w items
+    ∙ ap (λ (b : Bool). if b then w else slot_in items v.key) (key-refl v.key) in
     let own = each-slot (λ x. AreApart run (run_in x)) v.key (item_settled v items) (clear-at (item_settled v items) vs u us run is clear.2) in (
       slot-apart run v.number v.body (slot_in items v.key) (subst (OfSlot (λ x. AreApart run (run_in x))) slot own),
       apart-before (item_settled v items) vs u us run is clear.2,

@@ -1,5 +1,6 @@
 -- What a head decides of a call, walked through once.
-use Rattle.std.proofs.Common.{ℕ, zero, suc, ◌≡◌, ◌+◌, ◌<◌, ◌≤◌, nat_le, nat_lt, Bool, true, false, ◌&&◌, List, length, Option, Some, None, if◌then◌else◌, refl, sym, ap, subst, ◌∙◌, arith}
+use Rattle.std.proofs.Common.{ℕ, zero, suc, ◌≡◌, ◌+◌, ◌<◌, ◌≤◌, nat_le, nat_lt, Bool, true, false, ◌&&◌, List, length}
+use Rattle.std.proofs.Common.{Option, Some, None, if◌then◌else◌, refl, sym, ap, subst, ◌∙◌, arith}
 use Rattle.std.proofs.lemmas.Grind.{common_steps}
 use Rattle.field_byte.specs.Vectors.{add_bytes}
 use Rattle.erasure_code.specs.Spaces.{bytes_at}
@@ -20,7 +21,10 @@ use Rattle.group_calls.specs.declared.decision.Decision.TheVariants.{Issue}
 use Rattle.run_alloc.specs.Free.{AllFree}
 use Rattle.law_updates.proofs.Placing.{places_are_best}
 use Rattle.law_updates.specs.Placing.{IsPlaced}
-use Rattle.group_run.specs.Deciding.{Bytes, Found, Missing, blind_reply, decide_accepted, decide_blind, decide_found, decide_left, decide_placed, decide_ruled, decide_waiting, decide_written, is_get, is_touch, item_found, length_of, outcome_of, reads_bytes, ruling_with, unseen, waits_for, window}
+use Rattle.group_run.specs.Deciding.{Bytes, Found, Missing, blind_reply, decide_accepted, decide_blind, decide_found}
+use Rattle.group_run.specs.Deciding.{decide_left, decide_placed, decide_ruled, decide_waiting, decide_written, is_get}
+use Rattle.group_run.specs.Deciding.{is_touch, item_found, length_of, outcome_of, reads_bytes, ruling_with, unseen}
+use Rattle.group_run.specs.Deciding.{waits_for, window}
 use Rattle.group_run.specs.Fitting.{IsRunOf}
 use Rattle.group_run.specs.Free.{is_free, place_for}
 use Rattle.group_run.specs.Replica.{Items, Replica, last_of, number_on, run_in, slot_in}
@@ -58,10 +62,12 @@ place-free space r (suc len) run is =
 waits-none : (inherited : ℕ) (act : Act) (m : Option ℕ) → is_get act ≡ false → waits_for inherited act m ≡ None → m ≡ None
 waits-none inherited act None other free = refl
 waits-none inherited act (Some n) other free =
-    let waits : (if is_get act then (if nat_le n inherited then Some n else None) else Some n) ≡ Some n = ap (λ (b : Bool). if b then (if nat_le n inherited then Some n else None) else Some n) other in
+    let waits : (if is_get act then (if nat_le n inherited then Some n else None) else Some n) ≡ Some n =
+    ap (λ (b : Bool). if b then (if nat_le n inherited then Some n else None) else Some n) other in
     sym waits ∙ free
 
-module _ (space inherited : ℕ) (r : Replica) (store : Store) (op : Asked) (read : Run → Found) (long : length store.space ≡ space) (reads : ReadsFrom store.space read)
+module _ (space inherited : ℕ) (r : Replica) (store : Store) (op : Asked) (read : Run → Found)
+    (long : length store.space ≡ space) (reads : ReadsFrom store.space read)
     (waits : waits_for inherited op.act (number_on r.log (key_of op.act)) ≡ None) where
   -- what the table makes of the op
   abbrev real : Ruling
@@ -98,7 +104,12 @@ module _ (space inherited : ℕ) (r : Replica) (store : Store) (op : Asked) (rea
     written h run (Missing b) found place sound = tt
     written h run (Bytes under) found place sound =
         let is : under ≡ bytes_at run.at run.len store.space = reads run under (omega (arith, long, place.fits.inside)) found in
-        sound _ (record { run = run; fits = place.fits; free = place.free; is = ap (λ (bytes : List ℕ). Put h.item.flags h.until run (add_bytes h.item.value bytes)) is })
+        sound _ (record {
+          run = run;
+          fits = place.fits;
+          free = place.free;
+          is = ap (λ (bytes : List ℕ). Put h.item.flags h.until run (add_bytes h.item.value bytes)) is;
+        })
 
     placed : (h : Holding) (place : Option Run) → place_for space r (length h.item.value) ≡ place
         → ((body : Body) → IsPlacedPut space r store h body → IsSound space inherited r store op (Issue body (outcome_of reply)))
@@ -126,7 +137,8 @@ module _ (space inherited : ℕ) (r : Replica) (store : Store) (op : Asked) (rea
       left reply theirs ruled few (is_touch op.act) mine theirs alike (issues reply theirs ruled few)
 
   -- a ruling that is alike to the table's
-  sound-ruled : (mine theirs : Ruling) → Alike (is_touch op.act) mine theirs → real ≡ theirs → IsSound space inherited r store op (decide_ruled space r op read mine)
+  sound-ruled : (mine theirs : Ruling) → Alike (is_touch op.act) mine theirs → real ≡ theirs
+      → IsSound space inherited r store op (decide_ruled space r op read mine)
   sound-ruled (Refused a) (Refused b) alike ruled = refuses a (ruled ∙ ap Refused (sym alike))
   sound-ruled (Refused a) (Accepted b m) alike ruled = absurd alike
   sound-ruled (Accepted a l) (Refused b) alike ruled = absurd alike
@@ -166,7 +178,8 @@ module _ (space inherited : ℕ) (r : Replica) (store : Store) (op : Asked) (rea
       refuses reply (ap (λ (x : Option Slot). ruling_of op.moment (suc (last_of r)) op.act (live_at op.moment (held_in store.space x))) is
       ∙ (blind-refused 0 (ruling_of op.moment (suc (last_of r)) op.act None) reply blind).0)
   no-item is None blind =
-      sound-ruled (ruling_of op.moment (suc (last_of r)) op.act None) (ruling_of op.moment (suc (last_of r)) op.act None) (alike-same (is_touch op.act) _ _ refl)
+      sound-ruled (ruling_of op.moment (suc (last_of r)) op.act None)
+      (ruling_of op.moment (suc (last_of r)) op.act None) (alike-same (is_touch op.act) _ _ refl)
       (ap (λ (x : Option Slot). ruling_of op.moment (suc (last_of r)) op.act (live_at op.moment (held_in store.space x))) is)
 
   waited : (slot : Option Slot) → slot_in store.items (key_of op.act) ≡ slot → OfSlot (λ x. x.at + x.len ≤ space) slot
@@ -176,7 +189,8 @@ module _ (space inherited : ℕ) (r : Replica) (store : Store) (op : Asked) (rea
 
 pub decisions_are_sound : DecisionsAreSound
 decisions_are_sound space inherited r store op read long inside items reads =
-    by (waits_for inherited op.act (number_on r.log (key_of op.act))) refl (slot_in r.items (key_of op.act)) (ap (λ (xs : Items). slot_in xs (key_of op.act)) items) where
+    by (waits_for inherited op.act (number_on r.log (key_of op.act))) refl (slot_in r.items (key_of op.act))
+    (ap (λ (xs : Items). slot_in xs (key_of op.act)) items) where
       by : (w : Option ℕ) → waits_for inherited op.act (number_on r.log (key_of op.act)) ≡ w
           → (slot : Option Slot) → slot ≡ slot_in store.items (key_of op.act) → IsSound space inherited r store op (decide_waiting space r op read slot w)
       by (Some n) waits slot is = tt

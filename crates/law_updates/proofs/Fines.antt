@@ -1,8 +1,10 @@
 -- Fine histories: how they come about, and what they give to those that receive their updates.
-use Rattle.std.proofs.Common.{ℕ, zero, suc, ◌≡◌, ◌≢◌, ◌+◌, ◌-◌, ◌<◌, ◌≤◌, Bool, true, false, List, [], ◌∷◌, ◌++◌, take, drop, length, Option, Some, None, refl, sym, ap, ap₂, subst, ◌∙◌, arith}
+use Rattle.std.proofs.Common.{ℕ, zero, suc, ◌≡◌, ◌≢◌, ◌+◌, ◌-◌, ◌<◌, ◌≤◌, Bool, true, false, List, [], ◌∷◌, ◌++◌, take}
+use Rattle.std.proofs.Common.{drop, length, Option, Some, None, refl, sym, ap, ap₂, subst, ◌∙◌, arith}
 use Rattle.std.specs.Prelude.{Contains, IfSome}
 use Rattle.std.proofs.Math.Seq.{take-add}
-use Rattle.std.proofs.lemmas.List.{append_assoc, drop-append-le, drop-drop, drop-take, length-append, length-drop, length-take-le, take-append-drop, take-append-le, take-take, take_at}
+use Rattle.std.proofs.lemmas.List.{append_assoc, drop-append-le, drop-drop, drop-take, length-append, length-drop}
+use Rattle.std.proofs.lemmas.List.{length-take-le, take-append-drop, take-append-le, take-take, take_at}
 use Rattle.std.proofs.lemmas.List.Elements.{Contains-append_right}
 use Rattle.field_byte.specs.Vectors.{add_bytes}
 use Rattle.erasure_code.specs.Spaces.{bytes_at}
@@ -36,9 +38,12 @@ use Rattle.law_updates.proofs.Fine.{ComesBehind, IsReplicaOf}
 use Rattle.law_updates.proofs.Laws.{FineHistoriesFit, HistoriesAreFine, IssuesAreFine, WritesBytes}
 use Rattle.law_updates.specs.Right.{IsBodyOf, IsClear, IsRight}
 use Rattle.law_updates.specs.Store.{Store, StoreFits, held, no_store, store_after, store_from, stored}
-use Rattle.law_updates.proofs.Clears.{WritesApart, after-clear, apart-before, clear-at, clear-drop, clear-free, clear-push, clear-take, free-apart, free-clear, freed-apart, number_on-none}
+use Rattle.law_updates.proofs.Clears.{WritesApart, after-clear, apart-before, clear-at, clear-drop, clear-free}
+use Rattle.law_updates.proofs.Clears.{clear-push, clear-take, free-apart, free-clear, freed-apart, number_on-none}
 use Rattle.law_updates.proofs.Decides.{decisions_are_sound}
-use Rattle.law_updates.proofs.Histories.{history-fits, items-append, step-writes, steps-behind, steps-each, steps-keep-bytes, steps-keep-held, steps-keep-slot, steps-more, steps-push, steps-take, store-append, store-items}
+use Rattle.law_updates.proofs.Histories.{history-fits, items-append, step-writes, steps-behind, steps-each}
+use Rattle.law_updates.proofs.Histories.{steps-keep-bytes, steps-keep-held, steps-keep-slot, steps-more, steps-push}
+use Rattle.law_updates.proofs.Histories.{steps-take, store-append, store-items}
 use Rattle.law_updates.proofs.Keys.{each-slot}
 use Rattle.law_updates.proofs.Steps.{no_store-fits, right-bytes}
 
@@ -83,7 +88,8 @@ histories_are_fine s d = record {
 }
 
 -- a call that comes behind all others comes behind those that have updates here
-newest : (s : Dimensions) (calls : List Call) (d : ℕ) (h : List Update) (c : Call) (u : Update) → update_name u ≡ c.name → ComesBehind calls c → AreSteps s calls d 0 (no_store s) h
+newest : (s : Dimensions) (calls : List Call) (d : ℕ) (h : List Update) (c : Call) (u : Update) → update_name u ≡ c.name
+    → ComesBehind calls c → AreSteps s calls d 0 (no_store s) h
     → Each (λ v. ComesBefore v u) h
 newest s calls d h c u named behind steps = steps-each s calls d (λ v. ComesBefore v u) (λ n store v fits step same.
     let own : v.caller ≡ step.call.name.caller = ap (λ (x : CallName). x.caller) step.name in
@@ -94,7 +100,8 @@ newest s calls d h c u named behind steps = steps-each s calls d (λ v. ComesBef
     omega arith) 0 (no_store s) h (no_store-fits s) steps
 
 -- the body that a head issues is the one of the history, where its run is read in what the history leaves
-body-of : (s : Dimensions) (now later : Store) (r : Replica) (touch : Bool) (leaves : Option Holding) (body : Body) → IsPlacedBody (space_of s) r now touch leaves body
+body-of : (s : Dimensions) (now later : Store) (r : Replica) (touch : Bool) (leaves : Option Holding) (body : Body)
+    → IsPlacedBody (space_of s) r now touch leaves body
     → ((run : Run) → run_of body ≡ Some run → run.at + run.len ≤ space_of s → IsClear later.items run)
     → ((run : Run) → run_of body ≡ Some run → run.at + run.len ≤ space_of s → bytes_at run.at run.len now.space ≡ bytes_at run.at run.len later.space)
     → IsBodyOf s later touch leaves body
@@ -144,13 +151,15 @@ module _ (s : Dimensions) (calls : List Call) (d a : ℕ) (h : List Update) (fin
 
   log-steps : AreSteps s calls d a now r.log
   log-steps = subst (AreSteps s calls d a now) (sym replica.log)
-      (steps-behind s calls d 0 a (no_store s) (take a h) (drop a h) (omega (arith, length-take-le a h replica.within)) (subst (AreSteps s calls d 0 (no_store s)) (sym whole) fine.steps))
+      (steps-behind s calls d 0 a (no_store s) (take a h) (drop a h) (omega (arith, length-take-le a h replica.within))
+      (subst (AreSteps s calls d 0 (no_store s)) (sym whole) fine.steps))
 
   last-is : last_of r ≡ length h
   last-is = ap₂ (λ x y. x + y) replica.applied (ap length replica.log ∙ length-drop a h) ∙ (let within = replica.within in omega arith)
 
   module _ (op : Asked) (body : Body) (outcome : Outcome) (issue : IsIssue (space_of s) r now op body outcome) (u : Update)
-      (number : u.number ≡ suc (last_of r)) (key : u.key ≡ key_of op.act) (is : u.body ≡ body) (frees : u.frees ≡ freed_by body (slot_in r.items (key_of op.act))) (told : u.outcome ≡ outcome) where
+      (number : u.number ≡ suc (last_of r)) (key : u.key ≡ key_of op.act) (is : u.body ≡ body)
+      (frees : u.frees ≡ freed_by body (slot_in r.items (key_of op.act))) (told : u.outcome ≡ outcome) where
     others : Each (λ v. v.key ≢ key_of op.act) r.log
     others = number_on-none r.log (key_of op.act) issue.alone
 
@@ -171,9 +180,11 @@ module _ (s : Dimensions) (calls : List Call) (d a : ℕ) (h : List Update) (fin
         subst (λ (x : Store). IsClear x.items run) later-is (subst (λ (x : Items). IsClear x run) (sym (store-items s d now r.log))
         (after-clear run now.items r.log it.1 (subst (λ (x : Items). IsClear x run) (sym now-items) it.0)))
 
-    later-bytes : (run : Run) → run_of body ≡ Some run → run.at + run.len ≤ space_of s → bytes_at run.at run.len now.space ≡ bytes_at run.at run.len (store_after s d h).space
+    later-bytes : (run : Run) → run_of body ≡ Some run → run.at + run.len ≤ space_of s
+        → bytes_at run.at run.len now.space ≡ bytes_at run.at run.len (store_after s d h).space
     later-bytes run writes inside =
-        sym (steps-keep-bytes s calls d run a now r.log inside now-fits log-steps (free run writes).1) ∙ ap (λ (x : Store). bytes_at run.at run.len x.space) later-is
+        sym (steps-keep-bytes s calls d run a now r.log inside now-fits log-steps (free run writes).1)
+        ∙ ap (λ (x : Store). bytes_at run.at run.len x.space) later-is
 
     pub issued-right : IsRight s (store_after s d h) (suc (length h)) op u
     issued-right = record {
@@ -191,12 +202,16 @@ module _ (s : Dimensions) (calls : List Call) (d a : ℕ) (h : List Update) (fin
     pub issued-clear : AreClear (items_after [] (take a h)) (drop a h ++ u ∷ [])
     issued-clear =
         clear-push (items_after [] (take a h)) (drop a h) u fine.clear
-        (some-run (IsClear (items_after [] (take a h))) (run_of u.body) (λ run writes. subst (λ (x : Items). IsClear x run) replica.items (free run (sym (ap run_of is) ∙ writes)).0))
+        (some-run (IsClear (items_after [] (take a h))) (run_of u.body)
+        (λ run writes. subst (λ (x : Items). IsClear x run) replica.items (free run (sym (ap run_of is) ∙ writes)).0))
         (subst (Each (WritesApart u)) replica.log (apart-all r.log (λ run writes. (free run (sym (ap run_of is) ∙ writes)).1)))
         (subst (Each (λ v. v.key ≢ u.key)) replica.log (subst (λ (k : List ℕ). Each (λ v. v.key ≢ k) r.log) (sym key) others)) where
-          apart-all : (log : List Update) → ((run : Run) → run_of u.body ≡ Some run → Each (λ v. IfSome (run_of v.body) (AreApart run)) log) → Each (WritesApart u) log
+          apart-all : (log : List Update)
+              → ((run : Run) → run_of u.body ≡ Some run → Each (λ v. IfSome (run_of v.body) (AreApart run)) log)
+              → Each (WritesApart u) log
           apart-all log apart = by (run_of u.body) apart where
-            by : (x : Option Run) → ((run : Run) → x ≡ Some run → Each (λ v. IfSome (run_of v.body) (AreApart run)) log) → Each (λ v. IfSome x (λ run. IfSome (run_of v.body) (AreApart run))) log
+            by : (x : Option Run) → ((run : Run) → x ≡ Some run → Each (λ v. IfSome (run_of v.body) (AreApart run)) log)
+                → Each (λ v. IfSome x (λ run. IfSome (run_of v.body) (AreApart run))) log
             by None apart = all-tt log where
               all-tt : (log : List Update) → Each (λ v. IfSome None (λ run. IfSome (run_of v.body) (AreApart run))) log
               all-tt [] = tt
@@ -230,16 +245,20 @@ issues_are_fine s calls d inherited h c p body outcome fine replica fits behind 
     let store : Store = store_after s d (take r.applied h) in
     let good : StoreFits s store = now-fits s calls d r.applied h fine r replica in
     let sound : IsSound (space_of s) inherited r store c.op (Issue body outcome) = subst (IsSound (space_of s) inherited r store c.op) decided
-    (decisions_are_sound (space_of s) inherited r store c.op (found_at s d p p.name) good.long good.inside (sym (now-items s calls d r.applied h fine r replica)) reads) in
+    (decisions_are_sound (space_of s) inherited r store c.op (found_at s d p p.name) good.long good.inside
+    (sym (now-items s calls d r.applied h fine r replica)) reads) in
     issued-fine s calls d r.applied h fine r replica c body outcome sound (update_of c.name c.op d body outcome p) refl refl refl refl refl refl fits behind
 
 -- the next update of a fine history can come
-frees-apart : (s : Dimensions) (calls : List Call) (d n : ℕ) (store : Store) (vs : List Update) (u : Update) (us : List Update) (run : Run) → run_of u.body ≡ Some run
+frees-apart : (s : Dimensions) (calls : List Call) (d n : ℕ) (store : Store) (vs : List Update) (u : Update)
+    (us : List Update) (run : Run) → run_of u.body ≡ Some run
     → AreSteps s calls d n store (vs ++ u ∷ us) → AreClear store.items (vs ++ u ∷ us) → Each (λ v. IfSome v.frees (AreApart run)) vs
 frees-apart s calls d n store [] u us run writes steps clear = tt
 frees-apart s calls d n store (v ∷ vs) u us run writes steps clear = (
   subst (λ (x : Option Run). IfSome x (AreApart run)) (sym steps.0.right.frees)
-      (freed-apart run v.body (slot_in store.items v.key) (each-slot (λ x. AreApart run (run_in x)) v.key store.items (clear-at store.items (v ∷ vs) u us run writes clear))),
+      (freed-apart run v.body (slot_in store.items v.key)
+      (each-slot (λ x. AreApart run (run_in x)) v.key store.items
+      (clear-at store.items (v ∷ vs) u us run writes clear))),
   frees-apart s calls d (suc n) (stored s d v store) vs u us run writes steps.1 clear.2,
 )
 
@@ -251,9 +270,11 @@ run-inside space Remove run is writes = absurd (cc is)
 run-inside space (Touch until) run is writes = absurd (cc is)
 
 module _ (s : Dimensions) (calls : List Call) (d a : ℕ) where
-  pub next-comes : (xs : List Update) (u : Update) (us : List Update) (r : Replica) → Fine s calls d a (xs ++ u ∷ us) → IsReplicaOf a xs r → CanCome (space_of s) r u
+  pub next-comes : (xs : List Update) (u : Update) (us : List Update) (r : Replica) → Fine s calls d a (xs ++ u ∷ us)
+      → IsReplicaOf a xs r → CanCome (space_of s) r u
   next-comes xs u us r fine replica =
-      let steps : AreSteps s calls d (length xs) (store_after s d xs) (u ∷ us) = steps-behind s calls d 0 (length xs) (no_store s) xs (u ∷ us) (omega arith) fine.steps in
+      let steps : AreSteps s calls d (length xs) (store_after s d xs) (u ∷ us) =
+      steps-behind s calls d 0 (length xs) (no_store s) xs (u ∷ us) (omega arith) fine.steps in
       let step : IsStep s calls d (suc (length xs)) (store_after s d xs) u = steps.0 in
       let within = replica.within in
       let fine-xs : AreSteps s calls d 0 (no_store s) xs = subst (AreSteps s calls d 0 (no_store s)) (take_at xs (u ∷ us) (length xs) refl)
@@ -264,15 +285,22 @@ module _ (s : Dimensions) (calls : List Call) (d a : ℕ) where
       (subst (λ (x : Items). AreClear x (drop a (xs ++ u ∷ us))) (ap (items_after []) (take-append-le a xs (u ∷ us) within) ∙ sym replica.items) fine.clear) in
       let items : (store_after s d (take a xs)).items ≡ r.items = store-items s d (no_store s) (take a xs) ∙ sym replica.items in
       let whole : take a xs ++ (r.log ++ u ∷ us) ≡ xs ++ u ∷ us
-      = ap (λ (ys : List Update). take a xs ++ (ys ++ u ∷ us)) replica.log ∙ sym (append_assoc (take a xs) (drop a xs) (u ∷ us)) ∙ ap (λ (ys : List Update). ys ++ u ∷ us) (take-append-drop a xs) in
-      let log : AreSteps s calls d a (store_after s d (take a xs)) (r.log ++ u ∷ us) = steps-behind s calls d 0 a (no_store s) (take a xs) (r.log ++ u ∷ us) (omega (arith, length-take-le a xs within))
+      = ap (λ (ys : List Update). take a xs ++ (ys ++ u ∷ us)) replica.log
+      ∙ sym (append_assoc (take a xs) (drop a xs) (u ∷ us)) ∙ ap (λ (ys : List Update). ys ++ u ∷ us)
+      (take-append-drop a xs) in
+      let log : AreSteps s calls d a (store_after s d (take a xs)) (r.log ++ u ∷ us) =
+      steps-behind s calls d 0 a (no_store s) (take a xs) (r.log ++ u ∷ us)
+      (omega (arith, length-take-le a xs within))
       (subst (AreSteps s calls d 0 (no_store s)) (sym whole) fine.steps) in
       record {
-        caller = let own : u.caller ≡ step.call.name.caller = ap (λ (x : CallName). x.caller) step.name in let few = step.fits.caller in subst (λ (k : ℕ). k < callers) (sym own) few;
+        caller = let own : u.caller ≡ step.call.name.caller = ap (λ (x : CallName). x.caller) step.name in let few =
+            step.fits.caller in subst (λ (k : ℕ). k < callers) (sym own) few;
         writes = writes;
         free = some-run (λ run. AllFree (is_free (space_of s) r) run.at run.len) (run_of u.body) (λ run is.
-            clear-free (space_of s) r run (run-inside (space_of s) u.body run is writes) (clear-at r.items r.log u us run is clear) (apart-before r.items r.log u us run is clear)
-            (frees-apart s calls d a (store_after s d (take a xs)) r.log u us run is log (subst (λ (x : Items). AreClear x (r.log ++ u ∷ us)) (sym items) clear)));
+            clear-free (space_of s) r run (run-inside (space_of s) u.body run is writes)
+            (clear-at r.items r.log u us run is clear) (apart-before r.items r.log u us run is clear)
+            (frees-apart s calls d a (store_after s d (take a xs)) r.log u us run is log
+            (subst (λ (x : Items). AreClear x (r.log ++ u ∷ us)) (sym items) clear)));
         frees = step.right.frees ∙ ap (λ (x : Items). freed_by u.body (slot_in x u.key))
             (store-items s d (no_store s) xs ∙ ap (items_after []) (sym (take-append-drop a xs)) ∙ items-append [] (take a xs) (drop a xs)
             ∙ ap₂ items_after (sym replica.items) (sym replica.log));
@@ -295,6 +323,7 @@ pub fine_histories_fit : FineHistoriesFit
 fine_histories_fit s calls d a h fine = record {
   store = λ n. history-fits s calls d (take n h) (steps-take s calls d n 0 (no_store s) h fine.steps);
   writes = steps-each s calls d (λ u. Writes (space_of s) u.body) (step-writes s calls d) 0 (no_store s) h (no_store-fits s) fine.steps;
-  bytes = steps-each s calls d (λ u. WritesBytes u.body) (λ n store u fits step. right-bytes s d n store step.call.op u fits step.right step.fits.bytes) 0 (no_store s) h (no_store-fits s) fine.steps;
+  bytes = steps-each s calls d (λ u. WritesBytes u.body) (λ n store u fits step. right-bytes s d n store step.call.op u
+      fits step.right step.fits.bytes) 0 (no_store s) h (no_store-fits s) fine.steps;
   comes = λ r n reached replica. all-come s calls d a (take n h) (drop n h) r (subst (Fine s calls d a) (sym (take-append-drop n h)) fine) replica;
 }

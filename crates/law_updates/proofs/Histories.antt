@@ -1,5 +1,6 @@
 -- Histories whose every update is right: their parts, and the stores that they leave.
-use Rattle.std.proofs.Common.{ℕ, zero, suc, ◌≡◌, ◌≢◌, ◌+◌, ◌≤◌, Bool, true, false, List, [], ◌∷◌, ◌++◌, take, length, Option, Some, None, if◌then◌else◌, refl, sym, ap, subst, ◌∙◌, arith}
+use Rattle.std.proofs.Common.{ℕ, zero, suc, ◌≡◌, ◌≢◌, ◌+◌, ◌≤◌, Bool, true, false, List, [], ◌∷◌, ◌++◌, take, length}
+use Rattle.std.proofs.Common.{Option, Some, None, if◌then◌else◌, refl, sym, ap, subst, ◌∙◌, arith}
 use Rattle.std.specs.Prelude.{IfSome}
 use Rattle.std.proofs.lemmas.List.Elements.{Contains-append_left}
 use Rattle.field_byte.specs.Vectors.{add_bytes}
@@ -53,12 +54,20 @@ module _ (s : Dimensions) (calls : List Call) (d : ℕ) where
   steps-push n m store (v ∷ vs) u at steps step = (steps.0, steps-push (suc n) m (stored s d v store) vs u (omega (arith, at)) steps.1 step)
 
   -- the one behind these, and those behind it
-  pub steps-behind : (n m : ℕ) (store : Store) (us vs : List Update) → m ≡ n + length us → AreSteps s calls d n store (us ++ vs) → AreSteps s calls d m (store_from s d store us) vs
+  pub steps-behind : (n m : ℕ) (store : Store) (us vs : List Update) → m ≡ n + length us
+      → AreSteps s calls d n store (us ++ vs) → AreSteps s calls d m (store_from s d store us) vs
   steps-behind n m store [] vs at steps = subst (λ (k : ℕ). AreSteps s calls d k store vs) (omega (arith, at)) steps
   steps-behind n m store (u ∷ us) vs at steps = steps-behind (suc n) m (stored s d u store) us vs (omega (arith, at)) steps.1
 
   pub step-more : (later : List Call) (n : ℕ) (store : Store) (u : Update) → IsStep s calls d n store u → IsStep s (calls ++ later) d n store u
-  step-more later n store u step = record { call = step.call; asked = Contains-append_left calls later step.call step.asked; fits = step.fits; name = step.name; right = step.right }
+  step-more later n store u step =
+      record {
+        call = step.call;
+        asked = Contains-append_left calls later step.call step.asked;
+        fits = step.fits;
+        name = step.name;
+        right = step.right;
+      }
 
   pub steps-more : (later : List Call) (n : ℕ) (store : Store) (us : List Update) → AreSteps s calls d n store us → AreSteps s (calls ++ later) d n store us
   steps-more later n store [] steps = tt
@@ -80,7 +89,8 @@ module _ (s : Dimensions) (calls : List Call) (d : ℕ) where
   steps-fit n store (u ∷ us) fits steps =
       steps-fit (suc n) (stored s d u store) us ((right_updates_leave s d (suc n) store steps.0.call.op u fits steps.0.right).fits steps.0.fits.bytes) steps.1
 
-  writes-body : (store : Store) (touch : Bool) (leaves : Option Holding) (body : Body) → StoreFits s store → IsBodyOf s store touch leaves body → Writes (space_of s) body
+  writes-body : (store : Store) (touch : Bool) (leaves : Option Holding) (body : Body) → StoreFits s store
+      → IsBodyOf s store touch leaves body → Writes (space_of s) body
   writes-body store touch None body fits is = subst (Writes (space_of s)) (sym is) tt
   writes-body store true (Some h) body fits is = subst (Writes (space_of s)) (sym is) tt
   writes-body store false (Some h) body fits is =
@@ -93,19 +103,23 @@ module _ (s : Dimensions) (calls : List Call) (d : ℕ) where
   step-writes n store u fits step = writes-body store (is_touch step.call.op.act) step.right.leaves u.body fits step.right.body
 
   -- a run apart from the one that is written keeps its bytes
-  kept-body : (run : Run) (store : Store) (body : Body) → StoreFits s store → run.at + run.len ≤ space_of s → Writes (space_of s) body → IfSome (run_of body) (AreApart run)
+  kept-body : (run : Run) (store : Store) (body : Body) → StoreFits s store → run.at + run.len ≤ space_of s
+      → Writes (space_of s) body → IfSome (run_of body) (AreApart run)
       → bytes_at run.at run.len (space_added s (DataNode d) d body store.space) ≡ bytes_at run.at run.len store.space
   kept-body run store (Put flags until other delta) fits inside writes apart =
       apart-bytes other run delta store.space writes.long (omega (arith, fits.long, writes.inside)) (omega (arith, fits.long)) (apart-sym run other apart)
   kept-body run store Remove fits inside writes apart = refl
   kept-body run store (Touch until) fits inside writes apart = refl
 
-  pub steps-keep-bytes : (run : Run) (n : ℕ) (store : Store) (us : List Update) → run.at + run.len ≤ space_of s → StoreFits s store → AreSteps s calls d n store us
+  pub steps-keep-bytes : (run : Run) (n : ℕ) (store : Store) (us : List Update) → run.at + run.len ≤ space_of s
+      → StoreFits s store → AreSteps s calls d n store us
       → Each (λ v. IfSome (run_of v.body) (AreApart run)) us
       → bytes_at run.at run.len (store_from s d store us).space ≡ bytes_at run.at run.len store.space
   steps-keep-bytes run n store [] inside fits steps apart = refl
   steps-keep-bytes run n store (u ∷ us) inside fits steps apart =
-      steps-keep-bytes run (suc n) (stored s d u store) us inside ((right_updates_leave s d (suc n) store steps.0.call.op u fits steps.0.right).fits steps.0.fits.bytes) steps.1 apart.1
+      steps-keep-bytes run (suc n) (stored s d u store) us inside
+      ((right_updates_leave s d (suc n) store steps.0.call.op u fits steps.0.right).fits steps.0.fits.bytes) steps.1
+      apart.1
       ∙ kept-body run store u.body fits inside (step-writes (suc n) store u fits steps.0) apart.0
 
   -- a key that no update is on keeps its item, and what is held for it
@@ -116,7 +130,8 @@ module _ (s : Dimensions) (calls : List Call) (d : ℕ) where
       ∙ slot_in-with u.key key (slot_after u.number u.body (slot_in items u.key)) items
       ∙ ap (λ (b : Bool). if b then slot_after u.number u.body (slot_in items u.key) else slot_in items key) (key-ne u.key key others.0)
 
-  pub steps-keep-held : (key : List ℕ) (n : ℕ) (store : Store) (us : List Update) → StoreFits s store → AreSteps s calls d n store us → Each (λ v. v.key ≢ key) us
+  pub steps-keep-held : (key : List ℕ) (n : ℕ) (store : Store) (us : List Update) → StoreFits s store
+      → AreSteps s calls d n store us → Each (λ v. v.key ≢ key) us
       → held (store_from s d store us) key ≡ held store key
   steps-keep-held key n store [] fits steps others = refl
   steps-keep-held key n store (u ∷ us) fits steps others =

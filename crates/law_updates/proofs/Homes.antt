@@ -47,7 +47,8 @@ module _ (P : List ℕ → Type 0) where
 
   keys-after : (items : Items) (us : List Update) → Each (λ u. P u.key) us → Each (λ x. P x.0) items → Each (λ x. P x.0) (items_after items us)
   keys-after items [] own all = all
-  keys-after items (u ∷ us) own all = keys-after (item_settled u items) us own.1 (keys-with u.key (slot_after u.number u.body (slot_in items u.key)) items own.0 all)
+  keys-after items (u ∷ us) own all = keys-after (item_settled u items) us own.1
+      (keys-with u.key (slot_after u.number u.body (slot_in items u.key)) items own.0 all)
 
 -- the items stay in the order of their keys
 abbrev Sorted : Items → Type 0
@@ -88,7 +89,8 @@ all-from P (e ∷ es) all = All-cons P e es all.0 (all-from P es all.1)
 pub fine_histories_leave_items : FineHistoriesLeaveItems
 fine_histories_leave_items s calls d a n h fine = record {
   homes = all-from (λ x. home_of x.0 s.k ≡ d) (items_after [] (take n h)) (keys-after (λ key. home_of key s.k ≡ d) [] (take n h)
-      (steps-each s calls d (λ u. home_of u.key s.k ≡ d) (λ m store u fits step. ap (λ (key : List ℕ). home_of key s.k) step.right.key ∙ step.fits.home) 0 (no_store s) (take n h) (no_store-fits s)
+      (steps-each s calls d (λ u. home_of u.key s.k ≡ d) (λ m store u fits step. ap (λ (key : List ℕ). home_of key s.k)
+      step.right.key ∙ step.fits.home) 0 (no_store s) (take n h) (no_store-fits s)
       (steps-take s calls d n 0 (no_store s) h fine.steps)) tt);
   once = sorted-once (items_after [] (take n h)) (sorted-after [] (take n h) tt);
 }

@@ -49,7 +49,8 @@ slot_in-with key q (Some slot) items =
 
 -- what is said of each item's slot, after one of them got this
 module _ (P : Slot → Type 0) where
-  each-put : (key : List ℕ) (slot : Slot) (items : Items) → P slot → Each (λ x. P x.1) items → Each (λ x. P x.1) (entries.put (slice_cmp nat_cmp) key slot items)
+  each-put : (key : List ℕ) (slot : Slot) (items : Items) → P slot → Each (λ x. P x.1) items
+      → Each (λ x. P x.1) (entries.put (slice_cmp nat_cmp) key slot items)
   each-put key slot [] here all = (here, tt)
   each-put key slot (e ∷ es) here all = by (slice_cmp nat_cmp key e.0) (each-put key slot es here all.1) where
     by : (o : Ordering) → Each (λ x. P x.1) (entries.put (slice_cmp nat_cmp) key slot es)

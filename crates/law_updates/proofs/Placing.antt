@@ -1,4 +1,5 @@
-use Rattle.std.proofs.Common.{ℕ, zero, suc, ◌≡◌, ◌+◌, ◌-◌, ◌<◌, ◌≤◌, nat_lt, Bool, true, false, ◌⊎◌, inl, inr, Option, Some, None, if◌then◌else◌, refl, sym, ap, subst, ◌∙◌, arith}
+use Rattle.std.proofs.Common.{ℕ, zero, suc, ◌≡◌, ◌+◌, ◌-◌, ◌<◌, ◌≤◌, nat_lt, Bool, true, false, ◌⊎◌, inl, inr, Option}
+use Rattle.std.proofs.Common.{Some, None, if◌then◌else◌, refl, sym, ap, subst, ◌∙◌, arith}
 use Rattle.std.proofs.lemmas.Grind.{common_steps}
 use Rattle.std.proofs.lemmas.Bool.{cases_lt, ltb-true, ltb-false}
 use Rattle.group_types.specs.declared.run.Run.{Run}
@@ -25,7 +26,8 @@ module _ (size : ℕ) (free : ℕ → Bool) (want : ℕ) where
   -- the best of the free runs that end at s or before
   abbrev BestTo : ℕ → Option Run → Type 0
   BestTo s None = (b l : ℕ) → IsFreeRun size free b l → b + l ≤ s → l < want
-  BestTo s (Some r) = IsFreeRun size free r.at r.len × (want ≤ r.len) × (r.at + r.len ≤ s) × ((b l : ℕ) → IsFreeRun size free b l → b + l ≤ s → want ≤ l → Better r b l)
+  BestTo s (Some r) = IsFreeRun size free r.at r.len × (want ≤ r.len) × (r.at + r.len ≤ s)
+      × ((b l : ℕ) → IsFreeRun size free b l → b + l ≤ s → want ≤ l → Better r b l)
 
   -- a free run that ends behind s is the one from s on, where that has ended
   only_run : (s c b l : ℕ) → Open s c → (s + c < size → free (s + c) ≡ false) → IsFreeRun size free b l → s < b + l → b + l ≤ s + c + 1 → (b ≡ s) × (l ≡ c)
@@ -33,7 +35,9 @@ module _ (size : ℕ) (free : ℕ → Bool) (want : ℕ) where
       let not_longer : s + c < b + l → ⊥ = λ h. not_both (free (s + c)) (q.all_free (s + c) (omega (arith, q.some)) h) (ended (omega (arith, q.inside))) in
       let not_shorter : b + l < s + c → ⊥ = λ h. not_both (free (b + l)) (o.all (b + l) (omega arith) h) (q.above (omega (arith, o.inside))) in
       let not_before : b < s → ⊥ = λ h. not_both (free (s - 1)) (q.all_free (s - 1) (omega arith) (omega arith)) (o.start (s - 1) (omega arith)) in
-      let not_behind : s < b → ⊥ = λ h. not_both (free (b - 1)) (o.all (b - 1) (omega arith) (omega (arith, q.some, not_longer))) (q.below (b - 1) (omega arith)) in
+      let not_behind : s < b
+      → ⊥ = λ h. not_both (free (b - 1)) (o.all (b - 1) (omega arith) (omega (arith, q.some, not_longer)))
+      (q.below (b - 1) (omega arith)) in
       (omega (arith, not_before, not_behind), omega (arith, not_before, not_behind, not_longer, not_shorter))
 
   -- the run from s on, where it has ended
@@ -92,19 +96,40 @@ module _ (size : ℕ) (free : ℕ → Bool) (want : ℕ) where
   -- a run that is too short changes nothing
   keep_short : (s c : ℕ) (best : Option Run) → Open s c → (s + c < size → free (s + c) ≡ false) → c < want → BestTo s best → BestTo (s + c + 1) best
   keep_short s c None o ended short to = λ b l q within. short_none s c b l short to q (reach s c b l o ended q within)
-  keep_short s c (Some r) o ended short to = (to.0, to.1, omega (arith, to.2), λ b l q within fits. short_some s c b l r short to q fits (reach s c b l o ended q within))
+  keep_short s c (Some r) o ended short to = (
+    to.0,
+    to.1,
+    omega (arith, to.2),
+    λ b l q within fits. short_some s c b l r short to q fits
+        (reach s c b l o ended q within),
+  )
 
   -- a run that is long enough is taken where it is shorter
   take_found : (s c : ℕ) → Open s c → (s + c < size → free (s + c) ≡ false) → 1 ≤ want → want ≤ c
       → ((b l : ℕ) → IsFreeRun size free b l → want ≤ l → Stands s c b l → Better (found s c) b l) → BestTo (s + c + 1) (Some (found s c))
-  take_found s c o ended one fits better = (ended_run s c o (omega arith) ended, fits, omega arith, λ b l q within long. better b l q long (reach s c b l o ended q within))
+  take_found s c o ended one fits better = (
+    ended_run s c o (omega arith) ended,
+    fits,
+    omega arith,
+    λ b l q within long. better b l q long
+        (reach s c b l o ended q within),
+  )
 
   shorter_best : (s c : ℕ) (r : Run) → Open s c → (s + c < size → free (s + c) ≡ false) → 1 ≤ want → want ≤ c → BestTo s (Some r) → (t : Bool)
       → nat_lt c r.len ≡ t → BestTo (s + c + 1) (if t then Some (found s c) else Some r)
-  shorter_best s c r o ended one fits to true less = take_found s c o ended one fits (λ b l q long stands. found_shorter s c b l r (ltb-true c r.len less) to q long stands)
-  shorter_best s c r o ended one fits to false more = (to.0, to.1, omega (arith, to.2), λ b l q within long. kept_best s c b l r (ltb-false c r.len more) to q long (reach s c b l o ended q within))
+  shorter_best s c r o ended one fits to true less =
+      take_found s c o ended one fits (λ b l q long stands. found_shorter s c b l r (ltb-true c r.len less) to q long
+      stands)
+  shorter_best s c r o ended one fits to false more = (
+    to.0,
+    to.1,
+    omega (arith, to.2),
+    λ b l q within long. kept_best s c b l r (ltb-false c r.len more) to q long
+        (reach s c b l o ended q within),
+  )
 
-  shorter_is_best : (s c : ℕ) (best : Option Run) → Open s c → (s + c < size → free (s + c) ≡ false) → 1 ≤ want → want ≤ c → BestTo s best → BestTo (s + c + 1) (shorter best (found s c))
+  shorter_is_best : (s c : ℕ) (best : Option Run) → Open s c → (s + c < size → free (s + c) ≡ false) → 1 ≤ want
+      → want ≤ c → BestTo s best → BestTo (s + c + 1) (shorter best (found s c))
   shorter_is_best s c None o ended one fits to = take_found s c o ended one fits (λ b l q long stands. found_first s c b l to q long stands)
   shorter_is_best s c (Some r) o ended one fits to = shorter_best s c r o ended one fits to (nat_lt c r.len) refl
 
@@ -117,10 +142,12 @@ module _ (size : ℕ) (free : ℕ → Bool) (want : ℕ) where
 
   closed_is_best : (a s c : ℕ) (best : Option Run) → a ≡ s + c → Open s c → (s + c < size → free (s + c) ≡ false) → 1 ≤ want → BestTo s best
       → (c < want) ⊎ (want ≤ c) → BestTo (s + c + 1) (closed want a c best)
-  closed_is_best a s c best here o ended one to (inl short) = subst (BestTo (s + c + 1)) (sym (closed-short a c best one short)) (keep_short s c best o ended short to)
+  closed_is_best a s c best here o ended one to (inl short) =
+      subst (BestTo (s + c + 1)) (sym (closed-short a c best one short)) (keep_short s c best o ended short to)
   closed_is_best a s c best here o ended one to (inr fits) =
       let from : s ≡ a - c = omega arith in
-      let noted : shorter best (found s c) ≡ closed want a c best = ap (λ (x : ℕ). shorter best (record { at = x; len = c })) from ∙ sym (closed-long a c best one fits) in
+      let noted : shorter best (found s c) ≡ closed want a c best =
+      ap (λ (x : ℕ). shorter best (record { at = x; len = c })) from ∙ sym (closed-long a c best one fits) in
       subst (BestTo (s + c + 1)) noted (shorter_is_best s c best o ended one fits to)
 
   -- a walk over n addresses more, from wherever it stands, ends with the best run of all
@@ -150,7 +177,8 @@ module _ (size : ℕ) (free : ℕ → Bool) (want : ℕ) where
   walk_step n a s c best false on f one here size_is o to =
       let before : BestTo (s + c + 1) (closed want a c best) = closed_is_best a s c best here o (λ more. ap free (sym here) ∙ f) one to (cases_lt c want) in
       let end : s + c + 1 ≡ suc a = omega arith in
-      on (suc a) (suc a) 0 (closed want a c best) (omega arith) (omega arith) (none_open a f (omega arith)) (subst (λ (x : ℕ). BestTo x (closed want a c best)) end before)
+      on (suc a) (suc a) 0 (closed want a c best) (omega arith) (omega arith) (none_open a f (omega arith))
+      (subst (λ (x : ℕ). BestTo x (closed want a c best)) end before)
 
   walk_best : (n : ℕ) → 1 ≤ want → WalksOn n
   walk_best zero one a s c best here size_is o to =
@@ -187,6 +215,7 @@ placed space r len None none = none
 placed space r len (Some run) best = (refl, (run.len, best))
 
 pub places_are_best : PlacesAreBest
-places_are_best space r len one = subst (IsPlaced space r len) (sym (some_bytes len one)) (placed space r len _ (walk_finds_best space (is_free space r) len one)) where
-  some_bytes : (len : ℕ) → 1 ≤ len → place_for space r len ≡ front_of len (walk (is_free space r) len space 0 0 None)
-  some_bytes len one = grind (arith, common_steps)
+places_are_best space r len one = subst (IsPlaced space r len) (sym (some_bytes len one))
+    (placed space r len _ (walk_finds_best space (is_free space r) len one)) where
+      some_bytes : (len : ℕ) → 1 ≤ len → place_for space r len ≡ front_of len (walk (is_free space r) len space 0 0 None)
+      some_bytes len one = grind (arith, common_steps)

@@ -1,6 +1,8 @@
 -- What the table's rulings have in common: which replies accept, what an accepted op leaves, and how little
 -- a ruling depends on the number of the update and on the bytes of the item.
-use Rattle.std.proofs.Common.{ℕ, zero, suc, ◌≡◌, ◌+◌, ◌-◌, ◌%◌, ◌/◌, ◌^◌, ◌<◌, ◌≤◌, ◌==◌, nat_le, nat_lt, Bool, true, false, List, [], ◌∷◌, ◌++◌, length, get_or, ◌⊎◌, inl, inr, Option, Some, None, if◌then◌else◌, refl, sym, ap, subst, arith}
+use Rattle.std.proofs.Common.{ℕ, zero, suc, ◌≡◌, ◌+◌, ◌-◌, ◌%◌, ◌/◌, ◌^◌, ◌<◌, ◌≤◌, ◌==◌, nat_le, nat_lt, Bool, true}
+use Rattle.std.proofs.Common.{false, List, [], ◌∷◌, ◌++◌, length, get_or, ◌⊎◌, inl, inr, Option, Some, None}
+use Rattle.std.proofs.Common.{if◌then◌else◌, refl, sym, ap, subst, arith}
 use Rattle.std.specs.Fmt.{decimal, digits, digits_onto, digit_glyph}
 use Rattle.std.proofs.lemmas.Bool.{cases_lt}
 use Rattle.std.proofs.lemmas.List.{get_or_append_left, get_or-append_right}
@@ -171,7 +173,8 @@ refused-any t n m (Replace key flags expiry value) None = refl
 refused-any t n m (Replace key flags expiry value) (Some h) = refl
 refused-any t n m (Cas key flags expiry cas value) None = refl
 refused-any t n m (Cas key flags expiry cas value) (Some h) = by (h.item.cas == cas) where
-  by : (b : Bool) → refusal (if b then anew t n flags expiry value else Refused reply.Exists) ≡ refusal (if b then anew t m flags expiry value else Refused reply.Exists)
+  by : (b : Bool) → refusal (if b then anew t n flags expiry value else Refused reply.Exists)
+      ≡ refusal (if b then anew t m flags expiry value else Refused reply.Exists)
   by true = refl
   by false = refl
 refused-any t n m (Delete key) None = refl
@@ -182,13 +185,15 @@ refused-any t n m (Append key value) None = refl
 refused-any t n m (Append key value) (Some h) = refused-joined n m h (h.item.value ++ value)
   where
     refused-joined : (n m : ℕ) (h : Holding) (value : List ℕ) → refusal (joined n h value) ≡ refusal (joined m h value)
-    refused-joined n m h value = elim (nat_le (length value) longest_value) as (λ b. refusal (if b then Accepted reply.Stored (changed n h value) else Refused reply.TooLarge)
+    refused-joined n m h value = elim (nat_le (length value) longest_value) as
+        (λ b. refusal (if b then Accepted reply.Stored (changed n h value) else Refused reply.TooLarge)
         ≡ refusal (if b then Accepted reply.Stored (changed m h value) else Refused reply.TooLarge)) [ true ↦ refl | false ↦ refl ]
 refused-any t n m (Prepend key value) None = refl
 refused-any t n m (Prepend key value) (Some h) = refused-joined n m h (value ++ h.item.value)
   where
     refused-joined : (n m : ℕ) (h : Holding) (value : List ℕ) → refusal (joined n h value) ≡ refusal (joined m h value)
-    refused-joined n m h value = elim (nat_le (length value) longest_value) as (λ b. refusal (if b then Accepted reply.Stored (changed n h value) else Refused reply.TooLarge)
+    refused-joined n m h value = elim (nat_le (length value) longest_value) as
+        (λ b. refusal (if b then Accepted reply.Stored (changed n h value) else Refused reply.TooLarge)
         ≡ refusal (if b then Accepted reply.Stored (changed m h value) else Refused reply.TooLarge)) [ true ↦ refl | false ↦ refl ]
 refused-any t n m (Incr key by') None = refl
 refused-any t n m (Incr key by') (Some h) = by (number_of h.item.value) where

@@ -1,12 +1,14 @@
 -- The bytes of a run after a difference is added: those of its own run are the value, and those of a run
 -- apart from it stay.
-use Rattle.std.proofs.Common.{ℕ, zero, suc, ◌≡◌, ◌+◌, ◌-◌, ◌<◌, ◌≤◌, Bool, true, false, List, [], ◌∷◌, ◌++◌, length, drop, get_or, replicate, bit_xor, ◌⊎◌, inl, inr, refl, sym, ap, subst, ◌∙◌, arith}
+use Rattle.std.proofs.Common.{ℕ, zero, suc, ◌≡◌, ◌+◌, ◌-◌, ◌<◌, ◌≤◌, Bool, true, false, List, [], ◌∷◌, ◌++◌, length}
+use Rattle.std.proofs.Common.{drop, get_or, replicate, bit_xor, ◌⊎◌, inl, inr, refl, sym, ap, subst, ◌∙◌, arith}
 use Rattle.std.specs.Prelude.{All}
 use Rattle.std.specs.Int.Bits.{xor_assoc, xor_self, xor_zero_r}
 use Rattle.std.proofs.lemmas.Nat.{xor_comm}
 use Rattle.std.proofs.lemmas.Bool.{cases_lt}
 use Rattle.std.proofs.lemmas.Grind.{common_steps, same_number_lists}
-use Rattle.std.proofs.lemmas.List.{length-append, length-replicate, length-take, length-drop, get_or-take, get_or-drop, get_or_append_left, get_or-append-add, get_or_past}
+use Rattle.std.proofs.lemmas.List.{length-append, length-replicate, length-take, length-drop, get_or-take, get_or-drop}
+use Rattle.std.proofs.lemmas.List.{get_or_append_left, get_or-append-add, get_or_past}
 use Rattle.field_byte.specs.Vectors.{add_bytes}
 use Rattle.field_byte.proofs.Sums.{sum_lt}
 use Rattle.field_byte.proofs.Vectors.{AreBytes, get_or-add_bytes, length-add_bytes}
@@ -37,7 +39,8 @@ before_run : (at : ℕ) (bytes : List ℕ) (a : ℕ) → a < at → get_or (repl
 before_run at bytes a early = get_or_append_left (replicate at 0) bytes 0 a (omega (arith, length-replicate {A = ℕ} at 0, early)) ∙ get_or-zeros at a
 
 behind_run : (at : ℕ) (bytes : List ℕ) (a : ℕ) → at + length bytes ≤ a → get_or (replicate at 0 ++ bytes) a 0 ≡ 0
-behind_run at bytes a past = get_or_past (replicate at 0 ++ bytes) a 0 (omega (arith, length-append (replicate at 0) bytes, length-replicate {A = ℕ} at 0, past))
+behind_run at bytes a past = get_or_past (replicate at 0 ++ bytes) a 0
+    (omega (arith, length-append (replicate at 0) bytes, length-replicate {A = ℕ} at 0, past))
 
 own_run : (at : ℕ) (bytes : List ℕ) (i : ℕ) → get_or (replicate at 0 ++ bytes) (at + i) 0 ≡ get_or bytes i 0
 own_run at bytes i = ap (λ k. get_or (replicate at 0 ++ bytes) (k + i) 0) (sym (length-replicate at 0)) ∙ get_or-append-add (replicate at 0) bytes i 0
@@ -69,7 +72,8 @@ apart-sym a b apart x here = by (in_run x a) refl where
   by false e = e
 
 -- a run apart from the one that is written keeps its bytes
-pub apart-bytes : (run other : Run) (delta space : List ℕ) → run.len ≡ length delta → run.at + run.len ≤ length space → other.at + other.len ≤ length space → AreApart run other
+pub apart-bytes : (run other : Run) (delta space : List ℕ) → run.len ≡ length delta → run.at + run.len ≤ length space
+    → other.at + other.len ≤ length space → AreApart run other
     → bytes_at other.at other.len (added_at run.at delta space) ≡ bytes_at other.at other.len space
 apart-bytes run other delta space long within inside apart =
     let fits : run.at + length delta ≤ length space = omega arith in
@@ -93,12 +97,14 @@ own-bytes run value space long within =
     let delta_long : length delta ≡ length value = length-add_bytes value under even in
     let fits : run.at + length delta ≤ length space = omega arith in
     let same = length-added run.at delta space fits in
-    let own : length (bytes_at run.at run.len (added_at run.at delta space)) ≡ run.len = length-bytes_at run.at run.len (added_at run.at delta space) (omega arith) in
+    let own : length (bytes_at run.at run.len (added_at run.at delta space)) ≡ run.len =
+    length-bytes_at run.at run.len (added_at run.at delta space) (omega arith) in
     same_number_lists (bytes_at run.at run.len (added_at run.at delta space)) value (own ∙ long) (λ k below.
     let here : k < run.len = omega arith in
     get_or-bytes_at run.at run.len (added_at run.at delta space) k here
     ∙ inside run.at delta space fits k
-    ∙ ap (bit_xor (get_or space (run.at + k) 0)) (get_or-add_bytes value under k even ∙ ap (bit_xor (get_or value k 0)) (get_or-bytes_at run.at run.len space k here))
+    ∙ ap (bit_xor (get_or space (run.at + k) 0)) (get_or-add_bytes value under k even
+    ∙ ap (bit_xor (get_or value k 0)) (get_or-bytes_at run.at run.len space k here))
     ∙ twice (get_or space (run.at + k) 0) (get_or value k 0)) where
       twice : (a b : ℕ) → bit_xor a (bit_xor b a) ≡ b
       twice a b = ap (bit_xor a) (xor_comm b a) ∙ sym (xor_assoc a a b) ∙ ap (λ (x : ℕ). bit_xor x b) (xor_self a) ∙ xor_comm 0 b ∙ xor_zero_r b

@@ -1,6 +1,7 @@
 -- After a right update its key holds what the ruling leaves, every other key holds what it held, and the
 -- store still fits.
-use Rattle.std.proofs.Common.{ℕ, ◌≡◌, ◌+◌, ◌<◌, ◌≤◌, Bool, true, false, List, [], ◌∷◌, length, Option, Some, None, if◌then◌else◌, refl, sym, ap, subst, ◌∙◌, arith}
+use Rattle.std.proofs.Common.{ℕ, ◌≡◌, ◌+◌, ◌<◌, ◌≤◌, Bool, true, false, List, [], ◌∷◌, length, Option, Some, None}
+use Rattle.std.proofs.Common.{if◌then◌else◌, refl, sym, ap, subst, ◌∙◌, arith}
 use Rattle.std.specs.Prelude.{All, replicate}
 use Rattle.std.proofs.lemmas.List.{length-replicate}
 use Rattle.field_byte.specs.Vectors.{add_bytes}
@@ -37,7 +38,8 @@ use Rattle.law_updates.proofs.Rules.{HoldsBytes, LeavesBytes, LeavesWell, RulesW
 use Rattle.law_updates.proofs.Spaces.{apart-bytes, bytes-added, bytes-all, bytes-bytes_at, bytes-from, length-bytes_at, own-bytes}
 
 -- an item whose run keeps its bytes is held as before
-held-kept : (space other : List ℕ) (slot : Option Slot) → OfSlot (λ x. bytes_at x.at x.len other ≡ bytes_at x.at x.len space) slot → held_in other slot ≡ held_in space slot
+held-kept : (space other : List ℕ) (slot : Option Slot)
+    → OfSlot (λ x. bytes_at x.at x.len other ≡ bytes_at x.at x.len space) slot → held_in other slot ≡ held_in space slot
 held-kept space other None same = refl
 held-kept space other (Some slot) same = ap (λ (bytes : List ℕ). Some (held_as slot bytes)) same
 
@@ -55,14 +57,17 @@ value-of d (Some h) = h
 
 module _ (s : Dimensions) (d n : ℕ) (store : Store) (op : Asked) (u : Update) (fits : StoreFits s store) (right : IsRight s store n op u) where
   well : RulesWell n op.act (live_at op.moment (held store (key_of op.act))) (Accepted right.reply right.leaves)
-  well = subst (RulesWell n op.act (live_at op.moment (held store (key_of op.act)))) right.ruled (rules-well op.moment n op.act (live_at op.moment (held store (key_of op.act))))
+  well = subst (RulesWell n op.act (live_at op.moment (held store (key_of op.act)))) right.ruled
+      (rules-well op.moment n op.act (live_at op.moment (held store (key_of op.act))))
 
-  own-touch : (h : Holding) (slot : Option Slot) (body : Body) → body ≡ Touch h.until → LeavesWell n true (live_at op.moment (held_in store.space slot)) (Some h)
+  own-touch : (h : Holding) (slot : Option Slot) (body : Body) → body ≡ Touch h.until
+      → LeavesWell n true (live_at op.moment (held_in store.space slot)) (Some h)
       → held_in (space_added s (DataNode d) d body store.space) (slot_after n body slot) ≡ Some h
   unfolding value-of
   own-touch h None body is left = absurd (cc left.1)
   own-touch h (Some slot) body is left =
-      subst (λ (b : Body). held_in (space_added s (DataNode d) d b store.space) (slot_after n b (Some slot)) ≡ Some h) (sym is) (done (held_as slot (bytes_at slot.at slot.len store.space)) refl) where
+      subst (λ (b : Body). held_in (space_added s (DataNode d) d b store.space) (slot_after n b (Some slot)) ≡ Some h)
+      (sym is) (done (held_as slot (bytes_at slot.at slot.len store.space)) refl) where
         done : (k : Holding) → held_as slot (bytes_at slot.at slot.len store.space) ≡ k
             → Some (held_as (record slot { until = h.until }) (bytes_at slot.at slot.len store.space)) ≡ Some h
         done k same =
@@ -75,7 +80,9 @@ module _ (s : Dimensions) (d n : ℕ) (store : Store) (op : Asked) (u : Update) 
       → held_in (space_added s (DataNode d) d body store.space) (slot_after n body slot) ≡ Some h
   own-put h slot body put cas =
       let within : put.run.at + put.run.len ≤ length store.space = omega (arith, fits.long, put.fits.inside) in
-      let value : bytes_at put.run.at put.run.len (added_at put.run.at (add_bytes h.item.value (bytes_at put.run.at put.run.len store.space)) store.space) ≡ h.item.value
+      let value : bytes_at put.run.at put.run.len
+      (added_at put.run.at (add_bytes h.item.value (bytes_at put.run.at put.run.len store.space)) store.space)
+      ≡ h.item.value
       = own-bytes put.run h.item.value store.space put.fits.long within in
       subst (λ (b : Body). held_in (space_added s (DataNode d) d b store.space) (slot_after n b slot) ≡ Some h) (sym put.is)
       (let number : n ≡ h.item.cas = sym cas in λ i. Some (record { item = record { flags = h.item.flags; cas = number i; value = value i }; until = h.until }))
@@ -95,20 +102,25 @@ module _ (s : Dimensions) (d n : ℕ) (store : Store) (op : Asked) (u : Update) 
   kept-all [] = tt
   kept-all (x ∷ xs) = (refl, kept-all xs)
 
-  put-long : (h : Holding) (body : Body) (put : IsPut s store h body) → length (add_bytes h.item.value (bytes_at put.run.at put.run.len store.space)) ≡ length h.item.value
+  put-long : (h : Holding) (body : Body) (put : IsPut s store h body)
+      → length (add_bytes h.item.value (bytes_at put.run.at put.run.len store.space)) ≡ length h.item.value
   put-long h body put =
       let under = length-bytes_at put.run.at put.run.len store.space (omega (arith, fits.long, put.fits.inside)) in
       length-add_bytes h.item.value (bytes_at put.run.at put.run.len store.space) (omega (arith, under, put.fits.long))
 
-  kept : (touch : Bool) (leaves : Option Holding) (body : Body) → IsBodyOf s store touch leaves body → Each (λ x. Kept (space_added s (DataNode d) d body store.space) x.1) store.items
+  kept : (touch : Bool) (leaves : Option Holding) (body : Body) → IsBodyOf s store touch leaves body
+      → Each (λ x. Kept (space_added s (DataNode d) d body store.space) x.1) store.items
   kept touch None body is = subst (λ (b : Body). Each (λ x. Kept (space_added s (DataNode d) d b store.space) x.1) store.items) (sym is) (kept-all store.items)
-  kept true (Some h) body is = subst (λ (b : Body). Each (λ x. Kept (space_added s (DataNode d) d b store.space) x.1) store.items) (sym is) (kept-all store.items)
+  kept true (Some h) body is =
+      subst (λ (b : Body). Each (λ x. Kept (space_added s (DataNode d) d b store.space) x.1) store.items) (sym is)
+      (kept-all store.items)
   kept false (Some h) body is =
       let delta = add_bytes h.item.value (bytes_at is.run.at is.run.len store.space) in
       let long = put-long h body is in
       subst (λ (b : Body). Each (λ x. Kept (space_added s (DataNode d) d b store.space) x.1) store.items) (sym is.is)
       (each-weaker (λ x. AreApart is.run (run_in x.1) × (x.1.at + x.1.len ≤ space_of s)) (λ x. Kept (added_at is.run.at delta store.space) x.1)
-      (λ x both. apart-bytes is.run (run_in x.1) delta store.space (omega (arith, is.fits.long, long)) (omega (arith, fits.long, is.fits.inside)) (omega (arith, fits.long, both.1)) both.0)
+      (λ x both. apart-bytes is.run (run_in x.1) delta store.space (omega (arith, is.fits.long, long))
+      (omega (arith, fits.long, is.fits.inside)) (omega (arith, fits.long, both.1)) both.0)
       store.items (each-both (λ x. AreApart is.run (run_in x.1)) (λ x. x.1.at + x.1.len ≤ space_of s) store.items is.clear fits.inside))
 
   abbrev slot_now : Option Slot
@@ -123,18 +135,21 @@ module _ (s : Dimensions) (d n : ℕ) (store : Store) (op : Asked) (u : Update) 
 
   holds : (key : List ℕ) → held (stored s d u store) key ≡ holding_at u.key right.leaves (held store) key
   holds key = ap (held_in (space_added s (DataNode d) d u.body store.space)) (slot_in-with u.key key slot_now store.items) ∙ by (same_key u.key key) where
-    by : (b : Bool) → held_in (space_added s (DataNode d) d u.body store.space) (if b then slot_now else slot_in store.items key) ≡ (if b then right.leaves else held store key)
+    by : (b : Bool) → held_in (space_added s (DataNode d) d u.body store.space)
+        (if b then slot_now else slot_in store.items key) ≡ (if b then right.leaves else held store key)
     by true = slot-now
     by false = held-kept store.space (space_added s (DataNode d) d u.body store.space) (slot_in store.items key)
         (each-slot (Kept (space_added s (DataNode d) d u.body store.space)) key store.items (kept (is_touch op.act) right.leaves u.body right.body))
 
   -- the space is as long as before, and has the runs of the items
-  long-after : (touch : Bool) (leaves : Option Holding) (body : Body) → IsBodyOf s store touch leaves body → length (space_added s (DataNode d) d body store.space) ≡ length store.space
+  long-after : (touch : Bool) (leaves : Option Holding) (body : Body) → IsBodyOf s store touch leaves body
+      → length (space_added s (DataNode d) d body store.space) ≡ length store.space
   long-after touch None body is = ap (λ (b : Body). length (space_added s (DataNode d) d b store.space)) is
   long-after true (Some h) body is = ap (λ (b : Body). length (space_added s (DataNode d) d b store.space)) is
   long-after false (Some h) body is =
       ap (λ (b : Body). length (space_added s (DataNode d) d b store.space)) is.is
-      ∙ length-added is.run.at (add_bytes h.item.value (bytes_at is.run.at is.run.len store.space)) store.space (omega (arith, fits.long, is.fits.inside, is.fits.long, put-long h body is))
+      ∙ length-added is.run.at (add_bytes h.item.value (bytes_at is.run.at is.run.len store.space)) store.space
+      (omega (arith, fits.long, is.fits.inside, is.fits.long, put-long h body is))
 
   abbrev Inside : Slot → Type 0
   Inside x = x.at + x.len ≤ space_of s
@@ -143,7 +158,8 @@ module _ (s : Dimensions) (d n : ℕ) (store : Store) (op : Asked) (u : Update) 
   inside-touched until None inside = tt
   inside-touched until (Some slot) inside = inside
 
-  inside-after : (touch : Bool) (leaves : Option Holding) (body : Body) → IsBodyOf s store touch leaves body → OfSlot Inside (slot_after u.number body (slot_in store.items u.key))
+  inside-after : (touch : Bool) (leaves : Option Holding) (body : Body) → IsBodyOf s store touch leaves body
+      → OfSlot Inside (slot_after u.number body (slot_in store.items u.key))
   inside-after touch None body is = subst (λ (b : Body). OfSlot Inside (slot_after u.number b (slot_in store.items u.key))) (sym is) tt
   inside-after true (Some h) body is = subst (λ (b : Body). OfSlot Inside (slot_after u.number b (slot_in store.items u.key))) (sym is)
       (inside-touched h.until (slot_in store.items u.key) (each-slot Inside u.key store.items fits.inside))
@@ -156,9 +172,12 @@ module _ (s : Dimensions) (d n : ℕ) (store : Store) (op : Asked) (u : Update) 
     by true = bytes-bytes_at slot.at slot.len store.space (bytes-from store.space fits.bytes)
     by false = tt
 
-  bytes-after : (touch : Bool) (leaves : Option Holding) (body : Body) → HoldsBytes leaves → IsBodyOf s store touch leaves body → AreBytes (space_added s (DataNode d) d body store.space)
-  bytes-after touch None body bytes is = subst (λ (b : Body). AreBytes (space_added s (DataNode d) d b store.space)) (sym is) (bytes-from store.space fits.bytes)
-  bytes-after true (Some h) body bytes is = subst (λ (b : Body). AreBytes (space_added s (DataNode d) d b store.space)) (sym is) (bytes-from store.space fits.bytes)
+  bytes-after : (touch : Bool) (leaves : Option Holding) (body : Body) → HoldsBytes leaves
+      → IsBodyOf s store touch leaves body → AreBytes (space_added s (DataNode d) d body store.space)
+  bytes-after touch None body bytes is = subst (λ (b : Body). AreBytes (space_added s (DataNode d) d b store.space))
+      (sym is) (bytes-from store.space fits.bytes)
+  bytes-after true (Some h) body bytes is = subst (λ (b : Body). AreBytes (space_added s (DataNode d) d b store.space))
+      (sym is) (bytes-from store.space fits.bytes)
   bytes-after false (Some h) body bytes is =
       let under = bytes_at is.run.at is.run.len store.space in
       let under_long = length-bytes_at is.run.at is.run.len store.space (omega (arith, fits.long, is.fits.inside)) in
@@ -169,7 +188,8 @@ module _ (s : Dimensions) (d n : ℕ) (store : Store) (op : Asked) (u : Update) 
 
   ruled-bytes : All (λ b. b < 256) (value_of op.act) → HoldsBytes right.leaves
   ruled-bytes brought = subst LeavesBytes right.ruled
-      (rules-bytes op.moment n op.act (live_at op.moment (held store (key_of op.act))) (bytes-from (value_of op.act) brought) (bytes-held (slot_in store.items (key_of op.act))))
+      (rules-bytes op.moment n op.act (live_at op.moment (held store (key_of op.act)))
+      (bytes-from (value_of op.act) brought) (bytes-held (slot_in store.items (key_of op.act))))
 
   -- a difference consists of bytes
   delta-bytes : (touch : Bool) (leaves : Option Holding) (body : Body) → HoldsBytes leaves → IsBodyOf s store touch leaves body → WritesBytes body
@@ -177,7 +197,9 @@ module _ (s : Dimensions) (d n : ℕ) (store : Store) (op : Asked) (u : Update) 
   delta-bytes true (Some h) body bytes is = subst WritesBytes (sym is) tt
   delta-bytes false (Some h) body bytes is =
       let under_long = length-bytes_at is.run.at is.run.len store.space (omega (arith, fits.long, is.fits.inside)) in
-      subst WritesBytes (sym is.is) (bytes-all _ (AreBytes-add_bytes h.item.value (bytes_at is.run.at is.run.len store.space) (omega (arith, under_long, is.fits.long)) bytes
+      subst WritesBytes (sym is.is)
+      (bytes-all _ (AreBytes-add_bytes h.item.value (bytes_at is.run.at is.run.len store.space)
+      (omega (arith, under_long, is.fits.long)) bytes
       (bytes-bytes_at is.run.at is.run.len store.space (bytes-from store.space fits.bytes))))
 
   pub right-bytes : All (λ b. b < 256) (value_of op.act) → WritesBytes u.body

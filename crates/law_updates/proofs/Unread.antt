@@ -1,5 +1,6 @@
 -- What the table makes of an op on an item whose bytes a head doesn't read.
-use Rattle.std.proofs.Common.{ℕ, suc, ◌≡◌, ◌+◌, ◌≤◌, nat_lt, Bool, true, false, ◌&&◌, List, length, Option, Some, None, if◌then◌else◌, refl, sym, ap, ◌∙◌, arith}
+use Rattle.std.proofs.Common.{ℕ, suc, ◌≡◌, ◌+◌, ◌≤◌, nat_lt, Bool, true, false, ◌&&◌, List, length, Option, Some, None}
+use Rattle.std.proofs.Common.{if◌then◌else◌, refl, sym, ap, ◌∙◌, arith}
 use Rattle.std.proofs.lemmas.Grind.{common_steps}
 use Rattle.std.proofs.lemmas.List.{length-replicate}
 use Rattle.erasure_code.specs.Spaces.{bytes_at}
@@ -45,7 +46,10 @@ module _ (r : Replica) (store : Store) (op : Asked) where
     blind-item reply blind =
         let said = blind-refused slot.len (ruling_on slot (unseen (Some slot))) reply blind in
         real-on slot is ∙ by (is_live op.moment slot.until) said.0 said.1 where
-          by : (live : Bool) → ruling_of op.moment (suc (last_of r)) op.act (if live then Some (held_as slot (unseen (Some slot))) else None) ≡ Refused reply → is_blind slot.len reply ≡ true
+          by : (live : Bool)
+              → ruling_of op.moment (suc (last_of r)) op.act
+              (if live then Some (held_as slot (unseen (Some slot))) else None) ≡ Refused reply
+              → is_blind slot.len reply ≡ true
               → ruling_of op.moment (suc (last_of r)) op.act (if live then Some (held_as slot own) else None) ≡ Refused reply
           by true zeros blind = blind-held slot (unseen (Some slot)) own zeros-long own-long op.moment (suc (last_of r)) op.act reply zeros blind
           by false zeros blind = zeros
@@ -67,4 +71,5 @@ module _ (r : Replica) (store : Store) (op : Asked) where
     unneeded true true reading none =
         let empty : slot.len ≡ 0 = grind (arith, common_steps) in
         alike-same (is_touch op.act) (ruling_of op.moment (suc (last_of r)) op.act (Some (held_as slot (unseen (Some slot))))) _
-        (ap (λ (bytes : List ℕ). ruling_of op.moment (suc (last_of r)) op.act (Some (held_as slot bytes))) (same-empty slot (unseen (Some slot)) own zeros-long own-long empty))
+        (ap (λ (bytes : List ℕ). ruling_of op.moment (suc (last_of r)) op.act (Some (held_as slot bytes)))
+        (same-empty slot (unseen (Some slot)) own zeros-long own-long empty))

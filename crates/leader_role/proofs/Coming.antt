@@ -1,14 +1,18 @@
 -- What comes in for a session, marks that a row takes, and sessions that it forgets leave a process able to lead.
-use Rattle.std.proofs.Common.{ℕ, ◌≡◌, ◌≤◌, ◌==◌, nat_le, Bool, true, false, not, ◌&&◌, List, [], ◌∷◌, filter, Option, Some, None, is_some, if◌then◌else◌, Contains, refl, sym, subst, ◌∙◌}
+use Rattle.std.proofs.Common.{ℕ, ◌≡◌, ◌≤◌, ◌==◌, nat_le, Bool, true, false, not, ◌&&◌, List, [], ◌∷◌, filter, Option}
+use Rattle.std.proofs.Common.{Some, None, is_some, if◌then◌else◌, Contains, refl, sym, subst, ◌∙◌}
 use Rattle.std.proofs.lemmas.List.Elements.{All-filter, All-map, All-push, All-weaker}
 use Rattle.group_types.specs.Dimensions.{Dimensions}
 use Rattle.group_types.specs.Lists.{put}
 use Rattle.group_types.specs.Names.{same_process}
 use Rattle.group_types.specs.declared.process.ProcessId.TheVariants.{ParityNode}
 use Rattle.group_run.specs.Applying.{apply_to}
-use Rattle.group_run.specs.Leaders.{block_comes, block_gathered, copy_kept, copy_marked, gathered, gathered_when, is_complete, mark_comes, mark_taken, open_session, rebuilt_block, rebuilt_unless, row_comes, row_finished, row_gathered, with_decoded, with_leader, without_session}
+use Rattle.group_run.specs.Leaders.{block_comes, block_gathered, copy_kept, copy_marked, gathered, gathered_when}
+use Rattle.group_run.specs.Leaders.{is_complete, mark_comes, mark_taken, open_session, rebuilt_block, rebuilt_unless}
+use Rattle.group_run.specs.Leaders.{row_comes, row_finished, row_gathered, with_decoded, with_leader, without_session}
 use Rattle.group_run.specs.Process.{Copy, Gathering, LeaderState, Process}
-use Rattle.group_run.specs.Rows.{accepts_mark, begin_copy, copies_ceased, copy_begun, copy_in, is_copy, is_marked, marked, new_copy, parity_number, with_copies, without_copy}
+use Rattle.group_run.specs.Rows.{accepts_mark, begin_copy, copies_ceased, copy_begun, copy_in, is_copy, is_marked}
+use Rattle.group_run.specs.Rows.{marked, new_copy, parity_number, with_copies, without_copy}
 use Rattle.leader_role.specs.Sound.{AreStarted}
 use Rattle.leader_role.proofs.Finding.{found-all}
 use Rattle.leader_role.proofs.Steps.{AreRowed, OwnStarted, Stays, applied-stays, stays-alike, stays-self, stays-then, stays-when}
@@ -22,7 +26,9 @@ IsStarted p c = MayStart c.leader c.number p
 
 module _ (s : Dimensions) where
   -- what is decoded leaves all but the rebuilt blocks
-  decoded-leaves : {X : Type 0} (part : LeaderState → X) → ((rebuilt : List (List (Option (List ℕ)))) (state : LeaderState) → part (record state { rebuilt = rebuilt }) ≡ part state)
+  decoded-leaves : {X : Type 0} (part : LeaderState → X)
+      → ((rebuilt : List (List (Option (List ℕ)))) (state : LeaderState) → part (record state { rebuilt = rebuilt })
+      ≡ part state)
       → (g : Gathering) (ls : List ℕ) (state : LeaderState) → part (with_decoded s g ls state) ≡ part state
   decoded-leaves part leaves g [] state = refl
   decoded-leaves part leaves g (l ∷ ls) state =
@@ -33,18 +39,22 @@ module _ (s : Dimensions) where
       unless false = leaves (rebuilt_unless false s g l state).rebuilt state
 
   gathered-last : (complete : Bool) (g : Gathering) (state : LeaderState) → (gathered_when complete s g state).last_session ≡ state.last_session
-  gathered-last true g state = decoded-leaves (λ l. l.last_session) (λ blocks l. refl) g g.lost (record state { sessions = without_session g.number state.sessions })
+  gathered-last true g state = decoded-leaves (λ l. l.last_session) (λ blocks l. refl) g g.lost
+      (record state { sessions = without_session g.number state.sessions })
   gathered-last false g state = refl
 
   -- what comes in leaves the others
   gathered-rowed : (i : ℕ) (complete : Bool) (g : Gathering) (state : LeaderState) → Contains g.rows i → AreRowed i state.sessions
       → AreRowed i (gathered_when complete s g state).sessions
   gathered-rowed i true g state mine all =
-      subst (AreRowed i) (sym (decoded-leaves (λ l. l.sessions) (λ blocks l. refl) g g.lost (record state { sessions = without_session g.number state.sessions })))
+      subst (AreRowed i)
+      (sym (decoded-leaves (λ l. l.sessions) (λ blocks l. refl) g g.lost
+      (record state { sessions = without_session g.number state.sessions })))
       (All-filter (λ x. not (x.number == g.number)) (λ x. Contains x.rows i) state.sessions all)
   gathered-rowed i false g state mine all =
       All-map (λ x. Contains x.rows i) (λ x. if x.number == g.number then g else x) state.sessions
-      (All-weaker (λ x. Contains x.rows i) (λ x. Contains (if x.number == g.number then g else x).rows i) (λ x has. by (x.number == g.number) x has) state.sessions all)
+      (All-weaker (λ x. Contains x.rows i) (λ x. Contains (if x.number == g.number then g else x).rows i)
+      (λ x has. by (x.number == g.number) x has) state.sessions all)
     where
       by : (b : Bool) (x : Gathering) → Contains x.rows i → Contains (if b then g else x).rows i
       by true x has = mine
@@ -64,7 +74,8 @@ module _ (s : Dimensions) where
   }
 
   -- the open session of a number has more in
-  gathered-stays : (number : ℕ) (g more : Gathering) (p : Process) → open_session p.as_leader number ≡ Some g → more.rows ≡ g.rows → Stays p (with_leader (gathered s more p.as_leader) p)
+  gathered-stays : (number : ℕ) (g more : Gathering) (p : Process) → open_session p.as_leader number ≡ Some g
+      → more.rows ≡ g.rows → Stays p (with_leader (gathered s more p.as_leader) p)
   gathered-stays number g more p found same = led-stays p (gathered s more p.as_leader) (gathered-last (is_complete s more) more p.as_leader) (λ i all.
       let mine : Contains g.rows i = found-all (λ x. Contains x.rows i) (λ x. x.number == number) p.as_leader.sessions g found all in
       gathered-rowed i (is_complete s more) more p.as_leader (subst (λ (rows : List ℕ). Contains rows i) (sym same) mine) all)
@@ -93,7 +104,9 @@ module _ (s : Dimensions) where
   filtered-stays test p = stays-alike p _ refl refl refl refl (λ own. All-filter test (IsStarted p) p.as_row.copies own)
 
   pub cease-stays : (l upto : ℕ) (p : Process) → Stays p (copies_ceased l upto p)
-  cease-stays l upto p = stays-alike p _ refl refl refl refl (λ own. All-filter (λ c. not (c.leader == l && nat_le c.number upto)) (IsStarted p) p.as_row.copies own)
+  cease-stays l upto p =
+      stays-alike p _ refl refl refl refl (λ own. All-filter (λ c. not (c.leader == l && nat_le c.number upto))
+      (IsStarted p) p.as_row.copies own)
 
   kept-stays : (complete : Bool) (c : Copy) (p : Process) → (OwnStarted p → IsStarted p c) → Stays p (copy_kept complete s c p).process
   kept-stays true c p own =
@@ -126,4 +139,5 @@ module _ (s : Dimensions) where
       let to_q : Stays p q =
       stays-then p begun q (begun-stays (is_some (copy_in p.as_row.copies l number)) l number block p may) (applied-stays s d n begun) in
       stays-when (accepts_mark p l number r d) p (mark_taken s l number block d n p)
-      (stays-then p q (copy_marked s d n (copy_in q.as_row.copies l number) q).process to_q (marked-stays l number d n (copy_in q.as_row.copies l number) q refl))
+      (stays-then p q (copy_marked s d n (copy_in q.as_row.copies l number) q).process to_q
+      (marked-stays l number d n (copy_in q.as_row.copies l number) q refl))

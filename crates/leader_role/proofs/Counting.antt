@@ -1,5 +1,6 @@
 -- While no more than m are dead, there are rows for what is lost.
-use Rattle.std.proofs.Common.{ℕ, zero, suc, ◌≡◌, ◌≢◌, ◌+◌, ◌<◌, ◌≤◌, Bool, true, false, not, List, [], ◌∷◌, length, take, drop, filter, cond, if◌then◌else◌, All, Contains, refl, sym, ap, subst, ◌∙◌, arith}
+use Rattle.std.proofs.Common.{ℕ, zero, suc, ◌≡◌, ◌≢◌, ◌+◌, ◌<◌, ◌≤◌, Bool, true, false, not, List, [], ◌∷◌, length}
+use Rattle.std.proofs.Common.{take, drop, filter, cond, if◌then◌else◌, All, Contains, refl, sym, ap, subst, ◌∙◌, arith}
 use Rattle.std.proofs.lemmas.Bool.{and_parts}
 use Rattle.std.proofs.lemmas.List.{get_or-take}
 use Rattle.std.proofs.lemmas.List.Elements.{All-filter}
@@ -48,11 +49,13 @@ found-dead : (words : List Bool) (a n : ℕ) → length (filter (at false words)
 found-dead words a zero = omega arith
 found-dead words a (suc n) =
     let next : suc a ≡ a + 1 = omega arith in
-    by (at false words a) (found-dead words (a + 1) n) (count-step words a ∙ ap (λ (b : ℕ). (if at false words a then 1 else 0) + count_dead (drop b words)) next)
+    by (at false words a) (found-dead words (a + 1) n)
+    (count-step words a ∙ ap (λ (b : ℕ). (if at false words a then 1 else 0) + count_dead (drop b words)) next)
   where
     by : (b : Bool) → length (filter (at false words) (range_with_len (a + 1) n)) ≤ count_dead (drop (a + 1) words)
         → count_dead (drop a words) ≡ (if b then 1 else 0) + count_dead (drop (a + 1) words)
-        → length (cond b (a ∷ filter (at false words) (range_with_len (a + 1) n)) (filter (at false words) (range_with_len (a + 1) n))) ≤ count_dead (drop a words)
+        → length (cond b (a ∷ filter (at false words) (range_with_len (a + 1) n))
+        (filter (at false words) (range_with_len (a + 1) n))) ≤ count_dead (drop a words)
     by true rest step = omega (arith, rest, step)
     by false rest step = omega (arith, rest, step)
 

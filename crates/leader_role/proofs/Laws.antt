@@ -1,5 +1,6 @@
 -- A parity process can lead from the start, and after every step.
-use Rattle.std.proofs.Common.{ℕ, ◌≡◌, ◌+◌, ◌<◌, ◌≤◌, ◌==◌, suc, nat_le, Bool, true, false, List, [], ◌∷◌, find, length, Option, Some, None, is_some, Contains, refl, sym, ap, ◌∙◌, arith}
+use Rattle.std.proofs.Common.{ℕ, ◌≡◌, ◌+◌, ◌<◌, ◌≤◌, ◌==◌, suc, nat_le, Bool, true, false, List, [], ◌∷◌, find, length}
+use Rattle.std.proofs.Common.{Option, Some, None, is_some, Contains, refl, sym, ap, ◌∙◌, arith}
 use Rattle.std.proofs.lemmas.Bool.{and_parts, eqb-true}
 use Rattle.std.proofs.lemmas.List.Elements.{All-nil}
 use Rattle.std.specs.List.{range_with_len}
@@ -20,7 +21,8 @@ use Rattle.group_message.specs.declared.message.Message.TheVariants as tells
 use Rattle.group_message.specs.declared.message.Session.{Session}
 use Rattle.group_message.specs.declared.update.Update.{Update}
 use Rattle.group_run.specs.Applying.{ProcessStep, apply_to, head_at, held_at, quiet, replica_of, with_replica}
-use Rattle.group_run.specs.Asking.{act_on, ask_head, ask_process, collect_from, collect_held, found_at, handed_out, is_call, issued, oldest_inherited, ticketed, update_of}
+use Rattle.group_run.specs.Asking.{act_on, ask_head, ask_process, collect_from, collect_held, found_at, handed_out}
+use Rattle.group_run.specs.Asking.{is_call, issued, oldest_inherited, ticketed, update_of}
 use Rattle.group_run.specs.Deciding.{decide}
 use Rattle.group_run.specs.Fitting.{Fits}
 use Rattle.group_run.specs.Heading.{judge}
@@ -88,11 +90,13 @@ module _ (s : Dimensions) where
       let q : Process = with_replica d (with_update u (replica_of p d)) p in
       stays-then p q (judge s d q).process (stays-alike p q refl refl refl refl (λ own. own)) (judge-stays s d q)
 
-  ticketed-stays : (at_once : Bool) (d : ℕ) (u : Update) (p : Process) (step : ProcessStep) → Stays p step.process → Stays p (ticketed at_once d u step).step.process
+  ticketed-stays : (at_once : Bool) (d : ℕ) (u : Update) (p : Process) (step : ProcessStep) → Stays p step.process
+      → Stays p (ticketed at_once d u step).step.process
   ticketed-stays true d u p step stays = stays
   ticketed-stays false d u p step stays = stays-then p step.process _ stays (stays-alike step.process _ refl refl refl refl (λ own. own))
 
-  acted-sound : (name : CallName) (op : Asked) (d : ℕ) (h : Head) (p : Process) (decision : Decision) → CanLead s p → Contains (rows_of s p) (parity_number p.name)
+  acted-sound : (name : CallName) (op : Asked) (d : ℕ) (h : Head) (p : Process) (decision : Decision) → CanLead s p
+      → Contains (rows_of s p) (parity_number p.name)
       → CanLead s (act_on s name op d h p decision).step.process
   acted-sound name op d h p (decides.Answer r) sound mine = sound
   acted-sound name op d h p (decides.Retry n) sound mine = sound
@@ -123,7 +127,8 @@ module _ (s : Dimensions) where
     handed true h = stays-alike p _ refl refl refl refl (λ own. own)
     handed false h = stays-self p
 
-    by : (o : Option Held) → CanLead s (collect_from caller call p ds).step.process → CanLead s (collect_held d o p (collect_from caller call p ds)).step.process
+    by : (o : Option Held) → CanLead s (collect_from caller call p ds).step.process
+        → CanLead s (collect_held d o p (collect_from caller call p ds)).step.process
     by None rest = rest
     by (Some h) rest = sound-stays s p _ (handed (nat_le h.number (replica_of p d).applied) h) sound
 

@@ -28,7 +28,8 @@ module _ (s : Dimensions) where
     pub sessions : q.as_leader.sessions ≡ []
     pub copies : OwnStarted p → OwnStarted q
 
-  bereaved-sound : (dead : ProcessId) (p q : Process) → IsBereaved dead p q → NoticeFits s p dead → lost_of (with_dead p.known dead) ≤ s.m → CanLead s p → CanLead s q
+  bereaved-sound : (dead : ProcessId) (p q : Process) → IsBereaved dead p q → NoticeFits s p dead
+      → lost_of (with_dead p.known dead) ≤ s.m → CanLead s p → CanLead s q
   bereaved-sound dead p q is fits few sound = record {
     limits = sound.limits;
     named = (sound.named.0, is.name ∙ sound.named.1, sound.named.2);

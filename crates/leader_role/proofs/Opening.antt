@@ -1,5 +1,6 @@
 -- A leader can start a session, and is one of its rows.
-use Rattle.std.proofs.Common.{ℕ, suc, ◌≡◌, ◌<◌, ◌≤◌, ◌==◌, Bool, true, false, not, List, [], ◌∷◌, length, filter, Option, Some, None, Contains, sym, ap, ◌∙◌, arith}
+use Rattle.std.proofs.Common.{ℕ, suc, ◌≡◌, ◌<◌, ◌≤◌, ◌==◌, Bool, true, false, not, List, [], ◌∷◌, length, filter}
+use Rattle.std.proofs.Common.{Option, Some, None, Contains, sym, ap, ◌∙◌, arith}
 use Rattle.std.proofs.lemmas.List.{length-take-le}
 use Rattle.std.proofs.lemmas.List.Elements.{All-push, All-take, All-weaker}
 use Rattle.std.specs.List.{list_any, range_with_len}
@@ -45,7 +46,8 @@ module _ (s : Dimensions) (p : Process) (sound : CanLead s p) where
       front-taken (length (lost_of s p)) i left front.0 (some-lost d vacant inside) front.1
 
   -- with a session more
-  opened-sound : (number block : ℕ) → p.as_leader.last_session ≤ number → Contains (rows_of s p) (parity_number p.name) → CanLead s (session_opened s number block p)
+  opened-sound : (number block : ℕ) → p.as_leader.last_session ≤ number → Contains (rows_of s p) (parity_number p.name)
+      → CanLead s (session_opened s number block p)
   opened-sound number block later mine = record {
     limits = sound.limits;
     named = sound.named;

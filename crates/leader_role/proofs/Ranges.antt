@@ -1,5 +1,6 @@
 -- What is made of those that are found in a range, one by one.
-use Rattle.std.proofs.Common.{ℕ, suc, ◌≡◌, ◌+◌, ◌-◌, ◌<◌, ◌≤◌, Bool, true, false, List, [], ◌∷◌, ◌++◌, length, filter, map, take, slice_index_or, cond, sym, ap, ◌∙◌, arith}
+use Rattle.std.proofs.Common.{ℕ, suc, ◌≡◌, ◌+◌, ◌-◌, ◌<◌, ◌≤◌, Bool, true, false, List, [], ◌∷◌, ◌++◌, length, filter}
+use Rattle.std.proofs.Common.{map, take, slice_index_or, cond, sym, ap, ◌∙◌, arith}
 use Rattle.std.proofs.lemmas.List.{append_assoc, length-take, take-append-le}
 use Rattle.std.specs.List.{range_with_len}
 use Rattle.group_types.specs.Lists.{at}
@@ -23,7 +24,8 @@ module _ (f : ℕ → Bool) (n i : ℕ) (within : i < n) where
 
   -- the next passes, and what is made of it is added
   pub added : {X : Type 0} (made : List ℕ → List X) (done now one all : List X) → f i ≡ true → now ≡ done ++ one
-      → made (i ∷ found_from f n (i + 1)) ≡ one ++ made (found_from f n (i + 1)) → done ++ made (found_from f n i) ≡ all → now ++ made (found_from f n (i + 1)) ≡ all
+      → made (i ∷ found_from f n (i + 1)) ≡ one ++ made (found_from f n (i + 1)) → done ++ made (found_from f n i) ≡ all
+      → now ++ made (found_from f n (i + 1)) ≡ all
   added made done now one all passes grown first is =
       ap (λ (xs : List _). xs ++ made (found_from f n (i + 1))) grown
       ∙ append_assoc done one (made (found_from f n (i + 1)))

@@ -1,6 +1,7 @@
 -- The steps of a process that let it lead: each leaves its name, whom it knows to be dead, and what it heads, or
 -- takes over what is vacant; its sessions keep their rows, and copies for its own sessions are for those that it started.
-use Rattle.std.proofs.Common.{ℕ, suc, ◌≡◌, ◌≢◌, ◌≤◌, ◌==◌, ◌⊎◌, Bool, true, false, List, [], ◌∷◌, map, if◌then◌else◌, Option, Some, None, is_some, All, Contains, inl, inr, refl, sym, ap, subst, ◌∙◌}
+use Rattle.std.proofs.Common.{ℕ, suc, ◌≡◌, ◌≢◌, ◌≤◌, ◌==◌, ◌⊎◌, Bool, true, false, List, [], ◌∷◌, map, if◌then◌else◌}
+use Rattle.std.proofs.Common.{Option, Some, None, is_some, All, Contains, inl, inr, refl, sym, ap, subst, ◌∙◌}
 use Rattle.std.proofs.lemmas.Bool.{cases_eq}
 use Rattle.std.proofs.lemmas.List.Elements.{All-map, All-weaker}
 use Rattle.group_types.specs.Dimensions.{Dimensions}
@@ -37,7 +38,8 @@ pub record Stays (p q : Process) : Type 0 where
   pub copies : OwnStarted p → OwnStarted q
 
 -- where the name, the known dead, the heads and the leader's part stay
-pub stays-alike : (p q : Process) → q.name ≡ p.name → q.known ≡ p.known → q.heads ≡ p.heads → q.as_leader ≡ p.as_leader → (OwnStarted p → OwnStarted q) → Stays p q
+pub stays-alike : (p q : Process) → q.name ≡ p.name → q.known ≡ p.known → q.heads ≡ p.heads → q.as_leader ≡ p.as_leader
+    → (OwnStarted p → OwnStarted q) → Stays p q
 stays-alike p q name known heads leader copies = record {
   name = name;
   known = known;
@@ -60,7 +62,8 @@ stays-then p q r a b = record {
   copies = λ own. b.copies (a.copies own);
 }
 
-pub stays-each : (f : ℕ → Process → ProcessStep) → ((x : ℕ) (q : Process) → Stays q (f x q).process) → (xs : List ℕ) (p : Process) → Stays p (for_each xs f p).process
+pub stays-each : (f : ℕ → Process → ProcessStep) → ((x : ℕ) (q : Process) → Stays q (f x q).process)
+    → (xs : List ℕ) (p : Process) → Stays p (for_each xs f p).process
 stays-each f each [] p = stays-self p
 stays-each f each (x ∷ xs) p = stays-then p (f x p).process (for_each xs f (f x p).process).process (each x p) (stays-each f each xs (f x p).process)
 
@@ -87,10 +90,12 @@ module _ (s : Dimensions) where
     vacant_of : (d : ℕ) (known : Membership) (name : ProcessId) → known ≡ p.known → name ≡ p.name → IsVacant p.known d (parity_number p.name)
         → IsVacant known d (parity_number name)
     vacant_of d known name is named vacant =
-        subst (λ (x : Membership). IsVacant x d (parity_number name)) (sym is) (subst (λ (x : ProcessId). IsVacant p.known d (parity_number x)) (sym named) vacant)
+        subst (λ (x : Membership). IsVacant x d (parity_number name)) (sym is)
+        (subst (λ (x : ProcessId). IsVacant p.known d (parity_number x)) (sym named) vacant)
 
   -- copies stay for their sessions while updates are applied
-  copies-applied : (name : ProcessId) (d i n : ℕ) (us : List Update) (copies : List Copy) → AreStarted i n copies → AreStarted i n (map (copy_after s name d us) copies)
+  copies-applied : (name : ProcessId) (d i n : ℕ) (us : List Update) (copies : List Copy) → AreStarted i n copies
+      → AreStarted i n (map (copy_after s name d us) copies)
   copies-applied name d i n us copies all =
       All-map (λ c. c.leader ≡ i → c.number ≤ n) (copy_after s name d us) copies
       (All-weaker (λ c. c.leader ≡ i → c.number ≤ n) (λ c. (copy_after s name d us c).leader ≡ i → (copy_after s name d us c).number ≤ n)
@@ -167,10 +172,12 @@ module _ (s : Dimensions) where
     q = enthroned s (suc (parity_number p.name)) d p
 
     by : (b : Bool) → takes_over p d p.name ≡ b → CanLead s (when b p (taken_over s d p)).process
-    by true takes = sound-stays q (judge s d q).process (judge-stays d q) (enthroned-sound (suc (parity_number p.name)) d p (taken-vacant p d p.name takes) sound)
+    by true takes = sound-stays q (judge s d q).process (judge-stays d q)
+        (enthroned-sound (suc (parity_number p.name)) d p (taken-vacant p d p.name takes) sound)
     by false takes = sound
 
-  pub each-sound : (f : ℕ → Process → ProcessStep) → ((x : ℕ) (q : Process) → CanLead s q → CanLead s (f x q).process) → (xs : List ℕ) (p : Process) → CanLead s p
+  pub each-sound : (f : ℕ → Process → ProcessStep) → ((x : ℕ) (q : Process) → CanLead s q → CanLead s (f x q).process)
+      → (xs : List ℕ) (p : Process) → CanLead s p
       → CanLead s (for_each xs f p).process
   each-sound f each [] p sound = sound
   each-sound f each (x ∷ xs) p sound = each-sound f each xs (f x p).process (each x p sound)

@@ -1,5 +1,7 @@
 -- Fields that messages don't have are read exactly where they are spelled.
-use Rattle.std.proofs.Common.{◌≡◌, ◌≤◌, ◌<◌, ℕ, ◌+◌, ◌-◌, ◌^◌, ℤ, pos, negsuc, Bool, true, false, nat_lt, nat_le, if◌then◌else◌, List, [], ◌∷◌, ◌++◌, length, Option, Some, refl, sym, ap, subst, ◌∙◌, append_assoc, arith}
+use Rattle.std.proofs.Common.{◌≡◌, ◌≤◌, ◌<◌, ℕ, ◌+◌, ◌-◌, ◌^◌, ℤ, pos, negsuc, Bool, true, false, nat_lt, nat_le}
+use Rattle.std.proofs.Common.{if◌then◌else◌, List, [], ◌∷◌, ◌++◌, length, Option, Some, refl, sym, ap, subst, ◌∙◌}
+use Rattle.std.proofs.Common.{append_assoc, arith}
 use Rattle.std.specs.Int.{w64}
 use Rattle.std.proofs.lemmas.Bool.Decides.{nat_tests}
 use Rattle.std.proofs.lemmas.List.{append-nil}
@@ -14,9 +16,11 @@ use Rattle.link_frames.specs.Spelling.{signed, unsigned, flag_byte}
 use Rattle.link_frames.specs.Texts.{number_with_sign, signed_at, value_at, flag_table, flag_at}
 
 -- what a first byte tells is read again
-pub again_as : {X : Type 0} (spell : X → List ℕ) (table : List (ℕ × Read X)) (tag : ℕ) (read : Read X) (x : X) (text rest : List ℕ) → spell x ≡ tag ∷ text → picked table tag ≡ read → read (text ++ rest) ≡ Some (x, rest)
+pub again_as : {X : Type 0} (spell : X → List ℕ) (table : List (ℕ × Read X)) (tag : ℕ) (read : Read X) (x : X)
+    (text rest : List ℕ) → spell x ≡ tag ∷ text → picked table tag ≡ read → read (text ++ rest) ≡ Some (x, rest)
     → tagged_at table (spell x ++ rest) ≡ Some (x, rest)
-again_as {X = X} spell table tag read x text rest same is again = ap (λ (t : List ℕ). tagged_at table (t ++ rest)) same ∙ ap (λ (r : Read X). r (text ++ rest)) is ∙ again
+again_as {X = X} spell table tag read x text rest same is again = ap (λ (t : List ℕ). tagged_at table (t ++ rest)) same
+    ∙ ap (λ (r : Read X). r (text ++ rest)) is ∙ again
 
 back_by : (b : Bool) (n : ℕ) → nat_lt n (2 ^ 63) ≡ b → n < 2 ^ 64 → unsigned (if b then pos n else negsuc (2 ^ 64 - 1 - n)) ≡ n
 back_by true n is lt = refl
@@ -64,7 +68,8 @@ codes_signed = record { takes = signed_takes; again = signed_reads }
 
 pub codes_value : Codes long FitsValue value_at
 unfolding value_at
-codes_value = codes_tested long IsLong FitsValue long_at (λ value. nat_le (length value) most_space) codes_long (λ v fits passes. grind (arith, nat_tests)) (λ v fits. omega (arith, fits)) (λ v fits. grind (arith, nat_tests))
+codes_value = codes_tested long IsLong FitsValue long_at (λ value. nat_le (length value) most_space) codes_long
+    (λ v fits passes. grind (arith, nat_tests)) (λ v fits. omega (arith, fits)) (λ v fits. grind (arith, nat_tests))
 
 abbrev pub IsFlag : Bool → Type 0
 IsFlag b = Unit {0}

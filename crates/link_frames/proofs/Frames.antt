@@ -1,5 +1,6 @@
 -- Each text is of one frame.
-use Rattle.std.proofs.Common.{◌≡◌, ◌≤◌, ◌<◌, ℕ, ◌^◌, Bool, true, false, nat_lt, cond, List, [], ◌∷◌, ◌++◌, length, Option, Some, None, refl, sym, ap, subst, ◌∙◌, append_assoc, arith}
+use Rattle.std.proofs.Common.{◌≡◌, ◌≤◌, ◌<◌, ℕ, ◌^◌, Bool, true, false, nat_lt, cond, List, [], ◌∷◌, ◌++◌, length}
+use Rattle.std.proofs.Common.{Option, Some, None, refl, sym, ap, subst, ◌∙◌, append_assoc, arith}
 use Rattle.std.specs.List.{AllByRecursion}
 use Rattle.std.specs.Int.{w32, w64}
 use Rattle.std.proofs.lemmas.Bool.Decides.{nat_tests}
@@ -40,32 +41,41 @@ abbrev Spelled : Dimensions → ℕ × Read Frame → Type 0
 Spelled s entry = TakesAs own_text (Own s) entry
 
 takes_hello : (s : Dimensions) → Spelled s (11, made_at carries.Hello hello_at)
-takes_hello s = takes_made own_text (Own s) (11 ∷ []) (λ h. carries.Hello h) codes_hello (λ h. append-nil (11 ∷ hello h)) (λ h fits. (record { fits = fits; known = tt }, tt))
+takes_hello s = takes_made own_text (Own s) (11 ∷ []) (λ h. carries.Hello h) codes_hello
+    (λ h. append-nil (11 ∷ hello h)) (λ h fits. (record { fits = fits; known = tt }, tt))
 
 abbrev IsKnown : Dimensions → ℕ → Type 0
 IsKnown s names = (names < 2 ^ processes_of s) × IsFour names
 
 codes_names : (s : Dimensions) → Codes four (IsKnown s) (tested_at (λ names. nat_lt names (2 ^ processes_of s)) (number_at w32))
-codes_names s = codes_tested four IsFour (IsKnown s) (number_at w32) (λ names. nat_lt names (2 ^ processes_of s)) codes_four (λ n fits passes. (grind (arith, nat_tests), fits)) (λ n fits. fits.1) (λ n fits. let below = fits.0 in grind (arith, nat_tests))
+codes_names s = codes_tested four IsFour (IsKnown s) (number_at w32) (λ names. nat_lt names (2 ^ processes_of s))
+    codes_four (λ n fits passes. (grind (arith, nat_tests), fits)) (λ n fits. fits.1) (λ n fits. let below = fits.0 in
+    grind (arith, nat_tests))
 
 takes_said : (s : Dimensions) → Spelled s (12, said_at s)
 unfolding said_at
-takes_said s = takes_made own_text (Own s) (12 ∷ []) said_names (codes_names s) (λ n. append-nil (12 ∷ four n)) (λ n fits. (record { fits = fits.1; known = fits.0 }, tt))
+takes_said s = takes_made own_text (Own s) (12 ∷ []) said_names (codes_names s) (λ n. append-nil (12 ∷ four n))
+    (λ n fits. (record { fits = fits.1; known = fits.0 }, tt))
 
 takes_ping : (s : Dimensions) → Spelled s (13, made_at Ping (number_at w64))
-takes_ping s = takes_made own_text (Own s) (13 ∷ []) (λ n. Ping n) codes_eight (λ n. append-nil (13 ∷ eight n)) (λ n fits. (record { fits = fits; known = tt }, tt))
+takes_ping s = takes_made own_text (Own s) (13 ∷ []) (λ n. Ping n) codes_eight (λ n. append-nil (13 ∷ eight n))
+    (λ n fits. (record { fits = fits; known = tt }, tt))
 
 takes_pong : (s : Dimensions) → Spelled s (14, made_at Pong (number_at w64))
-takes_pong s = takes_made own_text (Own s) (14 ∷ []) (λ n. Pong n) codes_eight (λ n. append-nil (14 ∷ eight n)) (λ n fits. (record { fits = fits; known = tt }, tt))
+takes_pong s = takes_made own_text (Own s) (14 ∷ []) (λ n. Pong n) codes_eight (λ n. append-nil (14 ∷ eight n))
+    (λ n fits. (record { fits = fits; known = tt }, tt))
 
 -- a request's reader behind its kind, as one of a frame
-takes_request : (s : Dimensions) (tag : ℕ) (read : Read wire.Request) → TakesAs request (λ r. Own s (Request r)) (tag, read) → Spelled s (tag, made_at Request read)
+takes_request : (s : Dimensions) (tag : ℕ) (read : Read wire.Request)
+    → TakesAs request (λ r. Own s (Request r)) (tag, read) → Spelled s (tag, made_at Request read)
 takes_request s tag read takes bytes f rest is e =
     let b = bind_some (read bytes) (λ x. Some (Request x.0, x.1)) (f, rest) e in
     let t = takes bytes b.0.0 b.0.1 is b.1 in
-    subst (λ (p : Frame × List ℕ). Took own_text (Own s) (tag ∷ bytes) p.0 p.1) (some_is (Request b.0.0, b.0.1) (f, rest) b.2) (record { parts = t.parts; fits = t.fits; behind = t.behind })
+    subst (λ (p : Frame × List ℕ). Took own_text (Own s) (tag ∷ bytes) p.0 p.1)
+    (some_is (Request b.0.0, b.0.1) (f, rest) b.2) (record { parts = t.parts; fits = t.fits; behind = t.behind })
 
-linked : (s : Dimensions) (tag : ℕ) (read : Read wire.Request) → TakesAs request (λ r. FitsLink (Request r)) (tag, read) → TakesAs request (λ r. Own s (Request r)) (tag, read)
+linked : (s : Dimensions) (tag : ℕ) (read : Read wire.Request) → TakesAs request (λ r. FitsLink (Request r)) (tag, read)
+    → TakesAs request (λ r. Own s (Request r)) (tag, read)
 linked s tag read takes bytes r rest is e =
     let t = takes bytes r rest is e in
     record { parts = t.parts; fits = (record { fits = t.fits; known = tt }, tt); behind = t.behind }
@@ -74,30 +84,60 @@ takes_told : (s : Dimensions) → Spelled s (17, made_at Told telling_at)
 takes_told s = takes_made own_text (Own s) (17 ∷ []) (λ t. Told t) codes_told (λ t. refl) (λ t fits. (record { fits = fits; known = tt }, tt))
 
 all_link_kinds : (s : Dimensions) → AllByRecursion (Spelled s) (link_kinds s)
-all_link_kinds s = (takes_hello s, (takes_said s, (takes_ping s, (takes_pong s, (takes_request s 15 ask_at (linked s 15 ask_at takes_ask), (takes_request s 16 trace_at (linked s 16 trace_at takes_trace), (takes_told s, tt)))))))
+all_link_kinds s = (
+  takes_hello s,
+  (
+    takes_said s,
+    (
+      takes_ping s,
+      (
+        takes_pong s,
+        (
+          takes_request s 15 ask_at (linked s 15 ask_at takes_ask),
+          (takes_request s 16 trace_at (linked s 16 trace_at takes_trace), (takes_told s, tt)),
+        ),
+      ),
+    ),
+  ),
+)
 
-frame_takes : (s : Dimensions) (bytes : List ℕ) (f : Frame) (rest : List ℕ) → IsBytes bytes → frame_at s bytes ≡ Some (f, rest) → Took own_text (Own s) bytes f rest
+frame_takes : (s : Dimensions) (bytes : List ℕ) (f : Frame) (rest : List ℕ) → IsBytes bytes
+    → frame_at s bytes ≡ Some (f, rest) → Took own_text (Own s) bytes f rest
 unfolding frame_at
 frame_takes s bytes f rest is e = tagged_takes own_text (Own s) (link_kinds s) (all_link_kinds s) bytes f rest is e
 
 -- what was spelled is read again
 
-frame_made : {X : Type 0} {spell : X → List ℕ} {Fits : X → Type 0} {read : Read X} (make : X → Frame) → Codes spell Fits read → (x : X) (rest : List ℕ) → Fits x → made_at make read (spell x ++ rest) ≡ Some (make x, rest)
+frame_made : {X : Type 0} {spell : X → List ℕ} {Fits : X → Type 0} {read : Read X} (make : X → Frame)
+    → Codes spell Fits read → (x : X) (rest : List ℕ) → Fits x → made_at make read (spell x ++ rest)
+    ≡ Some (make x, rest)
 frame_made make codes x rest fits = rw (codes.again x rest fits) refl
 
 own_again : (s : Dimensions) (f : Frame) (rest : List ℕ) → Own s f → frame_at s (own_text f ++ rest) ≡ Some (f, rest)
 unfolding frame_at said_at
 own_again s (Message m) rest own = absurd own.1
-own_again s (carries.Hello h) rest own = again_as own_text (link_kinds s) 11 (made_at (λ h. carries.Hello h) hello_at) (carries.Hello h) (hello h) rest (append-nil (11 ∷ hello h)) refl (frame_made (λ h. carries.Hello h) codes_hello h rest own.0.fits)
+own_again s (carries.Hello h) rest own = again_as own_text (link_kinds s) 11 (made_at (λ h. carries.Hello h) hello_at)
+    (carries.Hello h) (hello h) rest (append-nil (11 ∷ hello h)) refl
+    (frame_made (λ h. carries.Hello h) codes_hello h rest own.0.fits)
 own_again s (Said names) rest own =
-    again_as own_text (link_kinds s) 12 (made_at said_names (tested_at (λ names. nat_lt names (2 ^ processes_of s)) (number_at w32))) (Said names) (four names.0) rest (append-nil (12 ∷ four names.0)) refl (frame_made said_names (codes_names s) names.0 rest (own.0.known, own.0.fits))
-own_again s (Ping n) rest own = again_as own_text (link_kinds s) 13 (made_at (λ n. Ping n) (number_at w64)) (Ping n) (eight n) rest (append-nil (13 ∷ eight n)) refl (frame_made (λ n. Ping n) codes_eight n rest own.0.fits)
-own_again s (Pong n) rest own = again_as own_text (link_kinds s) 14 (made_at (λ n. Pong n) (number_at w64)) (Pong n) (eight n) rest (append-nil (14 ∷ eight n)) refl (frame_made (λ n. Pong n) codes_eight n rest own.0.fits)
+    again_as own_text (link_kinds s) 12
+    (made_at said_names (tested_at (λ names. nat_lt names (2 ^ processes_of s)) (number_at w32))) (Said names)
+    (four names.0) rest (append-nil (12 ∷ four names.0)) refl
+    (frame_made said_names (codes_names s) names.0 rest (own.0.known, own.0.fits))
+own_again s (Ping n) rest own = again_as own_text (link_kinds s) 13 (made_at (λ n. Ping n) (number_at w64)) (Ping n)
+    (eight n) rest (append-nil (13 ∷ eight n)) refl (frame_made (λ n. Ping n) codes_eight n rest own.0.fits)
+own_again s (Pong n) rest own = again_as own_text (link_kinds s) 14 (made_at (λ n. Pong n) (number_at w64)) (Pong n)
+    (eight n) rest (append-nil (14 ∷ eight n)) refl (frame_made (λ n. Pong n) codes_eight n rest own.0.fits)
 own_again s (Request (wire.AskFor caller call op)) rest own =
-    again_as own_text (link_kinds s) 15 (made_at (λ r. Request r) ask_at) (Request (wire.AskFor caller call op)) (one caller ++ eight call ++ asked op) rest (same_ask caller call op) refl (rw (ask_again caller call op rest own.0.fits) refl)
+    again_as own_text (link_kinds s) 15 (made_at (λ r. Request r) ask_at) (Request (wire.AskFor caller call op))
+    (one caller ++ eight call ++ asked op) rest (same_ask caller call op) refl
+    (rw (ask_again caller call op rest own.0.fits) refl)
 own_again s (Request (wire.TraceOf caller call d)) rest own =
-    again_as own_text (link_kinds s) 16 (made_at (λ r. Request r) trace_at) (Request (wire.TraceOf caller call d)) (one caller ++ eight call ++ one d) rest (same_trace caller call d) refl (rw (trace_again caller call d rest own.0.fits) refl)
-own_again s (Told t) rest own = again_as own_text (link_kinds s) 17 (made_at (λ t. Told t) telling_at) (Told t) (told t) rest refl refl (frame_made (λ t. Told t) codes_told t rest own.0.fits)
+    again_as own_text (link_kinds s) 16 (made_at (λ r. Request r) trace_at) (Request (wire.TraceOf caller call d))
+    (one caller ++ eight call ++ one d) rest (same_trace caller call d) refl
+    (rw (trace_again caller call d rest own.0.fits) refl)
+own_again s (Told t) rest own = again_as own_text (link_kinds s) 17 (made_at (λ t. Told t) telling_at) (Told t) (told t)
+    rest refl refl (frame_made (λ t. Told t) codes_told t rest own.0.fits)
 
 -- a message that isn't a notice has a kind below 10
 kind_below : (m : messages.Message) → (¬ (IsNotice m)) → nat_lt (kind_of m) 10 ≡ true
@@ -154,7 +194,9 @@ ended : (x : Frame × List ℕ) (f : Frame) → to_end x ≡ Some f → (x.0 ≡
 ended (g, []) f e = (some_is g f e, refl)
 ended (g, b ∷ rest) f e = absurd cc
 
-message_takes : (s : Dimensions) (text : List ℕ) (f : Frame) → IsBytes text → length text ≤ most → is_message text ≡ true → (message_of text >>= (λ m. one_frame (Message m))) ≡ Some f → (text ≡ link_text f) × HasLink s f
+message_takes : (s : Dimensions) (text : List ℕ) (f : Frame) → IsBytes text → length text ≤ most
+    → is_message text ≡ true → (message_of text >>= (λ m. one_frame (Message m))) ≡ Some f → (text ≡ link_text f)
+    × HasLink s f
 message_takes s text f is short kind e =
     let b = bind_some (message_of text) (λ m. one_frame (Message m)) f e in
     let t = text_takes text b.0 is b.1 in
@@ -170,10 +212,13 @@ own_takes s text f is e =
     let whole : text ≡ own_text b.0.0 = t.parts ∙ ap (λ (rest : List ℕ). own_text b.0.0 ++ rest) last.1 ∙ append-nil (own_text b.0.0) in
     subst (λ (g : Frame). (text ≡ link_text g) × HasLink s g) last.0 (whole ∙ own_is_link b.0.0 t.fits.1, t.fits.0)
 
-takes_by : (b : Bool) (s : Dimensions) (text : List ℕ) (f : Frame) → is_message text ≡ b → IsBytes text → length text ≤ most → cond b (message_of text >>= (λ m. one_frame (Message m))) (frame_at s text >>= to_end) ≡ Some f → (text ≡ link_text f) × HasLink s f
+takes_by : (b : Bool) (s : Dimensions) (text : List ℕ) (f : Frame) → is_message text ≡ b → IsBytes text
+    → length text ≤ most → cond b (message_of text >>= (λ m. one_frame (Message m))) (frame_at s text >>= to_end)
+    ≡ Some f → (text ≡ link_text f) × HasLink s f
 takes_by true s text f kind is short e = message_takes s text f is short kind e
 takes_by false s text f kind is short e = own_takes s text f is e
 
-pub link_takes : (s : Dimensions) (text : List ℕ) (f : Frame) → IsBytes text → length text ≤ most → frame_in s text ≡ Some f → (text ≡ link_text f) × HasLink s f
+pub link_takes : (s : Dimensions) (text : List ℕ) (f : Frame) → IsBytes text → length text ≤ most
+    → frame_in s text ≡ Some f → (text ≡ link_text f) × HasLink s f
 unfolding frame_in
 link_takes s text f is short e = takes_by (is_message text) s text f refl is short e

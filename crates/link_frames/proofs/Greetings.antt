@@ -1,5 +1,6 @@
 -- A greeting is read exactly where it is spelled.
-use Rattle.std.proofs.Common.{◌≡◌, ◌≤◌, ◌<◌, ℕ, ◌*◌, ◌==◌, ◌&&◌, nat_le, Bool, true, false, eqb, cond, List, [], ◌∷◌, ◌++◌, length, Option, Some, None, refl, sym, ap, subst, ◌∙◌, append_assoc, arith}
+use Rattle.std.proofs.Common.{◌≡◌, ◌≤◌, ◌<◌, ℕ, ◌*◌, ◌==◌, ◌&&◌, nat_le, Bool, true, false, eqb, cond, List, [], ◌∷◌}
+use Rattle.std.proofs.Common.{◌++◌, length, Option, Some, None, refl, sym, ap, subst, ◌∙◌, append_assoc, arith}
 use Rattle.std.specs.Int.{w16, w32, w64, is_power_of_two}
 use Rattle.std.proofs.lemmas.Bool.{eqb-true, eq-eqb}
 use Rattle.std.proofs.lemmas.Bool.Decides.{nat_tests}
@@ -13,7 +14,8 @@ use Rattle.group_types.specs.declared.process.ProcessId.{ProcessId}
 use Rattle.wire_codec.specs.Fits.{IsOne, IsTwo, IsFour, IsEight, FitsProcess}
 use Rattle.wire_codec.specs.Frame.{one, two, four, eight, process}
 use Rattle.wire_codec.specs.Reading.{◌>>=◌, Read, one_at, number_at, of_two, of_four, of_five, tested_at, process_at}
-use Rattle.wire_codec.proofs.Codes.{IsBytes, Took, Codes, step, join, codes_one, codes_two, codes_four, codes_eight, codes_tested, takes_two, takes_four, takes_five, again_two, again_four, again_five}
+use Rattle.wire_codec.proofs.Codes.{IsBytes, Took, Codes, step, join, codes_one, codes_two, codes_four, codes_eight}
+use Rattle.wire_codec.proofs.Codes.{codes_tested, takes_two, takes_four, takes_five, again_two, again_four, again_five}
 use Rattle.wire_codec.proofs.Spelled.{codes_process}
 use Rattle.link_frames.specs.declared.hello.Hello.{Hello}
 use Rattle.link_frames.specs.declared.hello.GroupId.{GroupId}
@@ -61,7 +63,8 @@ le_is a b is = grind (arith, nat_tests)
 
 pub passes_is_shape : (s : Dimensions) → passes_shape s ≡ true → IsShape s
 passes_is_shape s passes =
-    let all = all_eight (nat_le 1 s.k) (nat_le s.k 16) (nat_le s.m 4) (nat_le 16 s.block) (nat_le s.block 65536) (is_power_of_two s.block) (nat_le 1 s.blocks) (nat_le (space_of s) most_space) passes in
+    let all = all_eight (nat_le 1 s.k) (nat_le s.k 16) (nat_le s.m 4) (nat_le 16 s.block) (nat_le s.block 65536)
+    (is_power_of_two s.block) (nat_le 1 s.blocks) (nat_le (space_of s) most_space) passes in
     record {
       k = (le_is 1 s.k all.is_a, le_is s.k 16 all.is_b);
       m = le_is s.m 4 all.is_c;
@@ -90,7 +93,9 @@ numbers_fit s is =
 
 codes_shape : Codes dimensions IsShape shape_at
 unfolding shape_at
-codes_shape = codes_tested dimensions FitsNumbers IsShape (of_four dimensions_by one_at one_at (number_at w32) (number_at w32)) passes_shape codes_dimensions (λ s fits passes. passes_is_shape s passes) numbers_fit shape_passes
+codes_shape = codes_tested dimensions FitsNumbers IsShape
+    (of_four dimensions_by one_at one_at (number_at w32) (number_at w32)) passes_shape codes_dimensions
+    (λ s fits passes. passes_is_shape s passes) numbers_fit shape_passes
 
 abbrev group : GroupId → List ℕ
 group id = eight id.high ++ eight id.low
@@ -127,15 +132,18 @@ codes_ends = record {
 codes_greeting : Codes greeting FitsHello greeting_at
 unfolding greeting_at
 codes_greeting = record {
-  takes = takes_five greeting FitsHello [] hello_by codes_two codes_group codes_shape codes_ends codes_eight (λ a b c d e. refl) (λ a b c d e p q r s t. (p, q, r, s, t));
-  again = λ h rest fits. again_five hello_by codes_two codes_group codes_shape codes_ends codes_eight h.version h.group h.shape (h.from, h.to) h.drawn rest fits.0 fits.1 fits.2 fits.3 fits.4;
+  takes = takes_five greeting FitsHello [] hello_by codes_two codes_group codes_shape codes_ends codes_eight
+      (λ a b c d e. refl) (λ a b c d e p q r s t. (p, q, r, s, t));
+  again = λ h rest fits. again_five hello_by codes_two codes_group codes_shape codes_ends codes_eight h.version h.group
+      h.shape (h.from, h.to) h.drawn rest fits.0 fits.1 fits.2 fits.3 fits.4;
 }
 
 abbrev IsMagic : ℕ → Type 0
 IsMagic word = (word ≡ magic_word) × IsEight word
 
 codes_magic : Codes eight IsMagic (tested_at (λ word. word == magic_word) (number_at w64))
-codes_magic = codes_tested eight IsEight IsMagic (number_at w64) (λ word. word == magic_word) codes_eight (λ word fits passes. (eqb-true _ _ passes, fits)) (λ word fits. fits.1) (λ word fits. eq-eqb _ _ fits.0)
+codes_magic = codes_tested eight IsEight IsMagic (number_at w64) (λ word. word == magic_word) codes_eight
+    (λ word fits passes. (eqb-true _ _ passes, fits)) (λ word fits. fits.1) (λ word fits. eq-eqb _ _ fits.0)
 
 hello_takes : (bytes : List ℕ) (h : Hello) (rest : List ℕ) → IsBytes bytes → hello_at bytes ≡ Some (h, rest) → Took hello FitsHello bytes h rest
 unfolding hello_at
@@ -173,13 +181,25 @@ fails_by : (b : Bool) (d : Dimensions) → passes_shape d ≡ b → (¬ (IsShape
 fails_by true d is none = absurd (none (passes_is_shape d is))
 fails_by false d is none = is
 
-pub shape_read : (bytes a b c rest : List ℕ) (k m blocks block : ℕ) → one_at bytes ≡ Some (k, a) → one_at a ≡ Some (m, b) → number_at w32 b ≡ Some (blocks, c) → number_at w32 c ≡ Some (block, rest) → IsShape (dimensions_by k m blocks block)
+pub shape_read : (bytes a b c rest : List ℕ) (k m blocks block : ℕ) → one_at bytes ≡ Some (k, a)
+    → one_at a ≡ Some (m, b) → number_at w32 b ≡ Some (blocks, c) → number_at w32 c ≡ Some (block, rest)
+    → IsShape (dimensions_by k m blocks block)
     → shape_at bytes ≡ Some (dimensions_by k m blocks block, rest)
 unfolding shape_at
-shape_read bytes a b c rest k m blocks block is_k is_m is_blocks is_block is = rw (is_k, is_m, is_blocks, is_block, shape_passes (dimensions_by k m blocks block) is) refl
+shape_read bytes a b c rest k m blocks block is_k is_m is_blocks is_block is =
+    rw (is_k, is_m, is_blocks, is_block, shape_passes (dimensions_by k m blocks block) is) refl
 
-pub shape_none : (bytes a b c rest : List ℕ) (k m blocks block : ℕ) (f : Field) → one_at bytes ≡ Some (k, a) → one_at a ≡ Some (m, b) → number_at w32 b ≡ Some (blocks, c) → number_at w32 c ≡ Some (block, rest) → IsFirstOutOfRange (dimensions_by k m blocks block) f
+pub shape_none : (bytes a b c rest : List ℕ) (k m blocks block : ℕ) (f : Field) → one_at bytes ≡ Some (k, a)
+    → one_at a ≡ Some (m, b) → number_at w32 b ≡ Some (blocks, c) → number_at w32 c ≡ Some (block, rest)
+    → IsFirstOutOfRange (dimensions_by k m blocks block) f
     → shape_at bytes ≡ None
 unfolding shape_at
 shape_none bytes a b c rest k m blocks block f is_k is_m is_blocks is_block out =
-    rw (is_k, is_m, is_blocks, is_block, fails_by (passes_shape (dimensions_by k m blocks block)) (dimensions_by k m blocks block) refl (refused (dimensions_by k m blocks block) f out)) refl
+    rw (
+      is_k,
+      is_m,
+      is_blocks,
+      is_block,
+      fails_by (passes_shape (dimensions_by k m blocks block))
+          (dimensions_by k m blocks block) refl (refused (dimensions_by k m blocks block) f out),
+    ) refl

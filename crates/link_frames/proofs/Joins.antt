@@ -1,5 +1,6 @@
 -- What the bytes of a whole frame in two pieces are.
-use Rattle.std.proofs.Common.{◌≡◌, ◌<◌, ◌≤◌, ℕ, zero, suc, ◌+◌, ◌-◌, List, [], ◌∷◌, ◌++◌, length, take, get_or, Result, Ok, Err, IfOk, refl, sym, ap, subst, arith}
+use Rattle.std.proofs.Common.{◌≡◌, ◌<◌, ◌≤◌, ℕ, zero, suc, ◌+◌, ◌-◌, List, [], ◌∷◌, ◌++◌, length, take, get_or, Result}
+use Rattle.std.proofs.Common.{Ok, Err, IfOk, refl, sym, ap, subst, arith}
 use Rattle.group_types.specs.Dimensions.{Dimensions}
 use Rattle.wire_codec.specs.Reading.{Gives}
 use Rattle.wire_codec.specs.Stream.{announced}
@@ -14,7 +15,8 @@ use Rattle.link_frames.proofs.Whole.{link-whole, link-bad}
 abbrev pub Read : Dimensions → List ℕ → List ℕ → ℕ → Result Frame ReadFault → Type 0
 Read s front piece taken r = Gives (λ f. f) r (frame_of_bytes s (front ++ take taken piece))
 
-pub found-whole : (s : Dimensions) (front piece : List ℕ) (taken : ℕ) (r : Result Frame ReadFault) → IsBytes front → IsBytes piece → IsPartialFrame front → IsWholeCut front piece taken → Read s front piece taken r
+pub found-whole : (s : Dimensions) (front piece : List ℕ) (taken : ℕ) (r : Result Frame ReadFault) → IsBytes front
+    → IsBytes piece → IsPartialFrame front → IsWholeCut front piece taken → Read s front piece taken r
     → IfOk r (λ f. IsLinkFrame s (front ++ take taken piece) f)
 found-whole s front piece taken (Ok f) is_front is_piece partial cut read =
     let n = announced (front ++ piece) in
@@ -22,7 +24,8 @@ found-whole s front piece taken (Ok f) is_front is_piece partial cut read =
     (link-whole s front piece n f is_front is_piece partial refl cut.in_range.1 cut.there (subst (λ (t : ℕ). Read s front piece t (Ok f)) cut.last read))
 found-whole s front piece taken (Err fault) is_front is_piece partial cut read = tt
 
-pub bad-whole : (s : Dimensions) (front piece : List ℕ) (taken : ℕ) (r : Result Frame ReadFault) → IsPartialFrame front → IsWholeCut front piece taken → Read s front piece taken r → r ≡ Err NoSpelling → IsBroken s (front ++ piece)
+pub bad-whole : (s : Dimensions) (front piece : List ℕ) (taken : ℕ) (r : Result Frame ReadFault) → IsPartialFrame front
+    → IsWholeCut front piece taken → Read s front piece taken r → r ≡ Err NoSpelling → IsBroken s (front ++ piece)
 bad-whole s front piece taken (Err NoSpelling) partial cut read is =
     link-bad s front piece (announced (front ++ piece)) partial refl cut.there (subst (λ (t : ℕ). Read s front piece t (Err NoSpelling)) cut.last read)
 bad-whole s front piece taken (Err Want) partial cut read is = absurd cc
@@ -37,7 +40,8 @@ bytes-within (x ∷ xs) within (suc i) = bytes-within xs (λ j below. within (su
 abbrev pub with_front : Waiting → List ℕ → Waiting
 with_front w front = record w { front = front }
 
-pub found-next : (inside now : Waiting) (new piece : List ℕ) (taken : ℕ) (f : Frame) → inside ≡ now → new ≡ [] → IsWholeCut inside.front piece taken → IsLinkFrame inside.shape (inside.front ++ take taken piece) f
+pub found-next : (inside now : Waiting) (new piece : List ℕ) (taken : ℕ) (f : Frame) → inside ≡ now → new ≡ []
+    → IsWholeCut inside.front piece taken → IsLinkFrame inside.shape (inside.front ++ take taken piece) f
     → (with_front inside new ≡ with_front now []) × (taken ≤ length piece) × IsLinkFrame now.shape (now.front ++ take taken piece) f
 found-next inside now new piece taken f is none cut found =
     let last = cut.last in

@@ -1,5 +1,6 @@
 -- The text of a frame is no longer than a frame may be.
-use Rattle.std.proofs.Common.{◌≡◌, ◌≤◌, ◌<◌, ℕ, ◌+◌, ◌*◌, ◌^◌, ℤ, Bool, true, false, List, [], ◌∷◌, ◌++◌, length, refl, sym, ap, subst, ◌∙◌, append_assoc, arith}
+use Rattle.std.proofs.Common.{◌≡◌, ◌≤◌, ◌<◌, ℕ, ◌+◌, ◌*◌, ◌^◌, ℤ, Bool, true, false, List, [], ◌∷◌, ◌++◌, length, refl}
+use Rattle.std.proofs.Common.{sym, ap, subst, ◌∙◌, append_assoc, arith}
 use Rattle.std.proofs.lemmas.List.{append-nil, length-append}
 use Rattle.group_types.specs.Dimensions.{Dimensions}
 use Rattle.group_types.specs.Key.{IsKey}
@@ -25,13 +26,22 @@ use Rattle.link_frames.specs.declared.frame.Frame.TheVariants.{Message, Said, Pi
 use Rattle.link_frames.specs.declared.frame.Frame.TheVariants as carries
 use Rattle.link_frames.specs.declared.hello.Hello.{Hello}
 use Rattle.link_frames.specs.Limits.{FitsAct, FitsToldAnswer, FitsLink, FitsToldReply, FitsRequest, FitsValue}
-use Rattle.link_frames.specs.Spelling.{act_before, answer_before, answer_value, cause, dimensions, flag_byte, greeting, hello, link_before, link_behind, link_text, link_value, magic_word, reply_before, reply_value, request_before, request_value, signed, told_before}
+use Rattle.link_frames.specs.Spelling.{act_before, answer_before, answer_value, cause, dimensions, flag_byte, greeting}
+use Rattle.link_frames.specs.Spelling.{hello, link_before, link_behind, link_text, link_value, magic_word, reply_before}
+use Rattle.link_frames.specs.Spelling.{reply_value, request_before, request_value, signed, told_before}
 
 -- what stands before a value is short
-item_few : (tag : ℕ) (key : List ℕ) (flags : ℕ) (expiry : ℤ) (more : List ℕ) → IsKey key → length (tag ∷ short key ++ four flags ++ signed expiry ++ more) ≤ 264 + length more
+item_few : (tag : ℕ) (key : List ℕ) (flags : ℕ) (expiry : ℤ) (more : List ℕ) → IsKey key
+    → length (tag ∷ short key ++ four flags ++ signed expiry ++ more) ≤ 264 + length more
 item_few tag key flags expiry more is =
     let few = is.short in
-    omega (arith, few, length-append (short key ++ four flags ++ signed expiry) more, length-append (short key ++ four flags) (signed expiry), length-append (short key) (four flags))
+    omega (
+      arith,
+      few,
+      length-append (short key ++ four flags ++ signed expiry) more,
+      length-append (short key ++ four flags) (signed expiry),
+      length-append (short key) (four flags),
+    )
 
 key_few : (tag : ℕ) (key more : List ℕ) → IsKey key → length (tag ∷ short key ++ more) ≤ 252 + length more
 key_few tag key more is = let few = is.short in omega (arith, few, length-append (short key) more)
@@ -59,7 +69,13 @@ request_few (wire.AskFor caller call op) fits =
     let few = act_few op.act fits.2.1 in
     let before = few.0 in
     let value = few.1 in
-    omega (arith, before, value, length-append (request_before (wire.AskFor caller call op)) (value_of op.act), length-append (one caller ++ eight call ++ eight op.moment) (act_before op.act))
+    omega (
+      arith,
+      before,
+      value,
+      length-append (request_before (wire.AskFor caller call op)) (value_of op.act),
+      length-append (one caller ++ eight call ++ eight op.moment) (act_before op.act),
+    )
 request_few (wire.TraceOf caller call d) fits = omega arith
 
 reply_few : (r : Reply) → FitsToldReply r → (length (reply_before r) ≤ 20) × (length (reply_value r) ≤ most_space)
@@ -118,14 +134,28 @@ text_few (carries.Hello h) fits =
 text_few (Said names) fits = (omega arith, omega arith)
 text_few (Ping n) fits = (omega arith, omega arith)
 text_few (Pong n) fits = (omega arith, omega arith)
-text_few (Request (wire.AskFor caller call op)) fits = (omega (arith, length-append (request_before (wire.AskFor caller call op)) (value_of op.act)), request_few (wire.AskFor caller call op) fits)
+text_few (Request (wire.AskFor caller call op)) fits = (
+  omega (arith, length-append (request_before (wire.AskFor caller call op)) (value_of op.act)),
+  request_few (wire.AskFor caller call op) fits,
+)
 text_few (Request (wire.TraceOf caller call d)) fits = (omega arith, request_few (wire.TraceOf caller call d) fits)
 text_few (Told t) fits =
     let few = answer_few t.answer fits.2 in
     let before = few.0 in
     let value = few.1 in
-    let sum = length-append (17 ∷ told_before t) (answer_value t.answer) in
-    (omega (arith, sum), omega (arith, sum, before, value, length-append (one t.caller ++ eight t.call ++ flag_byte t.traced) (answer_before t.answer), length-append (one t.caller ++ eight t.call) (flag_byte t.traced), flag_one t.traced))
+    let sum = length-append (17 ∷ told_before t) (answer_value t.answer) in (
+      omega (arith, sum),
+      omega (
+        arith,
+        sum,
+        before,
+        value,
+        length-append (one t.caller ++ eight t.call ++ flag_byte t.traced)
+            (answer_before t.answer),
+        length-append (one t.caller ++ eight t.call) (flag_byte t.traced),
+        flag_one t.traced,
+      ),
+    )
 
 -- a text is what stands before its value, the value, and what stands behind it
 pub link_parts : (f : Frame) → (link_before f ++ link_value f) ++ link_behind f ≡ link_text f
@@ -138,12 +168,19 @@ link_parts (Request r) = append-nil (request_before r ++ request_value r)
 link_parts (Told t) = append-nil (link_before (Told t) ++ answer_value t.answer)
 
 pub text_sum : (f : Frame) → length (link_before f) + length (link_value f) + length (link_behind f) ≡ length (link_text f)
-text_sum f = omega (arith, ap length (link_parts f), length-append (link_before f ++ link_value f) (link_behind f), length-append (link_before f) (link_value f))
+text_sum f = omega (
+  arith,
+  ap length (link_parts f),
+  length-append (link_before f ++ link_value f) (link_behind f),
+  length-append (link_before f) (link_value f),
+)
 
-joined : (front before value behind text sum : List ℕ) → (before ++ value) ++ behind ≡ text → (front ++ before) ++ (value ++ (behind ++ sum)) ≡ (front ++ text) ++ sum
+joined : (front before value behind text sum : List ℕ) → (before ++ value) ++ behind ≡ text → (front ++ before)
+    ++ (value ++ (behind ++ sum)) ≡ (front ++ text) ++ sum
 joined front before value behind text sum e =
     append_assoc front before (value ++ (behind ++ sum))
-    ∙ ap (λ (t : List ℕ). front ++ t) (sym (append_assoc before value (behind ++ sum)) ∙ sym (append_assoc (before ++ value) behind sum) ∙ ap (λ (t : List ℕ). t ++ sum) e)
+    ∙ ap (λ (t : List ℕ). front ++ t) (sym (append_assoc before value (behind ++ sum))
+    ∙ sym (append_assoc (before ++ value) behind sum) ∙ ap (λ (t : List ℕ). t ++ sum) e)
     ∙ sym (append_assoc front text sum)
 
 summed_over : (front before value behind text : List ℕ) → (before ++ value) ++ behind ≡ text → ((front ++ before) ++ value) ++ behind ≡ front ++ text
@@ -151,10 +188,13 @@ summed_over front before value behind text e =
     ap (λ (t : List ℕ). t ++ behind) (append_assoc front before value) ∙ append_assoc front (before ++ value) behind ∙ ap (λ (t : List ℕ). front ++ t) e
 
 -- the four pieces of a frame
-pub frame_written : (f : Frame) (l sum : ℕ) (front before value behind out new : List ℕ) → front ≡ four l → l ≡ length (link_text f) → before ≡ link_before f → value ≡ link_value f → behind ≡ link_behind f
+pub frame_written : (f : Frame) (l sum : ℕ) (front before value behind out new : List ℕ) → front ≡ four l
+    → l ≡ length (link_text f) → before ≡ link_before f → value ≡ link_value f → behind ≡ link_behind f
     → sum ≡ checksum (((front ++ before) ++ value) ++ behind) → new ≡ out ++ ((front ++ before) ++ (value ++ (behind ++ four sum))) → new ≡ out ++ link_frame f
 frame_written f l sum front before value behind out new is_front is_l is_before is_value is_behind is_sum is_new =
-    let is_text : (before ++ value) ++ behind ≡ link_text f = ap (λ (t : List ℕ). (t ++ value) ++ behind) is_before ∙ ap (λ (t : List ℕ). (link_before f ++ t) ++ behind) is_value ∙ ap (λ (t : List ℕ). (link_before f ++ link_value f) ++ t) is_behind ∙ link_parts f in
+    let is_text : (before ++ value) ++ behind ≡ link_text f = ap (λ (t : List ℕ). (t ++ value) ++ behind) is_before
+    ∙ ap (λ (t : List ℕ). (link_before f ++ t) ++ behind) is_value
+    ∙ ap (λ (t : List ℕ). (link_before f ++ link_value f) ++ t) is_behind ∙ link_parts f in
     let count : front ≡ four (length (link_text f)) = is_front ∙ ap four is_l in
     is_new
     ∙ ap (λ (t : List ℕ). out ++ t) (

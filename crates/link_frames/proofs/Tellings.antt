@@ -13,10 +13,14 @@ use Rattle.group_wire.specs.State as wire
 use Rattle.wire_codec.specs.Fits.{IsOne, IsFour, IsEight}
 use Rattle.wire_codec.specs.Frame.{one, four, eight, long}
 use Rattle.wire_codec.specs.Reading.{Read, given, one_at, number_at, made_at, of_two, of_three, of_four, tagged_at}
-use Rattle.wire_codec.proofs.Codes.{IsBytes, Took, Codes, TakesAs, codes_one, codes_four, codes_eight, takes_given, takes_made, takes_two, takes_three, takes_four, tagged_takes, again_two, again_three, again_four}
+use Rattle.wire_codec.proofs.Codes.{IsBytes, Took, Codes, TakesAs, codes_one, codes_four, codes_eight, takes_given}
+use Rattle.wire_codec.proofs.Codes.{takes_made, takes_two, takes_three, takes_four, tagged_takes, again_two}
+use Rattle.wire_codec.proofs.Codes.{again_three, again_four}
 use Rattle.link_frames.specs.Limits.{FitsToldAnswer, FitsToldCause, FitsToldReply, FitsTold, FitsValue}
 use Rattle.link_frames.specs.Spelling.{answer_before, answer_value, cause, flag_byte, reply_before, reply_value, told_before}
-use Rattle.link_frames.specs.Texts.{value_at, value_reply, value_reply_at, reply_table, reply_at, pending_by, cause_table, cause_at, answer_table, told_answer_at, telling_of, flag_at, telling_at}
+use Rattle.link_frames.specs.Texts.{value_at, value_reply, value_reply_at, reply_table, reply_at, pending_by}
+use Rattle.link_frames.specs.Texts.{cause_table, cause_at, answer_table, told_answer_at, telling_of, flag_at}
+use Rattle.link_frames.specs.Texts.{telling_at}
 use Rattle.link_frames.proofs.Fields.{again_as, codes_flag, codes_value}
 
 -- ---- replies
@@ -35,7 +39,37 @@ number_nil : (tag n : ℕ) → (tag ∷ eight n) ++ [] ≡ tag ∷ eight n
 number_nil tag n = append-nil (tag ∷ eight n)
 
 all_replies : AllByRecursion (TakesAs reply FitsToldReply) reply_table
-all_replies = (takes_shown, (takes_given reply FitsToldReply 1 says.Miss refl tt, (takes_given reply FitsToldReply 2 says.Stored refl tt, (takes_given reply FitsToldReply 3 says.NotStored refl tt, (takes_given reply FitsToldReply 4 says.Exists refl tt, (takes_given reply FitsToldReply 5 says.NotFound refl tt, (takes_given reply FitsToldReply 6 says.Deleted refl tt, (takes_given reply FitsToldReply 7 says.Touched refl tt, (takes_made reply FitsToldReply (8 ∷ []) (λ n. says.Number n) codes_eight (number_nil 8) (λ n fits. fits), (takes_given reply FitsToldReply 9 says.NotNumber refl tt, (takes_given reply FitsToldReply 10 says.TooLarge refl tt, tt)))))))))))
+all_replies = (
+  takes_shown,
+  (
+    takes_given reply FitsToldReply 1 says.Miss refl tt,
+    (
+      takes_given reply FitsToldReply 2 says.Stored refl tt,
+      (
+        takes_given reply FitsToldReply 3 says.NotStored refl tt,
+        (
+          takes_given reply FitsToldReply 4 says.Exists refl tt,
+          (
+            takes_given reply FitsToldReply 5 says.NotFound refl tt,
+            (
+              takes_given reply FitsToldReply 6 says.Deleted refl tt,
+              (
+                takes_given reply FitsToldReply 7 says.Touched refl tt,
+                (
+                  takes_made reply FitsToldReply (8 ∷ []) (λ n. says.Number n) codes_eight (number_nil 8) (λ n fits. fits),
+                  (
+                    takes_given reply FitsToldReply 9 says.NotNumber refl tt,
+                    (takes_given reply FitsToldReply 10 says.TooLarge refl tt, tt),
+                  ),
+                ),
+              ),
+            ),
+          ),
+        ),
+      ),
+    ),
+  ),
+)
 
 number_reads : {X : Type 0} (make : ℕ → X) (n : ℕ) (rest : List ℕ) → IsEight n → made_at make (number_at w64) (eight n ++ rest) ≡ Some (make n, rest)
 number_reads make n rest fits = rw (codes_eight.again n rest fits) refl
@@ -43,9 +77,11 @@ number_reads make n rest fits = rw (codes_eight.again n rest fits) refl
 reply_again : (r : Reply) (rest : List ℕ) → FitsToldReply r → reply_at (reply r ++ rest) ≡ Some (r, rest)
 unfolding reply_at value_reply_at
 reply_again (says.Value item) rest fits =
-    again_as reply reply_table 0 (of_three value_reply (number_at w32) (number_at w64) value_at) (says.Value item) (four item.flags ++ eight item.cas ++ long item.value) rest (same_shown item.flags item.cas item.value) refl
+    again_as reply reply_table 0 (of_three value_reply (number_at w32) (number_at w64) value_at) (says.Value item)
+    (four item.flags ++ eight item.cas ++ long item.value) rest (same_shown item.flags item.cas item.value) refl
     (again_three value_reply codes_four codes_eight codes_value item.flags item.cas item.value rest fits.0 fits.1 fits.2)
-reply_again (says.Number n) rest fits = again_as reply reply_table 8 (made_at (λ n. says.Number n) (number_at w64)) (says.Number n) (eight n) rest (number_nil 8 n) refl (number_reads (λ n. says.Number n) n rest fits)
+reply_again (says.Number n) rest fits = again_as reply reply_table 8 (made_at (λ n. says.Number n) (number_at w64))
+    (says.Number n) (eight n) rest (number_nil 8 n) refl (number_reads (λ n. says.Number n) n rest fits)
 reply_again says.Miss rest fits = refl
 reply_again says.Stored rest fits = refl
 reply_again says.NotStored rest fits = refl
@@ -65,14 +101,17 @@ codes_reply = record { takes = tagged_takes reply FitsToldReply reply_table all_
 cause_again : (c : Cause) (rest : List ℕ) → FitsToldCause c → cause_at (cause c ++ rest) ≡ Some (c, rest)
 unfolding cause_at
 cause_again (Pending d number) rest fits =
-    again_as cause cause_table 0 (of_two pending_by one_at (number_at w64)) (Pending d number) (one d.0 ++ eight number) rest refl refl (again_two pending_by codes_one codes_eight d.0 number rest fits.0 fits.1)
+    again_as cause cause_table 0 (of_two pending_by one_at (number_at w64)) (Pending d number) (one d.0 ++ eight number)
+    rest refl refl (again_two pending_by codes_one codes_eight d.0 number rest fits.0 fits.1)
 cause_again (Block block) rest fits = rw (codes_four.again block rest fits) refl
 
 codes_cause : Codes cause FitsToldCause cause_at
 unfolding cause_at
 codes_cause = record {
-  takes = tagged_takes cause FitsToldCause cause_table
-      (takes_two cause FitsToldCause (0 ∷ []) pending_by codes_one codes_eight (λ a b. refl) (λ a b p q. (p, q)), (takes_made cause FitsToldCause (1 ∷ []) (λ b. Block b) codes_four (λ a. refl) (λ a fits. fits), tt));
+  takes = tagged_takes cause FitsToldCause cause_table (
+    takes_two cause FitsToldCause (0 ∷ []) pending_by codes_one codes_eight (λ a b. refl) (λ a b p q. (p, q)),
+    (takes_made cause FitsToldCause (1 ∷ []) (λ b. Block b) codes_four (λ a. refl) (λ a fits. fits), tt),
+  );
   again = cause_again;
 }
 
@@ -85,14 +124,62 @@ cause_nil : (c : Cause) → (4 ∷ cause c) ++ [] ≡ 4 ∷ cause c
 cause_nil c = append-nil (4 ∷ cause c)
 
 all_answers : AllByRecursion (TakesAs answer FitsToldAnswer) answer_table
-all_answers = (takes_made answer FitsToldAnswer (0 ∷ []) (λ r. answers.Reply r) codes_reply (λ r. refl) (λ r fits. fits), (takes_made answer FitsToldAnswer (1 ∷ []) (λ n. answers.Ticket n) codes_eight (number_nil 1) (λ n fits. fits), (takes_given answer FitsToldAnswer 2 answers.NotYet refl tt, (takes_given answer FitsToldAnswer 3 answers.NoSpace refl tt, (takes_made answer FitsToldAnswer (4 ∷ []) (λ c. answers.Retry c) codes_cause cause_nil (λ c fits. fits), (takes_given answer FitsToldAnswer 5 answers.Moved refl tt, (takes_given answer FitsToldAnswer 6 answers.Lost refl tt, (takes_given answer FitsToldAnswer 7 answers.Down refl tt, (takes_given answer FitsToldAnswer 8 answers.Idle refl tt, (takes_given answer FitsToldAnswer 9 answers.Stranger refl tt, (takes_given answer FitsToldAnswer 10 answers.Done refl tt, (takes_given answer FitsToldAnswer 11 answers.AlreadyDead refl tt, (takes_given answer FitsToldAnswer 12 answers.Gone refl tt, (takes_made answer FitsToldAnswer (13 ∷ []) (λ n. answers.Stale n) codes_eight (number_nil 13) (λ n fits. fits), tt))))))))))))))
+all_answers = (
+  takes_made answer FitsToldAnswer (0 ∷ []) (λ r. answers.Reply r) codes_reply (λ r. refl) (λ r fits. fits),
+  (
+    takes_made answer FitsToldAnswer (1 ∷ []) (λ n. answers.Ticket n) codes_eight (number_nil 1) (λ n fits. fits),
+    (
+      takes_given answer FitsToldAnswer 2 answers.NotYet refl tt,
+      (
+        takes_given answer FitsToldAnswer 3 answers.NoSpace refl tt,
+        (
+          takes_made answer FitsToldAnswer (4 ∷ []) (λ c. answers.Retry c) codes_cause cause_nil (λ c fits. fits),
+          (
+            takes_given answer FitsToldAnswer 5 answers.Moved refl tt,
+            (
+              takes_given answer FitsToldAnswer 6 answers.Lost refl tt,
+              (
+                takes_given answer FitsToldAnswer 7 answers.Down refl tt,
+                (
+                  takes_given answer FitsToldAnswer 8 answers.Idle refl tt,
+                  (
+                    takes_given answer FitsToldAnswer 9 answers.Stranger refl tt,
+                    (
+                      takes_given answer FitsToldAnswer 10 answers.Done refl tt,
+                      (
+                        takes_given answer FitsToldAnswer 11 answers.AlreadyDead refl tt,
+                        (
+                          takes_given answer FitsToldAnswer 12 answers.Gone refl tt,
+                          (
+                            takes_made answer FitsToldAnswer (13 ∷ []) (λ n. answers.Stale n) codes_eight (number_nil 13) (λ n fits. fits),
+                            tt,
+                          ),
+                        ),
+                      ),
+                    ),
+                  ),
+                ),
+              ),
+            ),
+          ),
+        ),
+      ),
+    ),
+  ),
+)
 
 answer_again : (a : Answer) (rest : List ℕ) → FitsToldAnswer a → told_answer_at (answer a ++ rest) ≡ Some (a, rest)
 unfolding told_answer_at
-answer_again (answers.Reply r) rest fits = again_as answer answer_table 0 (made_at (λ r. answers.Reply r) reply_at) (answers.Reply r) (reply r) rest refl refl (rw (reply_again r rest fits) refl)
-answer_again (answers.Ticket n) rest fits = again_as answer answer_table 1 (made_at (λ n. answers.Ticket n) (number_at w64)) (answers.Ticket n) (eight n) rest (number_nil 1 n) refl (number_reads (λ n. answers.Ticket n) n rest fits)
-answer_again (answers.Retry c) rest fits = again_as answer answer_table 4 (made_at (λ c. answers.Retry c) cause_at) (answers.Retry c) (cause c) rest (cause_nil c) refl (rw (cause_again c rest fits) refl)
-answer_again (answers.Stale n) rest fits = again_as answer answer_table 13 (made_at (λ n. answers.Stale n) (number_at w64)) (answers.Stale n) (eight n) rest (number_nil 13 n) refl (number_reads (λ n. answers.Stale n) n rest fits)
+answer_again (answers.Reply r) rest fits = again_as answer answer_table 0 (made_at (λ r. answers.Reply r) reply_at)
+    (answers.Reply r) (reply r) rest refl refl (rw (reply_again r rest fits) refl)
+answer_again (answers.Ticket n) rest fits =
+    again_as answer answer_table 1 (made_at (λ n. answers.Ticket n) (number_at w64)) (answers.Ticket n) (eight n) rest
+    (number_nil 1 n) refl (number_reads (λ n. answers.Ticket n) n rest fits)
+answer_again (answers.Retry c) rest fits = again_as answer answer_table 4 (made_at (λ c. answers.Retry c) cause_at)
+    (answers.Retry c) (cause c) rest (cause_nil c) refl (rw (cause_again c rest fits) refl)
+answer_again (answers.Stale n) rest fits =
+    again_as answer answer_table 13 (made_at (λ n. answers.Stale n) (number_at w64)) (answers.Stale n) (eight n) rest
+    (number_nil 13 n) refl (number_reads (λ n. answers.Stale n) n rest fits)
 answer_again answers.NotYet rest fits = refl
 answer_again answers.NoSpace rest fits = refl
 answer_again answers.Moved rest fits = refl

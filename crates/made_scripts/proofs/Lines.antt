@@ -1,5 +1,6 @@
 -- Texts of lines that a script goes on from.
-use Rattle.std.proofs.Common.{ℕ, ◌≡◌, ◌+◌, ◌==◌, Bool, true, false, not, ◌&&◌, List, [], ◌∷◌, ◌++◌, length, flat_map, All, Option, Some, None, refl, sym, ap, subst, ◌∙◌, arith}
+use Rattle.std.proofs.Common.{ℕ, ◌≡◌, ◌+◌, ◌==◌, Bool, true, false, not, ◌&&◌, List, [], ◌∷◌, ◌++◌, length, flat_map}
+use Rattle.std.proofs.Common.{All, Option, Some, None, refl, sym, ap, subst, ◌∙◌, arith}
 use Rattle.std.proofs.lemmas.List.{append_assoc}
 use Rattle.std.proofs.lemmas.List.Elements.{All-cons, All-nil}
 use Rattle.std.proofs.lemmas.List.Splits.{slice_split_at, length-slice_split}
@@ -91,16 +92,37 @@ module _ (s : Dimensions) where
     after e = record { world = (step p.world e).world; moment = p.moment }
 
     fault-is : (r : Result Line LineFault) → line_of (Some p.world.shape) line ≡ r → (n : ℕ) (lines : List (List ℕ))
-        → fault_in n (Some p) (line ∷ lines) ≡ elim (next_by (Some p) r) [ Goes next turns text ↦ fault_in (n + 1) next lines | Ends ↦ None | Refused fault ↦ Some (record { number = n; cause = fault }) ]
-    fault-is r is n lines = ap (λ (x : Result Line LineFault). elim (next_by (Some p) x) [ Goes next turns text ↦ fault_in (n + 1) next lines | Ends ↦ None | Refused fault ↦ Some (record { number = n; cause = fault }) ]) is
+        → fault_in n (Some p) (line ∷ lines) ≡ elim (next_by (Some p) r) [
+          | Goes next turns text ↦ fault_in (n + 1) next lines
+          | Ends ↦ None
+          | Refused fault ↦ Some
+              (record { number = n; cause = fault })
+        ]
+    fault-is r is n lines =
+        ap (λ (x : Result Line LineFault). elim (next_by (Some p) x) [
+          | Goes next turns text ↦ fault_in (n + 1) next lines
+          | Ends ↦ None
+          | Refused fault ↦ Some
+              (record { number = n; cause = fault })
+        ]) is
 
     by : (r : Result Line LineFault) → line_of (Some p.world.shape) line ≡ r → is_plain r ≡ true → GoesOn p line
     by (Err fault) is plain = absurd (cc plain)
-    by (Ok (Ask caller at act)) is plain = record { next = after (happens.Ask caller (record { moment = p.moment; act = act }) at); shape = shape; fault = fault-is (Ok (Ask caller at act)) is }
+    by (Ok (Ask caller at act)) is plain =
+        record {
+          next = after (happens.Ask caller (record { moment = p.moment; act = act }) at);
+          shape = shape;
+          fault = fault-is (Ok (Ask caller at act)) is;
+        }
     by (Ok (Deliver from to)) is plain = record { next = after (happens.Deliver from to); shape = shape; fault = fault-is (Ok (Deliver from to)) is }
     by (Ok (Fail at keep)) is plain = record { next = after (happens.Fail at keep); shape = shape; fault = fault-is (Ok (Fail at keep)) is }
     by (Ok (Flush at)) is plain = record { next = after (happens.Flush at); shape = shape; fault = fault-is (Ok (Flush at)) is }
-    by (Ok Drain) is plain = record { next = record { world = world_after p.world (draining p.world); moment = p.moment }; shape = shape-after p.world (draining p.world) ∙ shape; fault = fault-is (Ok Drain) is }
+    by (Ok Drain) is plain =
+        record {
+          next = record { world = world_after p.world (draining p.world); moment = p.moment };
+          shape = shape-after p.world (draining p.world) ∙ shape;
+          fault = fault-is (Ok Drain) is;
+        }
     by (Ok Skipped) is plain = absurd (cc plain)
     by (Ok (Group t)) is plain = absurd (cc plain)
     by (Ok (Collect caller call at)) is plain = absurd (cc plain)

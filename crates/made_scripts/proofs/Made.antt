@@ -1,5 +1,6 @@
 -- Each made script is clean.
-use Rattle.std.proofs.Common.{ℕ, zero, suc, ◌≡◌, ◌≤◌, ◌+◌, ◌*◌, ◌==◌, Bool, true, false, List, [], ◌∷◌, ◌++◌, length, flat_map, Option, Some, None, refl, sym, ap, subst, ◌∙◌, arith, if◌then◌else◌}
+use Rattle.std.proofs.Common.{ℕ, zero, suc, ◌≡◌, ◌≤◌, ◌+◌, ◌*◌, ◌==◌, Bool, true, false, List, [], ◌∷◌, ◌++◌, length}
+use Rattle.std.proofs.Common.{flat_map, Option, Some, None, refl, sym, ap, subst, ◌∙◌, arith, if◌then◌else◌}
 use Rattle.std.proofs.lemmas.List.{append_assoc, length-append}
 use Rattle.std.specs.Prelude.{codes}
 use Rattle.std.specs.List.{range_with_len}
@@ -118,7 +119,8 @@ made_are_clean n = record {
   later = rounds_text n 4000 ++ codes "drain\nstop\n"
 
   lines-are : lines_of (script_text n) ≡ codes "group 3 2 64 64" ∷ lines_of later
-  lines-are = ap lines_of (append_assoc (codes "group 3 2 64 64\n") (rounds_text n 4000) (codes "drain\nstop\n")) ∙ lines-more (codes "group 3 2 64 64") later refl
+  lines-are = ap lines_of (append_assoc (codes "group 3 2 64 64\n") (rounds_text n 4000) (codes "drain\nstop\n"))
+      ∙ lines-more (codes "group 3 2 64 64") later refl
 
   none : NoneRefused made_shape later
   none = (rounds-fine n).passes (codes "drain\nstop\n") end-none

@@ -1,5 +1,7 @@
 -- The line of each round is one that a script goes on from.
-use Rattle.std.proofs.Common.{ℕ, zero, suc, ◌≡◌, ◌<◌, ◌≤◌, ◌+◌, ◌*◌, ◌==◌, nat_le, nat_lt, Bool, true, false, not, ◌&&◌, List, [], ◌∷◌, ◌++◌, length, Option, Some, None, is_some, refl, sym, ap, subst, ◌∙◌, arith, if◌then◌else◌}
+use Rattle.std.proofs.Common.{ℕ, zero, suc, ◌≡◌, ◌<◌, ◌≤◌, ◌+◌, ◌*◌, ◌==◌, nat_le, nat_lt, Bool, true, false, not, ◌&&◌}
+use Rattle.std.proofs.Common.{List, [], ◌∷◌, ◌++◌, length, Option, Some, None, is_some, refl, sym, ap, subst, ◌∙◌}
+use Rattle.std.proofs.Common.{arith, if◌then◌else◌}
 use Rattle.std.proofs.lemmas.Grind.{common_steps}
 use Rattle.std.proofs.lemmas.List.{append_assoc, length-append}
 use Rattle.std.proofs.lemmas.List.Folds.{list_all-append}
@@ -36,7 +38,8 @@ body (word ∷ next ∷ words) = word ++ 32 ∷ body (next ∷ words)
 pub line-body : (words : List (List ℕ)) → line words ≡ body words ++ 10 ∷ []
 line-body [] = refl
 line-body (word ∷ []) = refl
-line-body (word ∷ next ∷ words) = ap (λ (text : List ℕ). word ++ 32 ∷ text) (line-body (next ∷ words)) ∙ sym (append_assoc word (32 ∷ body (next ∷ words)) (10 ∷ []))
+line-body (word ∷ next ∷ words) = ap (λ (text : List ℕ). word ++ 32 ∷ text) (line-body (next ∷ words))
+    ∙ sym (append_assoc word (32 ∷ body (next ∷ words)) (10 ∷ []))
 
 -- clean words
 abbrev pub AreClean : List (List ℕ) → Type 0
@@ -68,7 +71,8 @@ body-ends_none (word ∷ next ∷ words) clean =
 
 body-short : (words : List (List ℕ)) → AreClean words → length (body words) ≤ 9 * length words
 body-short [] clean = omega arith
-body-short (word ∷ []) clean = let short = (both (list_all in_word word) (nat_le (length word) 8) clean.0).1 in let few : length word ≤ 8 = grind (arith, common_steps) in omega (arith, few)
+body-short (word ∷ []) clean = let short = (both (list_all in_word word) (nat_le (length word) 8) clean.0).1 in
+    let few : length word ≤ 8 = grind (arith, common_steps) in omega (arith, few)
 body-short (word ∷ next ∷ words) clean =
     let short = (both (list_all in_word word) (nat_le (length word) 8) clean.0).1 in
     let few : length word ≤ 8 = grind (arith, common_steps) in
@@ -103,12 +107,15 @@ reads-ask (Some caller) (Some at) (Some act) one two three = refl
 ask-plain : (caller : ℕ) (p : ProcessId) (op : List (List ℕ)) → caller < 8 → IsProcess made_shape p → is_some (act_of op) ≡ true
     → is_plain (or_bad_line (event_line made_shape (codes "ask" ∷ decimal caller ∷ process_word p ∷ op))) ≡ true
 unfolding keyword_of line_by
-ask-plain caller p op low pin acts = reads-ask (number_below callers (decimal caller)) (process_of_word made_shape (process_word p)) (act_of op) (caller-word caller low).0 (process-fine p pin).0 acts
+ask-plain caller p op low pin acts = reads-ask (number_below callers (decimal caller))
+    (process_of_word made_shape (process_word p)) (act_of op) (caller-word caller low).0 (process-fine p pin).0 acts
 
 ask-fine : (caller : ℕ) (p : ProcessId) (op : List (List ℕ)) → caller < 8 → IsProcess made_shape p → is_some (act_of op) ≡ true → AreClean op → length op ≤ 4
     → LineFine (codes "ask" ∷ decimal caller ∷ process_word p ∷ op)
 ask-fine caller p op low pin acts clean few =
-    words-fine (codes "ask") (decimal caller ∷ process_word p ∷ op) (refl, ((caller-word caller low).1, ((process-fine p pin).1, clean))) (omega (arith, few)) refl (ask-plain caller p op low pin acts)
+    words-fine (codes "ask") (decimal caller ∷ process_word p ∷ op)
+    (refl, ((caller-word caller low).1, ((process-fine p pin).1, clean))) (omega (arith, few)) refl
+    (ask-plain caller p op low pin acts)
 
 -- the process that is asked
 asked-in : (round h : ℕ) → h < 3 → IsProcess made_shape (asked_at round h)
@@ -177,14 +184,21 @@ round-fine : (r : ℕ) (round : Round) → InRange round → LineFine (words_of 
 unfolding InRange
 round-fine r (Set caller i len) (low, below, (k, short, is)) =
     subst (λ (n : ℕ). LineFine (words_of r (Set caller i n))) (sym is)
-    (ask-fine caller (asked_at r (home_of (key_word i) 3)) (codes "set" ∷ key_word i ∷ codes "0" ∷ value_word (k + 1) ∷ []) low (asked-in r (home_of (key_word i) 3) (home-low i))
+    (ask-fine caller (asked_at r (home_of (key_word i) 3)) (codes "set" ∷ key_word i ∷ codes "0" ∷ value_word (k + 1)
+    ∷ []) low (asked-in r (home_of (key_word i) 3) (home-low i))
     (set-fine i k below short) (refl, ((key-fine i below).clean, (refl, (value-clean k short, tt)))) (omega arith))
 round-fine r (Get caller i) (low, below) =
-    ask-fine caller (asked_at r (home_of (key_word i) 3)) (codes "get" ∷ key_word i ∷ []) low (asked-in r (home_of (key_word i) 3) (home-low i)) (key-fine i below).get (refl, ((key-fine i below).clean, tt)) (omega arith)
+    ask-fine caller (asked_at r (home_of (key_word i) 3)) (codes "get" ∷ key_word i ∷ []) low
+    (asked-in r (home_of (key_word i) 3) (home-low i)) (key-fine i below).get (refl, ((key-fine i below).clean, tt))
+    (omega arith)
 round-fine r (Delete caller i) (low, below) =
-    ask-fine caller (asked_at r (home_of (key_word i) 3)) (codes "delete" ∷ key_word i ∷ []) low (asked-in r (home_of (key_word i) 3) (home-low i)) (key-fine i below).delete (refl, ((key-fine i below).clean, tt)) (omega arith)
+    ask-fine caller (asked_at r (home_of (key_word i) 3)) (codes "delete" ∷ key_word i ∷ []) low
+    (asked-in r (home_of (key_word i) 3) (home-low i)) (key-fine i below).delete
+    (refl, ((key-fine i below).clean, tt)) (omega arith)
 round-fine r (Deliver from to) (low, below) =
-    tried-fine (words_of r (Deliver from to)) (passes-at 5 (λ to. fine_words (words_of 0 (Deliver from to))) (passes-at 5 (λ from. passes_below 5 (λ to. fine_words (words_of 0 (Deliver from to)))) delivers-pass from low) to below)
+    tried-fine (words_of r (Deliver from to)) (passes-at 5 (λ to. fine_words (words_of 0 (Deliver from to)))
+    (passes-at 5 (λ from. passes_below 5 (λ to. fine_words (words_of 0 (Deliver from to)))) delivers-pass from low) to
+    below)
 round-fine r Drain range = tried-fine (words_of r Drain) drain-passes
 round-fine r (Flush d) low = tried-fine (words_of r (Flush d)) (passes-at 3 (λ d. fine_words (words_of 0 (Flush d))) flushes-pass d low)
 

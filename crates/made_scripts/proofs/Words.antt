@@ -78,7 +78,8 @@ values-pass = refl
 pub caller-word : (c : ℕ) → c < 8 → (is_some (number_below callers (decimal c)) ≡ true) × (is_clean (decimal c) ≡ true)
 caller-word c low = both _ _ (passes-at 8 caller_test callers-pass c low)
 
-pub process-fine : (p : ProcessId) → IsProcess made_shape p → (is_some (process_of_word made_shape (process_word p)) ≡ true) × (is_clean (process_word p) ≡ true)
+pub process-fine : (p : ProcessId) → IsProcess made_shape p
+    → (is_some (process_of_word made_shape (process_word p)) ≡ true) × (is_clean (process_word p) ≡ true)
 process-fine (DataNode d) low = both _ _ (passes-at 3 data_test data-pass d low)
 process-fine (ParityNode i) low = both _ _ (passes-at 2 parity_test parity-pass i low)
 
@@ -89,7 +90,9 @@ pub record KeyFine (i : ℕ) : Type 0 where
 
 pub key-fine : (i : ℕ) → i < 20 → KeyFine i
 key-fine i low =
-    let first = both (is_some (act_of (codes "get" ∷ key_word i ∷ []))) (is_some (act_of (codes "delete" ∷ key_word i ∷ [])) && is_clean (key_word i)) (passes-at 20 key_test keys-pass i low) in
+    let first = both (is_some (act_of (codes "get" ∷ key_word i ∷ [])))
+    (is_some (act_of (codes "delete" ∷ key_word i ∷ [])) && is_clean (key_word i))
+    (passes-at 20 key_test keys-pass i low) in
     let second = both (is_some (act_of (codes "delete" ∷ key_word i ∷ []))) (is_clean (key_word i)) first.1 in
     record { get = first.0; delete = second.0; clean = second.1 }
 

@@ -10,7 +10,9 @@ use Rattle.group_wire.specs.FromWhom.{CallersAreTheirs}
 use Rattle.group_wire.specs.State.{gateway_of}
 use Rattle.group_member.specs.Callers.{IsItsCaller}
 use Rattle.group_member.specs.Standing.{Member}
-use Rattle.member_runs.specs.Calls.{HasCalled, MemberCall, Receives, Cuts, Says, Hears, Permits, Takes, Flushes, HandsOut, TakesLost, Pings, Pongs, Counts, Begins, Sends, SendsHere, Reads, Treats, Learns, Collects, GivesUp, Shows, LetsGo}
+use Rattle.member_runs.specs.Calls.{HasCalled, MemberCall, Receives, Cuts, Says, Hears, Permits, Takes, Flushes}
+use Rattle.member_runs.specs.Calls.{HandsOut, TakesLost, Pings, Pongs, Counts, Begins, Sends, SendsHere, Reads, Treats}
+use Rattle.member_runs.specs.Calls.{Learns, Collects, GivesUp, Shows, LetsGo}
 use Rattle.member_runs.specs.Laws.{HaveMade, run_of}
 use Rattle.member_runs.specs.System.{AreSteps, MayStep, System, SystemStep, after_step, after_steps, all_actions}
 use Rattle.member_runs.proofs.Others.{its-gateway}
@@ -57,7 +59,8 @@ moved : (v : Member) (n caller : ℕ) → IsItsCaller v.callers n → Some n ≡
 moved v n caller its is = subst (λ (i : ℕ). IsItsCaller v.callers i) (same-number n caller is) its
 
 -- a call that begins or ends the call of a caller is made of one of the member's callers
-turns-its : (call : MemberCall) (before after : Member) (caller : ℕ) → HasCalled call before after → begun_or_ended call ≡ Some caller → IsItsCaller before.callers caller
+turns-its : (call : MemberCall) (before after : Member) (caller : ℕ) → HasCalled call before after
+    → begun_or_ended call ≡ Some caller → IsItsCaller before.callers caller
 turns-its (Begins n op) before after caller called is = moved before n caller called.0 is
 turns-its (Shows n ping) before after caller called is = moved before n caller called.0 is
 turns-its (LetsGo n) before after caller called is = moved before n caller called.0 is

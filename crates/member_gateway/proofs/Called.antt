@@ -10,7 +10,9 @@ use Rattle.memc_proto.specs.declared.end.CallEnd.{CallEnd}
 use Rattle.group_message.specs.declared.message.Message.{Message}
 use Rattle.group_wire.specs.Actions as act
 use Rattle.group_wire.specs.State.{Request, Told}
-use Rattle.group_member.specs.Acting.{Acts, ActsHanding, ActsWhere, AnswerComes, PingComes, PongComes, RequestComes, SetComes, answer_handed, message_handed, ping_handed, pong_handed, request_handed, set_handed}
+use Rattle.group_member.specs.Acting.{Acts, ActsHanding, ActsWhere, AnswerComes, PingComes, PongComes, RequestComes}
+use Rattle.group_member.specs.Acting.{SetComes, answer_handed, message_handed, ping_handed, pong_handed, request_handed}
+use Rattle.group_member.specs.Acting.{set_handed}
 use Rattle.group_member.specs.Callers.{CanBeAsked, CanBeTraced, IsFree, caller_of, told_in}
 use Rattle.group_member.specs.Receiving.{HasReceived}
 use Rattle.group_member.specs.Showing.{CanGiveUp, CanShow}
@@ -20,7 +22,9 @@ use Rattle.group_member.specs.declared.receiving.Received.{Received}
 use Rattle.group_member.specs.declared.receiving.Received.TheVariants.{Made, Unread, Misfit}
 use Rattle.group_member.specs.declared.serving.Treatment.{Treatment}
 use Rattle.group_member.specs.declared.serving.Treatment.TheVariants as treated
-use Rattle.member_runs.specs.Calls.{MemberCall, HasCalled, Begins, Collects, Counts, Cuts, Flushes, GivesUp, HandsOut, Hears, Learns, Permits, Pings, Pongs, Reads, Receives, Says, Sends, SendsHere, Takes, TakesLost, Treats}
+use Rattle.member_runs.specs.Calls.{MemberCall, HasCalled, Begins, Collects, Counts, Cuts, Flushes, GivesUp, HandsOut}
+use Rattle.member_runs.specs.Calls.{Hears, Learns, Permits, Pings, Pongs, Reads, Receives, Says, Sends, SendsHere}
+use Rattle.member_runs.specs.Calls.{Takes, TakesLost, Treats}
 use Rattle.member_gateway.specs.Calls.{ComesQuietly, GoesQuietly, LeavesAll, MadeCall, begun_or_ended}
 use Rattle.member_gateway.specs.Rules.{IsShown, end_of}
 use Rattle.member_gateway.specs.Order.{made_on}
@@ -93,7 +97,8 @@ traced_other caller to r before after can acts = quiet_call (Sends caller to r) 
 pub asked_here : (caller : ℕ) (before after : Member) → CanAskHere before caller → Acts (sent_here before caller) before after → GoesQuietly before after
 asked_here caller before after can acts = quiet_call (SendsHere caller) before after refl (can.call.its, acts)
 
-pub traced_here : (caller : ℕ) (before after : Member) → CanBeTraced before.callers caller → Acts (sent_here before caller) before after → GoesQuietly before after
+pub traced_here : (caller : ℕ) (before after : Member) → CanBeTraced before.callers caller
+    → Acts (sent_here before caller) before after → GoesQuietly before after
 traced_here caller before after can acts = quiet_call (SendsHere caller) before after refl (can.its, acts)
 
 pub read_request : (from : ProcessId) (r : Request) (before after : Member)
@@ -113,11 +118,13 @@ pub learned_so : (from : ProcessId) (t : Told) (before after : Member)
 learned_so from t before after acts = quiet_call (Learns from t) before after refl acts
 
 pub collected_due : (caller call : ℕ) (told : Option Told) (before after : Member)
-    → ActsHanding (act.Collect caller call before.words.name ∷ act.Learn before.words.name before.words.name ∷ []) (answer_handed before.words.shape told) before after
+    → ActsHanding (act.Collect caller call before.words.name ∷ act.Learn before.words.name before.words.name ∷ [])
+    (answer_handed before.words.shape told) before after
     → GoesQuietly before after
 collected_due caller call told before after acts = quiet_call (Collects caller call told) before after refl acts
 
-pub gave_up : (caller : ℕ) (before after : Member) → CanGiveUp before.words before.callers caller → Acts (act.GiveUp caller ∷ []) before after → GoesQuietly before after
+pub gave_up : (caller : ℕ) (before after : Member) → CanGiveUp before.words before.callers caller
+    → Acts (act.GiveUp caller ∷ []) before after → GoesQuietly before after
 gave_up caller before after can acts = quiet_call (GivesUp caller) before after refl (can.its, acts)
 
 pub begun_so : (caller : ℕ) (op : Asked) (before after : Member) → IsFree before.callers caller → Acts (act.Begin caller op ∷ []) before after
@@ -127,7 +134,8 @@ begun_so caller op before after free acts = (free.its, acts)
 pub begun_inside : (caller : ℕ) (op : Asked) (inside before after : Member) → inside ≡ before → IsFree before.callers caller
     → Acts (act.Begin caller op ∷ []) inside after → HasCalled (Begins caller op) before after
 begun_inside caller op inside before after same free acts =
-    subst (λ (v : Member). HasCalled (Begins caller op) v after) same (begun_so caller op inside after (subst (λ (v : Member). IsFree v.callers caller) (sym same) free) acts)
+    subst (λ (v : Member). HasCalled (Begins caller op) v after) same
+    (begun_so caller op inside after (subst (λ (v : Member). IsFree v.callers caller) (sym same) free) acts)
 
 pub shown_so : (caller ping : ℕ) (end : CallEnd) (told : Told) (before after : Member) → CanShow before caller ping
     → Acts (act.Show caller ping ∷ []) before after → told_in (caller_of before.callers caller).call ≡ Some told

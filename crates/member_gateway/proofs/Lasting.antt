@@ -5,17 +5,21 @@ use Rattle.group_types.specs.declared.process.ProcessId.{ProcessId}
 use Rattle.memc_table.specs.Asked.{Asked}
 use Rattle.std.specs.List.{range_with_len}
 use Rattle.group_run.specs.Asking.{collect_from}
-use Rattle.group_wire.specs.Actions.{Action, Begin, Send, Read, Treat, Collect, Flush, Learn, Receive, GiveUp, Cut, Say, Hear, Permit, Take, Ping, Pong, Count, Show, LetGo, Stop}
+use Rattle.group_wire.specs.Actions.{Action, Begin, Send, Read, Treat, Collect, Flush, Learn, Receive, GiveUp, Cut, Say}
+use Rattle.group_wire.specs.Actions.{Hear, Permit, Take, Ping, Pong, Count, Show, LetGo, Stop}
 use Rattle.group_wire.specs.Composed.{Composed, composed_from, composed_with}
 use Rattle.group_wire.specs.Sets.{changed, changed_at, without}
 use Rattle.group_wire.specs.State.{Request, Told, Stage, Unasked, AskedOf, Unknown, TracedAt, Answered, OpenCall, Gateways, Group}
 use Rattle.group_wire.specs.Sending.{parked_at, treating}
-use Rattle.group_wire.specs.Serving.{gateways_after, handed_to, if_open, learned_first, read_first, request_treated, sends_by, stage_given_up, staged, tell, told_of}
+use Rattle.group_wire.specs.Serving.{gateways_after, handed_to, if_open, learned_first, read_first, request_treated}
+use Rattle.group_wire.specs.Serving.{sends_by, stage_given_up, staged, tell, told_of}
 use Rattle.group_wire.proofs.Changes.{changed_at-each}
 use Rattle.group_wire.proofs.Wanting.{op_of}
 use Rattle.group_wire.proofs.Wants.{op-learned}
 use Rattle.group_member.specs.Standing.{Member}
-use Rattle.member_runs.specs.Calls.{MemberCall, Receives, Cuts, Says, Hears, Permits, Takes, Flushes, HandsOut, TakesLost, Pings, Pongs, Counts, Begins, Sends, SendsHere, Reads, Treats, Learns, Collects, GivesUp, Shows, LetsGo, actions_of}
+use Rattle.member_runs.specs.Calls.{MemberCall, Receives, Cuts, Says, Hears, Permits, Takes, Flushes, HandsOut}
+use Rattle.member_runs.specs.Calls.{TakesLost, Pings, Pongs, Counts, Begins, Sends, SendsHere, Reads, Treats, Learns}
+use Rattle.member_runs.specs.Calls.{Collects, GivesUp, Shows, LetsGo, actions_of}
 use Rattle.member_runs.specs.System.{System, SystemStep, after_step, all_actions}
 use Rattle.member_runs.proofs.Reaching.{composed-more}
 use Rattle.member_gateway.specs.Calls.{begun_or_ended}
@@ -41,7 +45,8 @@ module _ (g : Group) (caller : ℕ) where
   abbrev now : Option OpenCall
   now = g.gateways.call caller
 
-  sent : (n : ℕ) (x : ProcessId) (opened : OpenCall) (stage : Stage) → g.gateways.call n ≡ Some opened → op_of ((sends_by g n x opened stage).call caller) ≡ op_of now
+  sent : (n : ℕ) (x : ProcessId) (opened : OpenCall) (stage : Stage) → g.gateways.call n ≡ Some opened
+      → op_of ((sends_by g n x opened stage).call caller) ≡ op_of now
   sent n x opened Unasked is = same-op g.gateways n _ (sym (ap op_of is)) caller
   sent n x opened Unknown is = same-op g.gateways n _ (sym (ap op_of is)) caller
   sent n x opened (AskedOf y) is = refl
@@ -65,7 +70,8 @@ module _ (g : Group) (caller : ℕ) where
   treats : (p : ProcessId) (place : ℕ) (r : Option Request) → op_of ((request_treated g p place r).call caller) ≡ op_of now
   treats p place None = refl
   treats p place (Some r) = ap (λ (f : ℕ → Option OpenCall). op_of (f caller))
-      (tell-call g p (told_of r (treating g.shape r (g.works.process p)).answer) (record g.gateways { parked = changed g.gateways.parked p (without (g.gateways.parked p) place) }))
+      (tell-call g p (told_of r (treating g.shape r (g.works.process p)).answer)
+      (record g.gateways { parked = changed g.gateways.parked p (without (g.gateways.parked p) place) }))
 
   learns : (x p : ProcessId) (pinged : ℕ) (ts : List Told) → op_of ((learned_first x p pinged ts g.gateways).call caller) ≡ op_of now
   learns x p pinged [] = refl

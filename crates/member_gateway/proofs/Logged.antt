@@ -36,7 +36,8 @@ composed-steps c y (t ∷ steps) more =
     let actions = actions_of t.call (y.members t.at) in
     composed-more c actions (all_actions (after_step y t) (steps ++ more))
     ∙ composed-steps (composed_from c actions) (after_step y t) steps more
-    ∙ ap (λ (d : Composed). composed_from d (all_actions (after_steps (after_step y t) steps) more)) (sym (composed-more c actions (all_actions (after_step y t) steps)))
+    ∙ ap (λ (d : Composed). composed_from d (all_actions (after_steps (after_step y t) steps) more))
+    (sym (composed-more c actions (all_actions (after_step y t) steps)))
 
 -- a call that is shown is open in the group
 opened-there : CallersAreTheirs → (s : Dimensions) (y : System) (steps : List SystemStep) (t : SystemStep) (caller : ℕ) (o : OpenCall) (told : Told)
@@ -51,7 +52,8 @@ opened-there always s y steps t caller o told made next =
 some-op : (a b : Asked) → Some a ≡ Some b → a ≡ b
 some-op a b same = cc
 
-module _ (s : Dimensions) (y : System) (before since : List SystemStep) (p : ProcessId) (caller : ℕ) (op : Asked) (after : Member) (leave : LeaveAlone caller since) where
+module _ (s : Dimensions) (y : System) (before since : List SystemStep) (p : ProcessId) (caller : ℕ) (op : Asked)
+    (after : Member) (leave : LeaveAlone caller since) where
   abbrev step : SystemStep
   step = record { at = p; call = Begins caller op; after = after }
 
@@ -68,7 +70,8 @@ op-since : CallersAreTheirs → (s : Dimensions) (y : System) (steps before sinc
     → HaveMade s y steps → steps ≡ since_begun before p caller op first since → All (LeavesOpen caller) (calls_at p since)
     → op_at (run_of s y steps) caller ≡ Some op
 op-since always s y steps before since p caller op first made is leave =
-    let alone = since-alone always s y before since p caller op first (subst (λ (l : List SystemStep). HaveMade s y l) is made) (leave-open p caller since leave) in
+    let alone = since-alone always s y before since p caller op first
+    (subst (λ (l : List SystemStep). HaveMade s y l) is made) (leave-open p caller since leave) in
     ap (λ (l : List SystemStep). op_at (run_of s y l) caller) is ∙ begun-there s y before since p caller op first alone
 
 told-open : (call : Option OpenCall) (t : Told) → told_in call ≡ Some t → (o : OpenCall) × (call ≡ Some o) × (told_at o.stage ≡ Some t)

@@ -60,7 +60,8 @@ pub quiet_later : (before after : Gateway) → GoesQuietly before.member after.m
 quiet_later before after goes = quiet-comes before.member after.member goes
 
 -- the same of what the gateway was seen as
-pub inside_keeps : (inside before after : Gateway) → inside ≡ before → GoesQuietly inside.member after.member → after.slots ≡ inside.slots → KeepsOpen member_rules before after
+pub inside_keeps : (inside before after : Gateway) → inside ≡ before → GoesQuietly inside.member after.member
+    → after.slots ≡ inside.slots → KeepsOpen member_rules before after
 inside_keeps inside before after is goes slots = subst (λ (g : Gateway). KeepsOpen member_rules g after) is (quiet_keeps inside after goes slots)
 
 pub inside_lends : (inside before after : Gateway) → inside ≡ before → after.slots ≡ inside.slots → LendsNone member_rules before after
@@ -103,7 +104,8 @@ module _ (before after : Gateway) (call : OwnCall) (op : Asked) (begins : HasCal
 
   pub begins_keeps : KeepsOpen member_rules before after
   begins_keeps other asked began opened =
-      let apart : other.caller ≢ call.caller = λ same. none-some (at None before.slots other.caller) other (ap (λ (n : ℕ). at None before.slots n) same ∙ free) opened.lent in
+      let apart : other.caller ≢ call.caller = λ same. none-some (at None before.slots other.caller) other
+      (ap (λ (n : ℕ). at None before.slots n) same ∙ free) opened.lent in
       record {
         lent = elsewhere other apart ∙ opened.lent;
         hash = opened.hash;

@@ -13,7 +13,8 @@ stays before after same = record { each = λ x. grind (arith, common_steps, same
 pub goes_on : (before between after : List Link) → NoneGoesBack before between → NoneGoesBack between after → NoneGoesBack before after
 goes_on before between after first then = record { each = λ x. omega (arith, first.each x, then.each x) }
 
-set_at : (before : List Link) (i : ℕ) (w d : Link) → d ≡ get_or before i d → age d.stage ≤ age w.stage → (x : ℕ) → get_or (ages before) x 0 ≤ get_or (ages (set before i w)) x 0
+set_at : (before : List Link) (i : ℕ) (w d : Link) → d ≡ get_or before i d → age d.stage ≤ age w.stage → (x : ℕ)
+    → get_or (ages before) x 0 ≤ get_or (ages (set before i w)) x 0
 unfolding ages
 set_at [] i w d is older x = omega arith
 set_at (l ∷ ls) zero w d is older zero = omega (arith, ap (λ (link : Link). age link.stage) is)

@@ -9,7 +9,9 @@ use Rattle.group_wire.specs.State.{gateway_of}
 use Rattle.group_member.specs.Acting.{ActsWhere}
 use Rattle.group_member.specs.Callers.{AreCallersOf, IsItsCaller}
 use Rattle.group_member.specs.Standing.{Member}
-use Rattle.member_runs.specs.Calls.{Begins, Collects, Counts, Cuts, Flushes, GivesUp, HandsOut, HasCalled, Hears, Learns, LetsGo, MemberCall, Permits, Pings, Pongs, Reads, Receives, Says, Sends, SendsHere, Shows, Takes, TakesLost, Treats, actions_of, hands_of}
+use Rattle.member_runs.specs.Calls.{Begins, Collects, Counts, Cuts, Flushes, GivesUp, HandsOut, HasCalled, Hears}
+use Rattle.member_runs.specs.Calls.{Learns, LetsGo, MemberCall, Permits, Pings, Pongs, Reads, Receives, Says, Sends}
+use Rattle.member_runs.specs.Calls.{SendsHere, Shows, Takes, TakesLost, Treats, actions_of, hands_of}
 use Rattle.member_runs.specs.Reading.{Delivery, read_by}
 use Rattle.member_runs.proofs.Acting.{by_of, from_of}
 use Rattle.member_runs.proofs.Others.{its-gateway}

@@ -7,10 +7,12 @@ use Rattle.group_types.specs.Each.{Each}
 use Rattle.group_types.specs.Names.{same_process}
 use Rattle.group_types.specs.declared.process.ProcessId.{ProcessId}
 use Rattle.group_run.specs.Asking.{collect_from}
-use Rattle.group_wire.specs.Actions.{Action, Begin, Send, Read, Treat, Collect, Flush, Learn, Receive, GiveUp, Cut, Say, Hear, Permit, Take, Ping, Pong, Count, Show, LetGo, Stop}
+use Rattle.group_wire.specs.Actions.{Action, Begin, Send, Read, Treat, Collect, Flush, Learn, Receive, GiveUp, Cut, Say}
+use Rattle.group_wire.specs.Actions.{Hear, Permit, Take, Ping, Pong, Count, Show, LetGo, Stop}
 use Rattle.group_wire.specs.FromWhom.{IsCallerOf, NameTheirCallers}
 use Rattle.group_wire.specs.Sending.{parked_at, treating}
-use Rattle.group_wire.specs.Serving.{gateways_after, handed_to, if_open, learned_first, read_first, request_treated, sends_by, staged, stage_given_up, tell, told_of}
+use Rattle.group_wire.specs.Serving.{gateways_after, handed_to, if_open, learned_first, read_first, request_treated}
+use Rattle.group_wire.specs.Serving.{sends_by, staged, stage_given_up, tell, told_of}
 use Rattle.group_wire.specs.Sets.{changed, changed_at, one_or, without}
 use Rattle.group_wire.specs.State.{AskedOf, Answered, Gateways, Group, OpenCall, Request, Stage, Told, TracedAt, Unasked, Unknown, gateway_of}
 use Rattle.member_runs.specs.Reading.{rest_of}
@@ -46,7 +48,8 @@ module _ (s : Dimensions) (g : Gateways) (q : ProcessId) where
     parked = refl;
   }
 
-  read-gateways : (x p : ProcessId) (wire : List Request) → wire ≡ g.requests x p → q ≢ p → KeepsGateways s g (read_first x p wire g) q p (same_process q x) false
+  read-gateways : (x p : ProcessId) (wire : List Request) → wire ≡ g.requests x p → q ≢ p
+      → KeepsGateways s g (read_first x p wire g) q p (same_process q x) false
   read-gateways x p [] is other =
       record { call = λ c its. refl; next = λ c its. refl; requests = λ r. row-empty g.requests x p (sym is) q r; answers = λ r. refl; parked = refl }
   read-gateways x p (request ∷ rest) is other = record {
@@ -118,13 +121,15 @@ module _ (g : Group) (q : ProcessId) where
 
   treated-gateways : (p : ProcessId) (place : ℕ) (o : Option Request) → q ≢ p → KeepsGateways g.shape g.gateways (request_treated g p place o) q p false false
   treated-gateways p place None other = same-gateways g.shape g.gateways q _
-  treated-gateways p place (Some request) other = told-gateways p (told_of request (treating g.shape request (g.works.process p)).answer) (without_parked p place) other (record {
-    call = λ c its. refl;
-    next = λ c its. refl;
-    requests = λ r. refl;
-    answers = λ r. refl;
-    parked = changed-other g.gateways.parked p q (without (g.gateways.parked p) place) other;
-  })
+  treated-gateways p place (Some request) other =
+      told-gateways p (told_of request (treating g.shape request (g.works.process p)).answer) (without_parked p place)
+      other (record {
+        call = λ c its. refl;
+        next = λ c its. refl;
+        requests = λ r. refl;
+        answers = λ r. refl;
+        parked = changed-other g.gateways.parked p q (without (g.gateways.parked p) place) other;
+      })
 
   pub keeps-gateways : (a : Action) → NameTheirCallers g.shape g.gateways → q ≢ by_of g.shape a
       → KeepsGateways g.shape g.gateways (gateways_after g a) q (by_of g.shape a) (reads_request a q) (reads_answer a q)
@@ -133,8 +138,11 @@ module _ (g : Group) (q : ProcessId) where
   keeps-gateways (Read x p) theirs other = read-gateways g.shape g.gateways q x p (g.gateways.requests x p) refl other
   keeps-gateways (Treat p place) theirs other = treated-gateways p place (parked_at g p place) other
   keeps-gateways (Collect caller call p) theirs other =
-      told-gateways p (handed_to caller call (collect_from caller call (g.works.process p) (range_with_len 0 g.shape.k)).answer) g.gateways other (same-gateways g.shape g.gateways q p)
-  keeps-gateways (Learn x p) theirs other = learned-gateways g.shape g.gateways q x p (g.signs.pinged p) (g.gateways.answers x p) refl (theirs.answers x p) other
+      told-gateways p
+      (handed_to caller call (collect_from caller call (g.works.process p) (range_with_len 0 g.shape.k)).answer)
+      g.gateways other (same-gateways g.shape g.gateways q p)
+  keeps-gateways (Learn x p) theirs other = learned-gateways g.shape g.gateways q x p (g.signs.pinged p)
+      (g.gateways.answers x p) refl (theirs.answers x p) other
   keeps-gateways (GiveUp caller) theirs other = open-given_up caller (g.gateways.call caller) other
   keeps-gateways (Show caller ping) theirs other = called-gateways g.shape g.gateways q caller None other
   keeps-gateways (LetGo caller) theirs other = called-gateways g.shape g.gateways q caller None other

@@ -10,7 +10,8 @@ use Rattle.group_run.specs.Applying.{ProcessStep}
 use Rattle.group_run.specs.Asking.{collect_from}
 use Rattle.group_run.specs.Receiving.{receive}
 use Rattle.group_run.specs.World.{flush_process, sent_to}
-use Rattle.group_wire.specs.Actions.{Action, Begin, Send, Read, Treat, Collect, Flush, Learn, Receive, GiveUp, Cut, Say, Hear, Permit, Take, Ping, Pong, Count, Show, LetGo, Stop}
+use Rattle.group_wire.specs.Actions.{Action, Begin, Send, Read, Treat, Collect, Flush, Learn, Receive, GiveUp, Cut, Say}
+use Rattle.group_wire.specs.Actions.{Hear, Permit, Take, Ping, Pong, Count, Show, LetGo, Stop}
 use Rattle.group_wire.specs.Sending.{parked_at, stepped, treating, works_after, works_received, works_treated}
 use Rattle.group_wire.specs.Sets.{Processes, changed_from, one_or}
 use Rattle.group_wire.specs.State.{Group, Request, Works}

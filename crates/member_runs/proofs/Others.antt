@@ -56,7 +56,8 @@ sets-less true p row frames r are = by (same_process r p) where
   by true = rest-sets (row p) (frames p) (are p)
   by false = are r
 
-ahead-rest : (cut : Bool) (wire out held : List Message) (m : Message) → IsFirst out m → IsAhead cut wire out held → IsAhead cut (rest_of wire) (rest_of out) held
+ahead-rest : (cut : Bool) (wire out held : List Message) (m : Message) → IsFirst out m → IsAhead cut wire out held
+    → IsAhead cut (rest_of wire) (rest_of out) held
 ahead-rest cut wire out held m first ahead = record {
   behind = ahead.behind;
   is = ap rest_of (ahead.is ∙ ap (λ (l : List Message). l ++ ahead.behind) first.1) ∙ ap (λ (l : List Message). rest_of l ++ ahead.behind) (sym first.1);
@@ -108,7 +109,8 @@ its-gateway s name v caller own member its =
     ap (process_at s) index ∙ process_at-index s name member
 
 module _ (g : Group) (a : Action) (out now : HandedFrames) (v : Member) (theirs : NameTheirCallers g.shape g.gateways) where
-  pub others-stand : v.words.name ≢ by_of g.shape a → LosesFirst a v.words.name (by_of g.shape a) out now → MemberStands g out v → MemberStands (group_after g a) now v
+  pub others-stand : v.words.name ≢ by_of g.shape a → LosesFirst a v.words.name (by_of g.shape a) out now
+      → MemberStands g out v → MemberStands (group_after g a) now v
   others-stand other loses st =
       let q = v.words.name in
       let p = by_of g.shape a in
@@ -117,7 +119,8 @@ module _ (g : Group) (a : Action) (out now : HandedFrames) (v : Member) (theirs 
       let signs = keeps-signs g.words.cut g.signs q g.shape a other in
       let gates = keeps-gateways g q a theirs other in
       let its : (c : ℕ) → IsItsCaller v.callers c → gateway_of g.shape c ≡ q =
-      λ c mine. ap (λ (s : Dimensions). gateway_of s c) st.shape ∙ its-gateway v.words.shape q v.callers c st.own (subst (λ (s : Dimensions). IsProcess s q) st.shape st.here.member) mine in
+      λ c mine. ap (λ (s : Dimensions). gateway_of s c) st.shape ∙ its-gateway v.words.shape q v.callers c st.own
+      (subst (λ (s : Dimensions). IsProcess s q) st.shape st.here.member) mine in
       record {
         shape = st.shape;
         here = record { member = st.here.member; runs = keeps-here g.shape g.gone a q other ∙ st.here.runs };
@@ -136,7 +139,8 @@ module _ (g : Group) (a : Action) (out now : HandedFrames) (v : Member) (theirs 
           links = λ r within.
               let held = at [] v.node.links (index_of v.words.shape r) in
               let ahead = ahead-less (knows_dead v.words.cut r) (reads_message a q) p (g.works.messages q) out.messages held r loses.handed
-              (λ same. subst (λ (z : ProcessId). IsAhead (knows_dead v.words.cut r) (g.works.messages q z) (out.messages z) held) same (st.works.links r within))
+              (λ same. subst (λ (z : ProcessId). IsAhead (knows_dead v.words.cut r) (g.works.messages q z)
+              (out.messages z) held) same (st.works.links r within))
               (st.works.links r within) in
               subst (λ (wire : List Message). IsAhead (knows_dead v.words.cut r) wire (now.messages r) held) (sym (works.messages r))
               (subst (λ (frames : List Message). IsAhead (knows_dead v.words.cut r) (less_if (reads_message a q) p (g.works.messages q) r) frames held)
@@ -154,8 +158,10 @@ module _ (g : Group) (a : Action) (out now : HandedFrames) (v : Member) (theirs 
           next = λ c mine. gates.next c (its c mine) ∙ st.callers.next c mine;
         };
         requests = record {
-          requests = λ r apart. gates.requests r ∙ other-less (reads_request a q) p q (g.gateways.requests q) out.requests r other st.requests.requests apart ∙ sym (loses.requests r);
-          answers = λ r apart. gates.answers r ∙ other-less (reads_answer a q) p q (g.gateways.answers q) out.answers r other st.requests.answers apart ∙ sym (loses.answers r);
+          requests = λ r apart. gates.requests r ∙ other-less (reads_request a q) p q (g.gateways.requests q)
+              out.requests r other st.requests.requests apart ∙ sym (loses.requests r);
+          answers = λ r apart. gates.answers r ∙ other-less (reads_answer a q) p q (g.gateways.answers q) out.answers r
+              other st.requests.answers apart ∙ sym (loses.answers r);
           parked = gates.parked ∙ st.requests.parked;
           own_requests = gates.requests q ∙ own-row (reads_request a q) p q (g.gateways.requests q) other ∙ st.requests.own_requests;
           own_answers = gates.answers q ∙ own-row (reads_answer a q) p q (g.gateways.answers q) other ∙ st.requests.own_answers;

@@ -40,7 +40,11 @@ shape-reached s c reached = ap (λ (d : Composed). d.group.shape) (sym reached.t
 pub goes-on : (s : Dimensions) (c : Composed) (actions : List Action) → IsReached s c → AreActionsFrom c actions → IsReached s (composed_from c actions)
 goes-on s c actions reached are = record {
   done = reached.done ++ actions;
-  run = (reached.run.0, from-more (opening_composed s) reached.done actions reached.run.1 (subst (λ (d : Composed). AreActionsFrom d actions) (sym reached.there) are));
+  run = (
+    reached.run.0,
+    from-more (opening_composed s) reached.done actions reached.run.1
+        (subst (λ (d : Composed). AreActionsFrom d actions) (sym reached.there) are),
+  );
   there = composed-more (opening_composed s) reached.done actions ∙ ap (λ (d : Composed). composed_from d actions) reached.there;
 }
 

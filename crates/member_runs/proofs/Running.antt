@@ -34,5 +34,6 @@ pub make-a-run : CallersAreTheirs → MembersMakeARun
 make-a-run always s y steps made =
     let opening : IsReached s (opening_composed s) = record { done = []; run = (made.shape, tt); there = refl } in
     let all = steps-stand always s (opening_composed s) y steps opening (stand-new s y made.opening) made.made in
-    let shape = shape-reached s (composed_from (opening_composed s) (all_actions y steps)) (goes-on s (opening_composed s) (all_actions y steps) opening all.0) in
+    let shape = shape-reached s (composed_from (opening_composed s) (all_actions y steps))
+    (goes-on s (opening_composed s) (all_actions y steps) opening all.0) in
     record { run = (made.shape, all.0); stand = λ p member. all.1 p (subst (λ (d : Dimensions). IsProcess d p) shape member) }

@@ -63,10 +63,12 @@ module _ (always : CallersAreTheirs) (s : Dimensions) where
           let apart : x ≢ p = λ is. reads.other (sym sender.0 ∙ is) in
           let theirs = theirs-reached always s c reached in
           let stands = reader-stands c.group p (y.out d.from) (y.members d.from) d.frame theirs apart reads.first sender.1 in
-          let named = subst (λ (z : ProcessId). MemberStands (composed_with c (reading d.frame z p)).group (without_first p d.frame (y.out d.from)) (y.members d.from)) sender.0 stands in
+          let named = subst (λ (z : ProcessId). MemberStands (composed_with c (reading d.frame z p)).group
+          (without_first p d.frame (y.out d.from)) (y.members d.from)) sender.0 stands in
           let there = subst (λ (out : HandedFrames). MemberStands (composed_with c (reading d.frame d.from p)).group out (y.members d.from))
           (sym (changed-here y.out d.from (without_first p d.frame (y.out d.from)))) named in
-          subst (λ (z : ProcessId). MemberStands (composed_with c (reading d.frame d.from p)).group (out_read p (Some d) y.out z) (y.members z)) (sym same) there
+          subst (λ (z : ProcessId). MemberStands (composed_with c (reading d.frame d.from p)).group
+          (out_read p (Some d) y.out z) (y.members z)) (sym same) there
       | inr apart ↦
           let own = stand q member in
           let a = reading d.frame d.from p in
@@ -77,12 +79,14 @@ module _ (always : CallersAreTheirs) (s : Dimensions) where
           (λ same. apart (sym own.0 ∙ same ∙ by.1)) own.1)
     ]
 
-    others-leave : (p : ProcessId) (d : Option Delivery) (actions : List Action) → IsReadable s y p d → ActsBy d c.group.shape p actions → AreActionsFrom c actions
+    others-leave : (p : ProcessId) (d : Option Delivery) (actions : List Action) → IsReadable s y p d
+        → ActsBy d c.group.shape p actions → AreActionsFrom c actions
         → (q : ProcessId) → IsProcess s q → q ≢ p → MemberStands (composed_from c actions).group (out_read p d y.out q) (y.members q)
     others-leave p None actions reads own are q member other =
         let at = stand q member in own-leave c actions p (y.out q) (y.members q) reached are own (λ same. other (sym at.0 ∙ same)) at.1
     others-leave p (Some d) actions reads is are q member other =
-        subst (λ (l : List Action). MemberStands (composed_from c l).group (out_read p (Some d) y.out q) (y.members q)) (sym is) (read-leaves p d reads q member other)
+        subst (λ (l : List Action). MemberStands (composed_from c l).group (out_read p (Some d) y.out q) (y.members q))
+        (sym is) (read-leaves p d reads q member other)
 
     pub step-stands : (t : SystemStep) → MayStep s y t → AreActionsFrom c (actions_of t.call (y.members t.at))
         × Stand s (composed_from c (actions_of t.call (y.members t.at))).group (after_step y t)

@@ -21,7 +21,8 @@ one-more i before now others within long added = record {
   long = ap length written ∙ length-put false now i word within ∙ added.long;
   done = λ k below. elim (cases_eq k i) [
     | inl same ↦ ap (λ (xs : List Bool). at false xs k) written ∙ ap (at false (put false now i word)) same ∙ at-put false false now i word
-        ∙ either _ _ _ _ (sym (at_index false false now i within) ∙ added.left i (omega arith)) (sym (at_index false false others i (omega (arith, long, within))))
+        ∙ either _ _ _ _ (sym (at_index false false now i within) ∙ added.left i (omega arith))
+        (sym (at_index false false others i (omega (arith, long, within))))
         ∙ ap (λ (j : ℕ). at false before j || at false others j) (sym same)
     | inr other ↦ elsewhere k other ∙ added.done k (omega (arith, below, other))
   ];
@@ -41,7 +42,8 @@ pub all-added : (i : ℕ) (before now others : List Bool) → length now ≤ i �
 all-added i before now others end long added k = elim (cases_lt k i) [
   | inl below ↦ added.done k below
   | inr above ↦ at_behind false now k (omega (arith, end, above)) ∙ either _ _ _ _
-      (sym (at_behind false before k (let same = added.long in omega (arith, end, above, same)))) (sym (at_behind false others k (omega (arith, end, above, long))))
+      (sym (at_behind false before k (let same = added.long in omega (arith, end, above, same))))
+      (sym (at_behind false others k (omega (arith, end, above, long))))
 ]
 
 -- the words that say dead before place i do so among others
@@ -56,7 +58,8 @@ one-within i words others within long here before k below dead = elim (cases_eq 
   | inr other ↦ before k (omega (arith, below, other)) dead
 ]
 
-pub all-within : (i : ℕ) (words others : List Bool) → length words ≤ i → AreWithinBefore i words others → (k : ℕ) → at false words k ≡ true → at false others k ≡ true
+pub all-within : (i : ℕ) (words others : List Bool) → length words ≤ i → AreWithinBefore i words others → (k : ℕ)
+    → at false words k ≡ true → at false others k ≡ true
 all-within i words others end before k dead = elim (cases_lt k i) [
   | inl below ↦ before k below dead
   | inr above ↦ absurd (cc (sym dead ∙ at_behind false words k (omega (arith, end, above))))

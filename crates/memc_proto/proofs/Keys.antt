@@ -1,4 +1,6 @@
-use Rattle.std.proofs.Common.{◌≡◌, ℕ, ◌+◌, ◌<◌, ◌≤◌, ◌==◌, ◌&&◌, nat_lt, not, Bool, true, false, List, [], ◌∷◌, ◌++◌, length, take, get_or, Result, Ok, Err, if◌then◌else◌, take_all, map, Bor, refl, sym, ap, ◌∙◌, subst, arith}
+use Rattle.std.proofs.Common.{◌≡◌, ℕ, ◌+◌, ◌<◌, ◌≤◌, ◌==◌, ◌&&◌, nat_lt, not, Bool, true, false, List, [], ◌∷◌, ◌++◌}
+use Rattle.std.proofs.Common.{length, take, get_or, Result, Ok, Err, if◌then◌else◌, take_all, map, Bor, refl, sym, ap}
+use Rattle.std.proofs.Common.{◌∙◌, subst, arith}
 use Rattle.std.proofs.lemmas.Bool.Decides.{nat_tests}
 use Rattle.std.proofs.lemmas.Grind.{common_steps}
 use Rattle.std.proofs.lemmas.List.Sums.{list_all-from_AllPass}
@@ -31,7 +33,8 @@ pub key_word-ok : (word key : List ℕ) → key_word word ≡ Ok key → (is_key
 unfolding key_word
 key_word-ok word key right = key_word-by (is_key_word word) word key refl right
 
-key_word-wrong_by : (b : Bool) (word : List ℕ) (which : Word) → is_key_word word ≡ b → (if b then Ok word else Err Key) ≡ Err which → (is_key_word word ≡ false) × (which ≡ Key)
+key_word-wrong_by : (b : Bool) (word : List ℕ) (which : Word) → is_key_word word ≡ b → (if b then Ok word else Err Key)
+    ≡ Err which → (is_key_word word ≡ false) × (which ≡ Key)
 key_word-wrong_by true word which is wrong = cc
 key_word-wrong_by false word which is wrong = (is, cc)
 
@@ -40,7 +43,8 @@ unfolding key_word
 key_word-err word which wrong = key_word-wrong_by (is_key_word word) word which refl wrong
 
 -- one more key
-pub keys-step : (words keys : List (List ℕ)) (i : ℕ) (key : List ℕ) → i < length words → keys ≡ take i words → list_all is_key_word (take i words) ≡ true → key_word (get_or words i []) ≡ Ok key
+pub keys-step : (words keys : List (List ℕ)) (i : ℕ) (key : List ℕ) → i < length words → keys ≡ take i words
+    → list_all is_key_word (take i words) ≡ true → key_word (get_or words i []) ≡ Ok key
     → (keys ++ key ∷ [] ≡ take (i + 1) words) × (list_all is_key_word (take (i + 1) words) ≡ true)
 keys-step words keys i key within before right read =
     let is = key_word-ok (get_or words i []) key read in (
@@ -49,7 +53,8 @@ keys-step words keys i key within before right read =
     )
 
 -- all are keys
-pub keys-done : (words keys : List (List ℕ)) (i : ℕ) → length words ≤ i → keys ≡ take i words → list_all is_key_word (take i words) ≡ true → key_words words ≡ Ok keys
+pub keys-done : (words keys : List (List ℕ)) (i : ℕ) → length words ≤ i → keys ≡ take i words
+    → list_all is_key_word (take i words) ≡ true → key_words words ≡ Ok keys
 unfolding key_words
 keys-done words keys i over before right =
     let whole : take i words ≡ words = take_all i words over in
@@ -64,7 +69,9 @@ keys-wrong words i which within wrong =
     rw (list_all_at is_key_word words i [] within is.0) (ap (λ (w : Word). Err w) (sym is.1))
 
 -- the same, for what was read
-pub keys-fault : (words : List (List ℕ)) (i : ℕ) (fault : Fault) (result : Result (List (List ℕ)) Fault) → i < length words → result ≡ Err fault → Gives {A = List ℕ} (Err fault) (key_word (get_or words i [])) → Gives result (key_words words)
+pub keys-fault : (words : List (List ℕ)) (i : ℕ) (fault : Fault) (result : Result (List (List ℕ)) Fault)
+    → i < length words → result ≡ Err fault → Gives {A = List ℕ} (Err fault) (key_word (get_or words i []))
+    → Gives result (key_words words)
 keys-fault words i fault result within is given = subst (λ (r : Result (List (List ℕ)) Fault). Gives r (key_words words)) (sym is) (by_fault fault given)
   where
     by_fault : (fault : Fault) → Gives {A = List ℕ} (Err fault) (key_word (get_or words i [])) → Gives {A = List (List ℕ)} (Err fault) (key_words words)
@@ -72,7 +79,8 @@ keys-fault words i fault result within is given = subst (λ (r : Result (List (L
     by_fault Want _ = tt
 
 -- the word that a reference at a place reads
-pub word_at : (words : List (Bor (List ℕ))) (i : ℕ) (d : Bor (List ℕ)) → i < length words → get_or (map (λ (word : Bor (List ℕ)). word.now) words) i [] ≡ (get_or words i d).now
+pub word_at : (words : List (Bor (List ℕ))) (i : ℕ) (d : Bor (List ℕ)) → i < length words
+    → get_or (map (λ (word : Bor (List ℕ)). word.now) words) i [] ≡ (get_or words i d).now
 word_at words i d within = get_or-map (λ (word : Bor (List ℕ)). word.now) words i d [] within
 
 pub length-words : (words : List (Bor (List ℕ))) → length (map (λ (word : Bor (List ℕ)). word.now) words) ≡ length words

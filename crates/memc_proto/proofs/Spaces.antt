@@ -1,4 +1,6 @@
-use Rattle.std.proofs.Common.{◌≡◌, ℕ, ◌+◌, ◌-◌, ◌<◌, ◌≤◌, ◌==◌, nat_lt, Bool, true, false, List, [], ◌∷◌, ◌++◌, length, take, drop, get_or, slice_index, All, add-one, if◌then◌else◌, append_assoc, refl, sym, ap, ◌∙◌, subst, arith}
+use Rattle.std.proofs.Common.{◌≡◌, ℕ, ◌+◌, ◌-◌, ◌<◌, ◌≤◌, ◌==◌, nat_lt, Bool, true, false, List, [], ◌∷◌, ◌++◌, length}
+use Rattle.std.proofs.Common.{take, drop, get_or, slice_index, All, add-one, if◌then◌else◌, append_assoc, refl, sym, ap}
+use Rattle.std.proofs.Common.{◌∙◌, subst, arith}
 use Rattle.std.proofs.Math.Seq.{drop-cons, take-length}
 use Rattle.std.proofs.lemmas.Grind.{get_or_default_zero}
 use Rattle.std.proofs.lemmas.List.{take-append-drop, length-take-le, get_or-take, length-drop}
@@ -32,7 +34,9 @@ cut_at text end within =
     let tail : drop end text ≡ slice_index text end ∷ drop (end + 1) text = rw add-one (drop-cons text end 0 within) in
     sym (take-append-drop end text) ∙ ap (λ (xs : List ℕ). take end text ++ xs) tail
 
-filter-first : (word : List ℕ) (words : List (List ℕ)) (b : Bool) → nat_lt 0 (length word) ≡ b → filter (λ w. nat_lt 0 (length w)) (word ∷ words) ≡ (if b then word ∷ [] else []) ++ filter (λ w. nat_lt 0 (length w)) words
+filter-first : (word : List ℕ) (words : List (List ℕ)) (b : Bool) → nat_lt 0 (length word) ≡ b
+    → filter (λ w. nat_lt 0 (length w)) (word ∷ words) ≡ (if b then word ∷ [] else [])
+    ++ filter (λ w. nat_lt 0 (length w)) words
 filter-first word words true is = rw is refl
 filter-first word words false is = rw is refl
 
@@ -42,14 +46,17 @@ pub words_of-cut : (text : List ℕ) (end : ℕ) → end < length text → NoneB
 words_of-cut text end within before here =
     let is_space : ℕ → Bool = λ b. b == 32 in
     let rest : List ℕ = drop (end + 1) text in
-    let pieces : slice_split is_space text ≡ take end text ∷ slice_split is_space rest = ap (slice_split is_space) (cut_at text end within) ∙ slice_split_at is_space (take end text) (slice_index text end) rest (is_plain 32 text end (omega arith) before) here in
+    let pieces : slice_split is_space text ≡ take end text ∷ slice_split is_space rest =
+    ap (slice_split is_space) (cut_at text end within) ∙ slice_split_at is_space (take end text)
+    (slice_index text end) rest (is_plain 32 text end (omega arith) before) here in
     ap (filter (λ w. nat_lt 0 (length w))) pieces ∙ filter-first (take end text) (slice_split is_space rest) (nat_lt 0 (length (take end text))) refl
 
 -- a text without a space is one word
 pub words_of-last : (text : List ℕ) → NoneBelow 32 text (length text) → words_of text ≡ one_word text
 words_of-last text none =
     let plain = subst (All (λ b. (b == 32) ≡ false)) (take-length text) (is_plain 32 text (length text) (omega arith) none) in
-    ap (filter (λ w. nat_lt 0 (length w))) (slice_split_none (λ b. b == 32) text plain) ∙ filter-first text [] (nat_lt 0 (length text)) refl ∙ right (one_word text)
+    ap (filter (λ w. nat_lt 0 (length w))) (slice_split_none (λ b. b == 32) text plain)
+    ∙ filter-first text [] (nat_lt 0 (length text)) refl ∙ right (one_word text)
   where
     right : (ws : List (List ℕ)) → ws ++ [] ≡ ws
     right [] = refl
@@ -59,12 +66,14 @@ pub take_rest : (text : List ℕ) (n : ℕ) → take (length text - n) (drop n t
 take_rest text n = ap (λ (m : ℕ). take m (drop n text)) (sym (length-drop n text)) ∙ take-length (drop n text)
 
 -- the step of a loop that cuts words off at their spaces
-pub words_of-step : (found : List (List ℕ)) (line text : List ℕ) (end : ℕ) → found ++ words_of text ≡ words_of line → end < length text → NoneBelow 32 text end → (slice_index text end == 32) ≡ true
+pub words_of-step : (found : List (List ℕ)) (line text : List ℕ) (end : ℕ) → found ++ words_of text ≡ words_of line
+    → end < length text → NoneBelow 32 text end → (slice_index text end == 32) ≡ true
     → (found ++ one_word (take end text)) ++ words_of (take (length text - (end + 1)) (drop (end + 1) text)) ≡ words_of line
 words_of-step found line text end before within none here =
     rw (take_rest text (end + 1)) (append_assoc found (one_word (take end text)) (words_of (drop (end + 1) text))
     ∙ ap (λ (ws : List (List ℕ)). found ++ ws) (sym (words_of-cut text end within none here)) ∙ before)
 
 -- its end
-pub words_of-done : (found : List (List ℕ)) (line text : List ℕ) → found ++ words_of text ≡ words_of line → NoneBelow 32 text (length text) → found ++ one_word text ≡ words_of line
+pub words_of-done : (found : List (List ℕ)) (line text : List ℕ) → found ++ words_of text ≡ words_of line
+    → NoneBelow 32 text (length text) → found ++ one_word text ≡ words_of line
 words_of-done found line text before none = ap (λ (ws : List (List ℕ)). found ++ ws) (sym (words_of-last text none)) ∙ before

@@ -1,4 +1,6 @@
-use Rattle.std.proofs.Common.{suc, ◌≡◌, ◌≢◌, ℕ, ◌+◌, ◌<◌, ◌≤◌, ◌==◌, true, false, List, ◌∷◌, ◌++◌, Result, Ok, Err, IfOk, length, take, drop, get_or, slice_index, append_assoc, refl, sym, ap, ◌∙◌, subst, arith}
+use Rattle.std.proofs.Common.{suc, ◌≡◌, ◌≢◌, ℕ, ◌+◌, ◌<◌, ◌≤◌, ◌==◌, true, false, List, ◌∷◌, ◌++◌, Result, Ok, Err}
+use Rattle.std.proofs.Common.{IfOk, length, take, drop, get_or, slice_index, append_assoc, refl, sym, ap, ◌∙◌, subst}
+use Rattle.std.proofs.Common.{arith}
 use Rattle.std.proofs.Math.Seq.{take-append-add, take-length}
 use Rattle.std.proofs.lemmas.List.{length-append, length-drop, length-take-le, length-take, get_or-take, take-append-le}
 use Rattle.std.proofs.lemmas.Bool.Decides.{nat_tests}
@@ -27,7 +29,8 @@ pub plain_below : (text : List ℕ) (end : ℕ) → end ≤ length text → None
 plain_below text end within none k d below = differs (get_or (take end text) k d) (is_plain 10 text end within none k d below)
 
 -- a line in two parts
-line_at : (front piece : List ℕ) (end : ℕ) → IsPlain front → end < length piece → NoneBelow 10 piece end → length front + end < 32768 → IsLine (front ++ take end piece)
+line_at : (front piece : List ℕ) (end : ℕ) → IsPlain front → end < length piece → NoneBelow 10 piece end
+    → length front + end < 32768 → IsLine (front ++ take end piece)
 line_at front piece end plain within none short = record {
   plain = All-append (λ (b : ℕ). b ≢ 10) front (take end piece) plain (plain_below piece end (omega arith) none);
   short = omega (arith, length-append front (take end piece), length-take-le end piece (omega arith));
@@ -37,11 +40,14 @@ line_at front piece end plain within none short = record {
 at_end : (piece : List ℕ) (end : ℕ) → end < length piece → (slice_index piece end == 10) ≡ true → piece ≡ take end piece ++ 10 ∷ drop (end + 1) piece
 at_end piece end within here = cut_at piece end within ∙ ap (λ (b : ℕ). take end piece ++ b ∷ drop (end + 1) piece) (is_ten (slice_index piece end) here)
 
-whole_at : (front piece : List ℕ) (end : ℕ) → end < length piece → (slice_index piece end == 10) ≡ true → front ++ piece ≡ (front ++ take end piece) ++ 10 ∷ drop (end + 1) piece
-whole_at front piece end within here = ap (λ (bs : List ℕ). front ++ bs) (at_end piece end within here) ∙ sym (append_assoc front (take end piece) (10 ∷ drop (end + 1) piece))
+whole_at : (front piece : List ℕ) (end : ℕ) → end < length piece → (slice_index piece end == 10) ≡ true
+    → front ++ piece ≡ (front ++ take end piece) ++ 10 ∷ drop (end + 1) piece
+whole_at front piece end within here = ap (λ (bs : List ℕ). front ++ bs) (at_end piece end within here)
+    ∙ sym (append_assoc front (take end piece) (10 ∷ drop (end + 1) piece))
 
 -- the front of a piece, up to n bytes behind its first line end
-front_at : (piece : List ℕ) (end n : ℕ) → end < length piece → (slice_index piece end == 10) ≡ true → take (end + 1 + n) piece ≡ take end piece ++ 10 ∷ take n (drop (end + 1) piece)
+front_at : (piece : List ℕ) (end n : ℕ) → end < length piece → (slice_index piece end == 10) ≡ true
+    → take (end + 1 + n) piece ≡ take end piece ++ 10 ∷ take n (drop (end + 1) piece)
 front_at piece end n within here =
     let long : length (take end piece) ≡ end = length-take-le end piece (omega arith) in
     let count : end + 1 + n ≡ length (take end piece) + (1 + n) = omega arith in
@@ -51,8 +57,10 @@ front_at piece end n within here =
     take_one : (n : ℕ) (bs : List ℕ) → take (1 + n) (10 ∷ bs) ≡ 10 ∷ take n bs
     take_one n bs = let e : 1 + n ≡ suc n = omega arith in rw e refl
 
-waits_at : (front piece : List ℕ) (end : ℕ) (says : Line) (kept : List ℕ) → IsPlain front → end < length piece → NoneBelow 10 piece end → (slice_index piece end == 10) ≡ true → length front + end < 32768
-    → says ≡ line_of (front ++ take end piece) → kept ≡ drop (end + 1) piece → length (drop (end + 1) piece) < block_length says → Waits says kept (front ++ piece)
+waits_at : (front piece : List ℕ) (end : ℕ) (says : Line) (kept : List ℕ) → IsPlain front → end < length piece
+    → NoneBelow 10 piece end → (slice_index piece end == 10) ≡ true → length front + end < 32768
+    → says ≡ line_of (front ++ take end piece) → kept ≡ drop (end + 1) piece → length (drop (end + 1) piece)
+    < block_length says → Waits says kept (front ++ piece)
 waits_at front piece end says kept plain within none here short read same less = record {
   line = front ++ take end piece;
   whole = whole_at front piece end within here ∙ ap (λ (bs : List ℕ). (front ++ take end piece) ++ 10 ∷ bs) (sym same);
@@ -62,7 +70,8 @@ waits_at front piece end says kept plain within none here short read same less =
 }
 
 -- the step behind the end of a line is a step in the line
-pub line_step-end : (front piece : List ℕ) (end : ℕ) (says : Line) (step : Step) → IsPlain front → end < length piece → NoneBelow 10 piece end → (slice_index piece end == 10) ≡ true → length front + end < 32768
+pub line_step-end : (front piece : List ℕ) (end : ℕ) (says : Line) (step : Step) → IsPlain front → end < length piece
+    → NoneBelow 10 piece end → (slice_index piece end == 10) ≡ true → length front + end < 32768
     → says ≡ line_of (front ++ take end piece) → IsWithin piece step → IsBlockStep says piece (end + 1) step → IsStep InLine front front piece step
 line_step-end front piece end says (Whole request taken) plain within none here short read fits step = record {
   line = front ++ take end piece;
@@ -77,7 +86,9 @@ line_step-end front piece end says Grows plain within none here short read fits 
 line_step-end front piece end (line.Whole request) (Awaits mode from) plain within none here short read fits step = absurd step.1
 line_step-end front piece end (line.Stores store) (Awaits mode from) plain within none here short read fits step =
     let keeps = step.1 in (
-      subst (λ (m : Mode). StandsFor m (drop from piece) (front ++ piece)) (sym keeps.0) (waits_at front piece end (line.Stores store) (drop from piece) plain within none here short read keeps.1 step.0),
+      subst (λ (m : Mode). StandsFor m (drop from piece) (front ++ piece)) (sym keeps.0)
+          (waits_at front piece end (line.Stores store) (drop from piece) plain within none here short read keeps.1
+          step.0),
       ap is_ended keeps.0,
     )
 line_step-end front piece end (line.Skips refusal len) (Awaits mode from) plain within none here short read fits step =
@@ -96,16 +107,19 @@ pub searched : (piece : List ℕ) (m k : ℕ) → k < length (take m piece) → 
 searched piece m k below = get_or-take m piece k 0 (omega (arith, length-take m piece))
 
 -- no line end yet, and there may be one
-pub line_step-grows : (front piece : List ℕ) → StandsFor InLine front front → NoneBelow 10 piece (length piece) → length front + length piece ≤ 32768 → StandsFor InLine (front ++ piece) (front ++ piece)
+pub line_step-grows : (front piece : List ℕ) → StandsFor InLine front front → NoneBelow 10 piece (length piece)
+    → length front + length piece ≤ 32768 → StandsFor InLine (front ++ piece) (front ++ piece)
 line_step-grows front piece stands none short =
     let plain : IsPlain piece = subst IsPlain (take-length piece) (plain_below piece (length piece) (omega arith) none) in
     (refl, All-append (λ (b : ℕ). b ≢ 10) front piece stands.1 plain, omega (arith, length-append front piece))
 
 -- no line end where there may be one
-pub line_step-too_long : (front piece : List ℕ) (room : ℕ) → IsPlain front → length front + room ≡ 32768 → room < length piece → NoneBelow 10 piece room → IsTooLong (front ++ piece)
+pub line_step-too_long : (front piece : List ℕ) (room : ℕ) → IsPlain front → length front + room ≡ 32768
+    → room < length piece → NoneBelow 10 piece room → IsTooLong (front ++ piece)
 line_step-too_long front piece room plain whole over none = record {
   long = omega (arith, length-append front piece);
-  plain = subst IsPlain (sym (ap (λ (n : ℕ). take n (front ++ piece)) (sym whole) ∙ take-append-add front piece room)) (All-append (λ (b : ℕ). b ≢ 10) front (take room piece) plain (plain_below piece room (omega arith) none));
+  plain = subst IsPlain (sym (ap (λ (n : ℕ). take n (front ++ piece)) (sym whole) ∙ take-append-add front piece room))
+      (All-append (λ (b : ℕ). b ≢ 10) front (take room piece) plain (plain_below piece room (omega arith) none));
 }
 
 -- a line stays too long

@@ -32,11 +32,14 @@ begins_line input request after b = b.whole ∙ ap (λ (t : List ℕ). t ++ afte
 -- an input begins with one request at most
 pub begins-once : (input : List ℕ) (r s : Request) (x y : List ℕ) → Begins input r x → Begins input s y → (r ≡ s) × (x ≡ y)
 begins-once input r s x y one other =
-    let same : one.is.line ++ 10 ∷ (one.is.block ++ x) ≡ other.is.line ++ 10 ∷ (other.is.block ++ y) = sym (begins_line input r x one) ∙ begins_line input s y other in
+    let same : one.is.line ++ 10 ∷ (one.is.block ++ x) ≡ other.is.line ++ 10 ∷ (other.is.block ++ y) =
+    sym (begins_line input r x one) ∙ begins_line input s y other in
     let parts = line_ends one.is.line other.is.line (one.is.block ++ x) (other.is.block ++ y) one.is.is_line.plain other.is.is_line.plain same in
-    let long : length one.is.block ≡ length other.is.block = one.is.belongs ∙ ap (λ (line : List ℕ). block_length (line_of line)) parts.0 ∙ sym other.is.belongs in
+    let long : length one.is.block ≡ length other.is.block = one.is.belongs
+    ∙ ap (λ (line : List ℕ). block_length (line_of line)) parts.0 ∙ sym other.is.belongs in
     let blocks = cut_same one.is.block other.is.block x y long parts.1 in (
-      one.is.asks ∙ ap (λ (line : List ℕ). request_of (line_of line) one.is.block) parts.0 ∙ ap (λ (block : List ℕ). request_of (line_of other.is.line) block) blocks.0 ∙ sym other.is.asks,
+      one.is.asks ∙ ap (λ (line : List ℕ). request_of (line_of line) one.is.block) parts.0
+          ∙ ap (λ (block : List ℕ). request_of (line_of other.is.line) block) blocks.0 ∙ sym other.is.asks,
       blocks.1,
     )
   where
@@ -52,8 +55,12 @@ begins-once input r s x y one other =
 
 -- at the end of a line that is in the bytes there is a line end
 pub ends_here : (bytes line more : List ℕ) → bytes ≡ line ++ 10 ∷ more → (length line < length bytes) × (get_or bytes (length line) 0 ≡ 10)
-ends_here bytes line more is =
-    (omega (arith, ap length is, length-append line (10 ∷ more)), ap (λ (bs : List ℕ). get_or bs (length line) 0) is ∙ ap (λ (n : ℕ). get_or (line ++ 10 ∷ more) n 0) (sym (add-zero (length line))) ∙ get_or-append-add line (10 ∷ more) 0 0)
+ends_here bytes line more is = (
+  omega (arith, ap length is, length-append line (10 ∷ more)),
+  ap (λ (bs : List ℕ). get_or bs (length line) 0) is
+      ∙ ap (λ (n : ℕ). get_or (line ++ 10 ∷ more) n 0) (sym (add-zero (length line)))
+      ∙ get_or-append-add line (10 ∷ more) 0 0,
+)
 
 -- no whole request without a line end
 pub partial-plain : (rest : List ℕ) → IsPlain rest → IsPartial rest
@@ -72,7 +79,8 @@ pub partial-waits : (says : Line) (block rest : List ℕ) → Waits says block r
 partial-waits says block rest waits request after b =
     let same : waits.line ++ 10 ∷ block ≡ b.is.line ++ 10 ∷ (b.is.block ++ after) = sym waits.whole ∙ begins_line rest request after b in
     let parts = line_ends waits.line b.is.line block (b.is.block ++ after) waits.is_line.plain b.is.is_line.plain same in
-    let long : length b.is.block ≡ block_length says = b.is.belongs ∙ ap (λ (line : List ℕ). block_length (line_of line)) (sym parts.0) ∙ ap block_length waits.said in
+    let long : length b.is.block ≡ block_length says = b.is.belongs
+    ∙ ap (λ (line : List ℕ). block_length (line_of line)) (sym parts.0) ∙ ap block_length waits.said in
     let short : length block < block_length says = waits.short in
     omega (arith, ap length parts.1, length-append b.is.block after)
 

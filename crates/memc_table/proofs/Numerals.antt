@@ -1,4 +1,5 @@
-use Rattle.std.proofs.Common.{suc, ◌≡◌, ℕ, ◌+◌, ◌-◌, ◌*◌, ◌^◌, ◌<◌, ◌≤◌, nat_lt, ◌&&◌, List, [], ◌∷◌, length, drop, slice_index, Option, Some, None, if◌then◌else◌, arith}
+use Rattle.std.proofs.Common.{suc, ◌≡◌, ℕ, ◌+◌, ◌-◌, ◌*◌, ◌^◌, ◌<◌, ◌≤◌, nat_lt, ◌&&◌, List, [], ◌∷◌, length, drop}
+use Rattle.std.proofs.Common.{slice_index, Option, Some, None, if◌then◌else◌, arith}
 use Rattle.std.proofs.lemmas.Grind.{common_steps}
 use Rattle.std.proofs.Math.Seq.{drop-cons}
 use Rattle.std.specs.Char.{digit_value}
@@ -22,7 +23,9 @@ value_after-nil n i s over below = grind (arith, common_steps)
 
 pub value_after-overflow : (n i : ℕ) (s : List ℕ) → i < length s → 2 ^ 64 ≤ n * 10 + digit_value (slice_index s i) → value_after n (drop i s) ≡ None
 value_after-overflow n i s within large =
-    rw (drop-cons s i 0) (value_after-large n (slice_index s i ∷ drop (suc i) s) (omega (arith, digits_value_after-le (n * 10 + digit_value (slice_index s i)) (drop (suc i) s))))
+    rw (drop-cons s i 0)
+    (value_after-large n (slice_index s i ∷ drop (suc i) s)
+    (omega (arith, digits_value_after-le (n * 10 + digit_value (slice_index s i)) (drop (suc i) s))))
 
 pub digit_value-ascii : (b : ℕ) → 48 ≤ b → b ≤ 57 → digit_value b ≡ b - 48
 digit_value-ascii b low high = grind (arith, common_steps)

@@ -1,5 +1,7 @@
 -- Bytes by their addresses: which page an address lies in, and what is read and added piece by piece.
-use Rattle.std.proofs.Common.{◌≡◌, ◌≢◌, ℕ, zero, suc, ◌+◌, ◌-◌, ◌*◌, ◌/◌, ◌%◌, ◌<◌, ◌≤◌, List, [], ◌∷◌, ◌++◌, length, get_or, Some, IsSome, map, take, drop, bit_xor, ◌⊎◌, Contains, refl, sym, ap, ap₂, ◌∙◌, subst, inl, inr, arith}
+use Rattle.std.proofs.Common.{◌≡◌, ◌≢◌, ℕ, zero, suc, ◌+◌, ◌-◌, ◌*◌, ◌/◌, ◌%◌, ◌<◌, ◌≤◌, List, [], ◌∷◌, ◌++◌, length}
+use Rattle.std.proofs.Common.{get_or, Some, IsSome, map, take, drop, bit_xor, ◌⊎◌, Contains, refl, sym, ap, ap₂, ◌∙◌}
+use Rattle.std.proofs.Common.{subst, inl, inr, arith}
 use Rattle.std.proofs.Math.Nat.{div-eq_of_lt-le}
 use Rattle.field_byte.specs.Vectors.{add_bytes, scale}
 use Rattle.field_byte.proofs.Vectors.{AreBytes, get_or-scale, length-scale, get_or-add_bytes, length-add_bytes}
@@ -49,7 +51,9 @@ module _ (a k : ℕ) (xs ys : List ℕ) (long : length ys ≡ k) (within : a + k
 
   pub mid_below : (j : ℕ) → j < a → get_or (put_mid a k xs ys) j 0 ≡ get_or xs j 0
   mid_below j below =
-      sym (get_or-take a (put_mid a k xs ys) j 0 below) ∙ (ap (λ l. get_or l j 0) (take-put_mid_below a k xs ys a (omega arith) (omega arith)) ∙ get_or-take a xs j 0 below)
+      sym (get_or-take a (put_mid a k xs ys) j 0 below)
+      ∙ (ap (λ l. get_or l j 0) (take-put_mid_below a k xs ys a (omega arith) (omega arith))
+      ∙ get_or-take a xs j 0 below)
 
   pub mid_at : (i : ℕ) → i < k → get_or (put_mid a k xs ys) (a + i) 0 ≡ get_or ys i 0
   mid_at i below =
@@ -68,7 +72,8 @@ module _ (a k : ℕ) (xs ys : List ℕ) (long : length ys ≡ k) (within : a + k
       ∙ (get_or-drop (a + k) xs (j - (a + k)) 0 ∙ ap (λ i. get_or xs i 0) place)))
 
 -- one more piece is read
-pub read_more : (c : Contents) (at done len k : ℕ) (old piece : List ℕ) → 0 < c.block → (at + done) % c.block + len ≤ c.block → done + len ≤ length old → length piece ≡ k → k ≡ len
+pub read_more : (c : Contents) (at done len k : ℕ) (old piece : List ℕ) → 0 < c.block → (at + done) % c.block + len
+    ≤ c.block → done + len ≤ length old → length piece ≡ k → k ≡ len
     → ((i : ℕ) → i < length piece → get_or piece i 0 ≡ byte_of (page_in c ((at + done) / c.block)) ((at + done) % c.block + i))
     → ((j : ℕ) → j < done → get_or old j 0 ≡ byte_in c (at + j)) → (j : ℕ) → j < done + len → get_or (put_mid done k old piece) j 0 ≡ byte_in c (at + j)
 read_more c at done len k old piece some fits within long same is before j below = elim (cases_lt j done) [
@@ -94,7 +99,9 @@ module _ (c : Contents) (b : ℕ) (page bytes : List ℕ) (there : page_in c b �
   byte_kept a same = elim (cases_eq (a / c.block) b) [
     | inl here ↦
         ap (λ q. byte_of (page_in (with_page c b bytes) q) (a % c.block)) here
-        ∙ (ap (λ o. byte_of o (a % c.block)) written ∙ (same here ∙ sym (ap (λ q. byte_of (page_in c q) (a % c.block)) here ∙ ap (λ o. byte_of o (a % c.block)) there)))
+        ∙ (ap (λ o. byte_of o (a % c.block)) written
+        ∙ (same here ∙ sym (ap (λ q. byte_of (page_in c q) (a % c.block)) here
+        ∙ ap (λ o. byte_of o (a % c.block)) there)))
     | inr apart ↦ ap (λ o. byte_of o (a % c.block)) (unwritten (a / c.block) apart)
   ]
 
@@ -147,7 +154,9 @@ module _ (start now : Contents) (at coef : ℕ) (bytes : List ℕ) (done len k :
       ∙ (get_or-add_bytes _ _ i pair_long
       ∙ ap₂ bit_xor (get_or-take k (drop from page) i 0 (omega arith) ∙ get_or-drop from page i 0)
       (get_or-scale coef (between done (done + len) bytes) i
-      ∙ ap (product coef) (ap (λ l. get_or l i 0) (between_is bytes done (done + len)) ∙ (get_or-drop done (take (done + len) bytes) i 0 ∙ get_or-take (done + len) bytes (done + i) 0 (omega arith)))))
+      ∙ ap (product coef) (ap (λ l. get_or l i 0) (between_is bytes done (done + len))
+      ∙ (get_or-drop done (take (done + len) bytes) i 0 ∙ get_or-take (done + len) bytes (done + i) 0
+      (omega arith)))))
 
   kept : (a : ℕ) → (a < at + done) ⊎ (at + done + len ≤ a) → byte_in after a ≡ byte_in now a
   kept a outside = byte_kept now number page bytes' there new_long a (λ here.
@@ -177,7 +186,9 @@ module _ (start now : Contents) (at coef : ℕ) (bytes : List ℕ) (done len k :
           let address : at + done + (j - done) ≡ at + j = omega arith in
           let place : done + (j - done) ≡ j = omega arith in
           subst (λ i. byte_in after (at + i) ≡ bit_xor (byte_in start (at + i)) (product coef (get_or bytes i 0))) place
-          (subst (λ a. byte_in after a ≡ bit_xor (byte_in start (at + (done + (j - done)))) (product coef (get_or bytes (done + (j - done)) 0))) {x = at + done + (j - done)} (omega arith) (added (j - done) (omega arith)))
+          (subst (λ a. byte_in after a ≡ bit_xor (byte_in start (at + (done + (j - done))))
+          (product coef (get_or bytes (done + (j - done)) 0))) {x = at + done + (j - done)} (omega arith)
+          (added (j - done) (omega arith)))
     ];
     others = λ a outside. elim outside [
       | inl lower ↦ kept a (inl (omega (arith, lower))) ∙ before.others a (inl lower)
@@ -213,7 +224,10 @@ pub add_more_by : (start now : Contents) (at coef : ℕ) (bytes : List ℕ) (don
     → dst ≡ add_bytes (take k (drop ((at + done) % block) page)) (scale coef (between done (done + len) bytes))
     → AddsProduct start now at coef bytes done
     → AddsProduct start (with_page now ((at + done) / block) (put_mid ((at + done) % block) k page dst)) at coef bytes (done + len)
-add_more_by start now at coef bytes done len k page dst block same = subst (λ b. 0 < b → (at + done) % b + len ≤ b → done + len ≤ length bytes → k ≡ len → page_in now ((at + done) / b) ≡ Some page → length page ≡ b
+add_more_by start now at coef bytes done len k page dst block same =
+    subst (λ b. 0 < b → (at + done) % b + len ≤ b → done + len ≤ length bytes → k ≡ len → page_in now ((at + done) / b)
+    ≡ Some page → length page ≡ b
     → dst ≡ add_bytes (take k (drop ((at + done) % b) page)) (scale coef (between done (done + len) bytes))
     → AddsProduct start now at coef bytes done
-    → AddsProduct start (with_page now ((at + done) / b) (put_mid ((at + done) % b) k page dst)) at coef bytes (done + len)) same (add_more start now at coef bytes done len k page dst)
+    → AddsProduct start (with_page now ((at + done) / b) (put_mid ((at + done) % b) k page dst)) at coef bytes
+    (done + len)) same (add_more start now at coef bytes done len k page dst)

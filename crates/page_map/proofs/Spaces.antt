@@ -1,5 +1,7 @@
 -- The bytes of a space in pages as one list.
-use Rattle.std.proofs.Common.{◌≡◌, ℕ, zero, suc, ◌+◌, ◌-◌, ◌*◌, ◌/◌, ◌%◌, ◌<◌, ◌≤◌, List, ◌++◌, length, get_or, replicate, Some, None, Option, take, drop, Contains, Result, Ok, Err, OnOk, bit_xor, ◌⊎◌, is_some, refl, sym, ap, ap₂, ◌∙◌, subst, inl, inr, arith}
+use Rattle.std.proofs.Common.{◌≡◌, ℕ, zero, suc, ◌+◌, ◌-◌, ◌*◌, ◌/◌, ◌%◌, ◌<◌, ◌≤◌, List, ◌++◌, length, get_or}
+use Rattle.std.proofs.Common.{replicate, Some, None, Option, take, drop, Contains, Result, Ok, Err, OnOk, bit_xor, ◌⊎◌}
+use Rattle.std.proofs.Common.{is_some, refl, sym, ap, ap₂, ◌∙◌, subst, inl, inr, arith}
 use Rattle.std.proofs.lemmas.Bool.{cases_lt}
 use Rattle.std.proofs.lemmas.List.{length-take, length-drop, get_or-take, get_or-drop, get_or-replicate, get_or_past, length-replicate, drop-drop, append_assoc}
 use Rattle.std.proofs.lemmas.List.FromFn.{length-map-range_with_len, get_or-map-range_with_len}
@@ -34,7 +36,9 @@ bytes_of_none blocks block =
     (λ k below. get_or-bytes_of (no_pages blocks block) k (omega arith) ∙ sym (get_or-replicate (blocks * block) k 0 0 (omega arith)))
 
 -- what is read is the space's part
-pub bytes_read : (c : Contents) (at : ℕ) (into : List ℕ) → at + length into ≤ c.blocks * c.block → ((k : ℕ) → k < length into → get_or into k 0 ≡ byte_in c (at + k)) → into ≡ take (length into) (drop at (bytes_of c))
+pub bytes_read : (c : Contents) (at : ℕ) (into : List ℕ) → at + length into ≤ c.blocks * c.block
+    → ((k : ℕ) → k < length into → get_or into k 0 ≡ byte_in c (at + k))
+    → into ≡ take (length into) (drop at (bytes_of c))
 bytes_read c at into within each =
     let long = length-bytes_of c in
     let part = length-take (length into) (drop at (bytes_of c)) in
@@ -44,8 +48,10 @@ bytes_read c at into within each =
     ∙ (sym (get_or-drop at (bytes_of c) k 0) ∙ sym (get_or-take (length into) (drop at (bytes_of c)) k 0 below))))
 
 -- a product added byte by byte is the sum of lists
-pub bytes_added : (old new : Contents) (at coef : ℕ) (bytes : List ℕ) → at + length bytes ≤ old.blocks * old.block → AddsProduct old new at coef bytes (length bytes)
-    → bytes_of new ≡ take at (bytes_of old) ++ add_bytes (take (length (scale coef bytes)) (drop at (bytes_of old))) (scale coef bytes) ++ drop (at + length (scale coef bytes)) (bytes_of old)
+pub bytes_added : (old new : Contents) (at coef : ℕ) (bytes : List ℕ) → at + length bytes ≤ old.blocks * old.block
+    → AddsProduct old new at coef bytes (length bytes)
+    → bytes_of new ≡ take at (bytes_of old) ++ add_bytes (take (length (scale coef bytes)) (drop at (bytes_of old)))
+    (scale coef bytes) ++ drop (at + length (scale coef bytes)) (bytes_of old)
 bytes_added old new at coef bytes within is =
     let s = bytes_of old in
     let n = length (scale coef bytes) in
@@ -58,7 +64,9 @@ bytes_added old new at coef bytes within is =
     let part_long : length part ≡ n = omega (arith, length-take n (drop at s), length-drop at s) in
     let sum_long : length sum ≡ n = length-add_bytes part (scale coef bytes) part_long ∙ part_long in
     let room : at + n ≤ length s = omega arith in
-    let whole : bytes_of new ≡ put_mid at n s sum = same_number_lists _ _ (omega (arith, length_mid at n s sum sum_long room)) (λ k below. get_or-bytes_of new k (omega arith) ∙ elim (cases_lt k at) [
+    let whole : bytes_of new ≡ put_mid at n s sum =
+    same_number_lists _ _ (omega (arith, length_mid at n s sum sum_long room))
+    (λ k below. get_or-bytes_of new k (omega arith) ∙ elim (cases_lt k at) [
       | inl lower ↦ is.others k (inl lower) ∙ (sym (get_or-bytes_of old k (omega arith)) ∙ sym (mid_below at n s sum sum_long room k lower))
       | inr from ↦ elim (cases_lt k (at + n)) [
         | inl inside ↦
@@ -66,7 +74,8 @@ bytes_added old new at coef bytes within is =
             ap (byte_in new) (sym place)
             ∙ (is.added (k - at) (omega arith)
             ∙ (ap₂ bit_xor
-            (sym (get_or-bytes_of old (at + (k - at)) (omega arith)) ∙ (sym (get_or-drop at s (k - at) 0) ∙ sym (get_or-take n (drop at s) (k - at) 0 (omega arith))))
+            (sym (get_or-bytes_of old (at + (k - at)) (omega arith))
+            ∙ (sym (get_or-drop at s (k - at) 0) ∙ sym (get_or-take n (drop at s) (k - at) 0 (omega arith))))
             (sym (get_or-scale coef bytes (k - at)))
             ∙ (sym (get_or-add_bytes part (scale coef bytes) (k - at) part_long)
             ∙ (sym (mid_at at n s sum sum_long room (k - at) (omega arith)) ∙ ap (λ j. get_or (put_mid at n s sum) j 0) place))))
@@ -93,13 +102,16 @@ zero_byte n i = elim (cases_lt i n) [
 ]
 
 -- reserving changes no byte
-pub byte_reserved : (old new : Contents) (at len : ℕ) → 0 < old.block → SameDimensions old new → MakesZeros old new at len → (a : ℕ) → byte_in new a ≡ byte_in old a
+pub byte_reserved : (old new : Contents) (at len : ℕ) → 0 < old.block → SameDimensions old new
+    → MakesZeros old new at len → (a : ℕ) → byte_in new a ≡ byte_in old a
 byte_reserved old new at len long same made a = rw same.block (byte (page_in old (a / old.block)) refl)
   where
-    byte : (o : Option (List ℕ)) → page_in old (a / old.block) ≡ o → byte_of (page_in new (a / old.block)) (a % old.block) ≡ byte_of (page_in old (a / old.block)) (a % old.block)
+    byte : (o : Option (List ℕ)) → page_in old (a / old.block) ≡ o
+        → byte_of (page_in new (a / old.block)) (a % old.block) ≡ byte_of (page_in old (a / old.block)) (a % old.block)
     byte (Some x) some = ap (λ o. byte_of o (a % old.block)) (made.there (a / old.block) (ap is_some some))
     byte None none = elim (meets_or_not old.block at len (a / old.block) long) [
-      | inl meets ↦ ap (λ o. byte_of o (a % old.block)) (made.zero (a / old.block) meets none) ∙ (zero_byte old.block (a % old.block) ∙ sym (ap (λ o. byte_of o (a % old.block)) none))
+      | inl meets ↦ ap (λ o. byte_of o (a % old.block)) (made.zero (a / old.block) meets none)
+          ∙ (zero_byte old.block (a % old.block) ∙ sym (ap (λ o. byte_of o (a % old.block)) none))
       | inr apart ↦ ap (λ o. byte_of o (a % old.block)) (made.others (a / old.block) apart)
     ]
 
@@ -112,13 +124,17 @@ made_after old new run made = record {
 pub all_listed : (c : Contents) (run : Run) → HasPages c run.at run.len → AllMade c.block run (numbers_in c)
 all_listed c run there a from below = listed_if_there c.pages (a / c.block) (there a from below)
 
-pub all_found : (c : Contents) (block at len : ℕ) → c.block ≡ block → ((a : ℕ) → at ≤ a → a < at + len → Contains (numbers_in c) (a / block)) → HasPages c at len
-all_found c block at len same made a from below = there_if_listed c.pages (a / c.block) (subst (λ b. Contains (numbers_in c) (a / b)) (sym same) (made a from below))
+pub all_found : (c : Contents) (block at len : ℕ) → c.block ≡ block
+    → ((a : ℕ) → at ≤ a → a < at + len → Contains (numbers_in c) (a / block)) → HasPages c at len
+all_found c block at len same made a from below =
+    there_if_listed c.pages (a / c.block) (subst (λ b. Contains (numbers_in c) (a / b)) (sym same) (made a from below))
 
-pub ready_at : (old new : Contents) (run : Run) {E : Type 0} (r : Result (Unit {0}) E) → new.block ≡ old.block → OnOk r (HasPages new run.at run.len) → OnOk r (AllMade old.block run (numbers_in new))
+pub ready_at : (old new : Contents) (run : Run) {E : Type 0} (r : Result (Unit {0}) E) → new.block ≡ old.block
+    → OnOk r (HasPages new run.at run.len) → OnOk r (AllMade old.block run (numbers_in new))
 ready_at old new run (Ok _) same there = rw (← same) (all_listed new run there)
 ready_at old new run (Err _) same there = tt
 
-pub made_at : (old new : Contents) (run : Run) {E : Type 0} (r : Result (Unit {0}) E) → OnOk r (MakesZeros old new run.at run.len) → OnOk r (MakesOnly old.block run (numbers_in old) (numbers_in new))
+pub made_at : (old new : Contents) (run : Run) {E : Type 0} (r : Result (Unit {0}) E)
+    → OnOk r (MakesZeros old new run.at run.len) → OnOk r (MakesOnly old.block run (numbers_in old) (numbers_in new))
 made_at old new run (Ok _) made = made_after old new run made
 made_at old new run (Err _) made = tt

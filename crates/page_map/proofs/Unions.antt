@@ -1,12 +1,15 @@
 -- Pages taken out, pages that a range lacks, and pages taken over from others.
-use Rattle.std.proofs.Common.{◌≡◌, ◌≢◌, ℕ, ◌+◌, ◌-◌, ◌*◌, ◌/◌, ◌<◌, ◌≤◌, List, [], ◌∷◌, ◌++◌, length, replicate, Some, None, IsSome, IfSome, is_some, Option, option_to_list, refl, sym, ap, ◌∙◌, subst, inl, inr, arith}
+use Rattle.std.proofs.Common.{◌≡◌, ◌≢◌, ℕ, ◌+◌, ◌-◌, ◌*◌, ◌/◌, ◌<◌, ◌≤◌, List, [], ◌∷◌, ◌++◌, length, replicate, Some}
+use Rattle.std.proofs.Common.{None, IsSome, IfSome, is_some, Option, option_to_list, refl, sym, ap, ◌∙◌, subst, inl}
+use Rattle.std.proofs.Common.{inr, arith}
 use Rattle.std.proofs.Math.Nat.{div-mul-le_self, div-lt_iff_lt-mul, mul-le-mul_right, mul-div_left}
 use Rattle.std.proofs.lemmas.Nat.{le-div}
 use Rattle.std.proofs.lemmas.List.{get_or_append_left, get_or_at, length-append}
 use Rattle.std.proofs.lemmas.Bool.{cases_eq, cases_lt, true≢false}
 use Rattle.std.proofs.lemmas.Bool.Decides.{nat_tests}
 use Rattle.page_map.specs.declared.page.Page.{Page}
-use Rattle.page_map.specs.Pages.{Contents, no_pages, look_up, page_in, made_in, HasPage, SameDimensions, PlacesOnly, MakesZeros, IsTakenOut, IsUnion, AreMissing, HasPages}
+use Rattle.page_map.specs.Pages.{Contents, no_pages, look_up, page_in, made_in, HasPage, SameDimensions, PlacesOnly}
+use Rattle.page_map.specs.Pages.{MakesZeros, IsTakenOut, IsUnion, AreMissing, HasPages}
 use Rattle.page_map.specs.Order.{page_at, ArePages}
 use Rattle.page_map.proofs.Places.{look_up_absent}
 
@@ -27,7 +30,8 @@ look_up_last (x ∷ ps) p none = grind (arith, nat_tests, look_up_last ps p)
 
 -- the last page taken out
 pub taken_out : (blocks block room room' : ℕ) (old new : List Page) (r : Option Page) → ArePages blocks block old → old ≡ new ++ option_to_list r
-    → IfSome r (IsTakenOut (record { blocks = blocks; block = block; pages = old; room = room }) (record { blocks = blocks; block = block; pages = new; room = room' }))
+    → IfSome r (IsTakenOut (record { blocks = blocks; block = block; pages = old; room = room })
+    (record { blocks = blocks; block = block; pages = new; room = room' }))
 taken_out blocks block room room' old new None pages is = tt
 taken_out blocks block room room' old new (Some p) pages is =
     let pages' : ArePages blocks block (new ++ p ∷ []) = subst (ArePages blocks block) is pages in
@@ -71,7 +75,8 @@ fresh_skipped old fresh first next is has = record {
   after = λ b past. is.after b (omega arith);
 }
 
-pub fresh_placed : (old fresh new : Contents) (first next : ℕ) → AreFresh old fresh first next → page_in old next ≡ None → PlacesOnly fresh new next (replicate old.block 0) → SameDimensions fresh new → AreFresh old new first (next + 1)
+pub fresh_placed : (old fresh new : Contents) (first next : ℕ) → AreFresh old fresh first next → page_in old next ≡ None
+    → PlacesOnly fresh new next (replicate old.block 0) → SameDimensions fresh new → AreFresh old new first (next + 1)
 fresh_placed old fresh new first next is none placed same = record {
   dimensions = record { blocks = same.blocks ∙ is.dimensions.blocks; block = same.block ∙ is.dimensions.block };
   from = omega (arith, is.from);
@@ -111,7 +116,8 @@ missing_nowhere old at len none = record {
   dimensions = record { blocks = refl; block = refl };
 }
 
-pub missing_after : (old fresh : Contents) (at len : ℕ) → 0 < old.block → 0 < len → AreFresh old fresh (at / old.block) ((at + len - 1) / old.block + 1) → AreMissing old fresh at len
+pub missing_after : (old fresh : Contents) (at len : ℕ) → 0 < old.block → 0 < len
+    → AreFresh old fresh (at / old.block) ((at + len - 1) / old.block + 1) → AreMissing old fresh at len
 missing_after old fresh at len long some is = record {
   zero = λ b meets none.
       let first = same_or_earlier at meets.0 old.block long meets.1 in
@@ -144,7 +150,8 @@ pub record AreMoving (all start others now : Contents) : Type 0 where
   pub from : SameDimensions start now
   pub to : SameDimensions now others
 
-pub moving_at_first : (all start : Contents) → ((b : ℕ) → HasPage all b → page_in start b ≡ None) → made_in all ≤ start.room → SameDimensions start all → AreMoving all start all start
+pub moving_at_first : (all start : Contents) → ((b : ℕ) → HasPage all b → page_in start b ≡ None)
+    → made_in all ≤ start.room → SameDimensions start all → AreMoving all start all start
 moving_at_first all start apart enough same = record {
   union = λ b. refl;
   apart = apart;
@@ -154,12 +161,16 @@ moving_at_first all start apart enough same = record {
   to = same;
 }
 
-pub moving_more : (all start others now others' now' : Contents) (p : Page) → AreMoving all start others now → IsTakenOut others others' p → PlacesOnly now now' p.number p.bytes → SameDimensions now now' → now'.room ≡ now.room - 1
+pub moving_more : (all start others now others' now' : Contents) (p : Page) → AreMoving all start others now
+    → IsTakenOut others others' p → PlacesOnly now now' p.number p.bytes → SameDimensions now now'
+    → now'.room ≡ now.room - 1
     → AreMoving all start others' now'
 moving_more all start others now others' now' p is taken placed same room = record {
   union = λ b. elim (cases_eq b p.number) [
     | inl here ↦
-        let old : or_else (Some p.bytes) (page_in now b) ≡ or_else (page_in all b) (page_in start b) = subst (λ o. or_else o (page_in now b) ≡ or_else (page_in all b) (page_in start b)) {y = Some p.bytes} (rw here taken.taken) (is.union b) in
+        let old : or_else (Some p.bytes) (page_in now b) ≡ or_else (page_in all b) (page_in start b) =
+        subst (λ o. or_else o (page_in now b) ≡ or_else (page_in all b) (page_in start b)) {y = Some p.bytes}
+        (rw here taken.taken) (is.union b) in
         rw (here, taken.gone, placed.placed) (subst (λ k. Some p.bytes ≡ or_else (page_in all k) (page_in start k)) here old)
     | inr apart ↦ rw (taken.others b apart, placed.others b apart) (is.union b)
   ];
@@ -182,14 +193,17 @@ first_of (Some x) o' some = refl
 
 pub moved : (all start others now : Contents) → AreMoving all start others now → made_in others ≡ 0 → IsUnion all start now
 moved all start others now is none =
-    let here : (b : ℕ) → page_in now b ≡ or_else (page_in all b) (page_in start b) = λ b. subst (λ o. or_else o (page_in now b) ≡ or_else (page_in all b) (page_in start b)) (no_page others b none) (is.union b) in
+    let here : (b : ℕ) → page_in now b ≡ or_else (page_in all b) (page_in start b) =
+    λ b. subst (λ o. or_else o (page_in now b) ≡ or_else (page_in all b) (page_in start b)) (no_page others b none)
+    (is.union b) in
     record {
       added = λ b has. here b ∙ first_of (page_in all b) (page_in start b) has;
       kept = λ b lacks. here b ∙ ap (λ o. or_else o (page_in start b)) lacks;
     }
 
 -- what a range lacks, taken over, is what reserving it makes
-pub reserved : (old fresh now new : Contents) (at len : ℕ) → AreMissing old fresh at len → ((b : ℕ) → page_in now b ≡ page_in old b) → IsUnion fresh now new → MakesZeros old new at len
+pub reserved : (old fresh now new : Contents) (at len : ℕ) → AreMissing old fresh at len
+    → ((b : ℕ) → page_in now b ≡ page_in old b) → IsUnion fresh now new → MakesZeros old new at len
 reserved old fresh now new at len missing same union = record {
   zero = λ b meets none. let is = missing.zero b meets none in union.added b (ap is_some is) ∙ is;
   there = λ b has. union.kept b (missing.there b has) ∙ same b;

@@ -20,13 +20,17 @@ over-stays v old new stays over = record {
   blocks = stays.partitions ∙ over.blocks;
   ready = λ d within. by d stays.shape stays.made (over.ready d within);
 } where
-  by : (d : ℕ) → new.shape ≡ old.shape → new.made ≡ old.made → All (IsReady old d) (at empty_replica v.replicas d).log → All (IsReady new d) (at empty_replica v.replicas d).log
+  by : (d : ℕ) → new.shape ≡ old.shape → new.made ≡ old.made → All (IsReady old d) (at empty_replica v.replicas d).log
+      → All (IsReady new d) (at empty_replica v.replicas d).log
   by d shape made all =
-      subst (λ (pages : List ℕ). All (IsReady (record { shape = new.shape; made = pages; process = new.process }) d) (at empty_replica v.replicas d).log) (sym made)
-      (subst (λ (s : Dimensions). All (IsReady (record { shape = s; made = old.made; process = new.process }) d) (at empty_replica v.replicas d).log) (sym shape) all)
+      subst (λ (pages : List ℕ). All (IsReady (record { shape = new.shape; made = pages; process = new.process }) d)
+      (at empty_replica v.replicas d).log) (sym made)
+      (subst (λ (s : Dimensions). All (IsReady (record { shape = s; made = old.made; process = new.process }) d)
+      (at empty_replica v.replicas d).log) (sym shape) all)
 
 module _ (v : Serving) (b : Process) where
-  pub begin-beneath : (s : Dimensions) (leader number block : ℕ) → begin_copy s leader number block (serving v b) ≡ serving v (begin_copy s leader number block b)
+  pub begin-beneath : (s : Dimensions) (leader number block : ℕ) → begin_copy s leader number block (serving v b)
+      ≡ serving v (begin_copy s leader number block b)
   begin-beneath s leader number block = by (is_some (copy_in b.as_row.copies leader number)) where
     by : (there : Bool) → copy_begun there s leader number block (serving v b) ≡ serving v (copy_begun there s leader number block b)
     by true = refl

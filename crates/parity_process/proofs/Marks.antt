@@ -1,5 +1,7 @@
 -- A leader's marks in its own row, one by one.
-use Rattle.std.proofs.Common.{ℕ, zero, suc, ◌≡◌, ◌≢◌, ◌+◌, ◌<◌, ◌≤◌, ◌==◌, nat_lt, Bool, true, false, not, ◌&&◌, cond, List, [], ◌∷◌, drop, length, map, get_or, is_some, Option, Some, None, IfSome, All, if◌then◌else◌, refl, sym, ap, ap₂, subst, ◌∙◌, ◌⊎◌, inl, inr, add-one, arith}
+use Rattle.std.proofs.Common.{ℕ, zero, suc, ◌≡◌, ◌≢◌, ◌+◌, ◌<◌, ◌≤◌, ◌==◌, nat_lt, Bool, true, false, not, ◌&&◌, cond}
+use Rattle.std.proofs.Common.{List, [], ◌∷◌, drop, length, map, get_or, is_some, Option, Some, None, IfSome, All}
+use Rattle.std.proofs.Common.{if◌then◌else◌, refl, sym, ap, ap₂, subst, ◌∙◌, ◌⊎◌, inl, inr, add-one, arith}
 use Rattle.std.proofs.lemmas.Bool.{cases_eq}
 use Rattle.std.specs.Prelude.{⊤}
 use Rattle.std.proofs.Math.Seq.{drop-cons}
@@ -44,7 +46,8 @@ found-map f leader number keeps [] c found = absurd (cc found)
 found-map f leader number keeps (x ∷ xs) c found =
     by (is_copy leader number x) (keeps x) found (found-map f leader number keeps xs c)
   where
-    by : (b : Bool) → is_copy leader number (f x) ≡ b → cond b (Some x) (copy_in xs leader number) ≡ Some c → (copy_in xs leader number ≡ Some c → copy_in (map f xs) leader number ≡ Some (f c))
+    by : (b : Bool) → is_copy leader number (f x) ≡ b → cond b (Some x) (copy_in xs leader number) ≡ Some c
+        → (copy_in xs leader number ≡ Some c → copy_in (map f xs) leader number ≡ Some (f c))
         → cond (is_copy leader number (f x)) (Some (f x)) (copy_in (map f xs) leader number) ≡ Some (f c)
     by true same here later =
         let first : x ≡ c = cc here in
@@ -56,7 +59,8 @@ found-map f leader number keeps (x ∷ xs) c found =
 found-of : (leader number : ℕ) (cs : List Copy) (c : Copy) → copy_in cs leader number ≡ Some c → is_copy leader number c ≡ true
 found-of leader number [] c found = absurd (cc found)
 found-of leader number (x ∷ xs) c found = by (is_copy leader number x) refl found (found-of leader number xs c) where
-  by : (b : Bool) → is_copy leader number x ≡ b → cond b (Some x) (copy_in xs leader number) ≡ Some c → (copy_in xs leader number ≡ Some c → is_copy leader number c ≡ true)
+  by : (b : Bool) → is_copy leader number x ≡ b → cond b (Some x) (copy_in xs leader number) ≡ Some c
+      → (copy_in xs leader number ≡ Some c → is_copy leader number c ≡ true)
       → is_copy leader number c ≡ true
   by true is here later = let first : x ≡ c = cc here in ap (is_copy leader number) (sym first) ∙ is
   by false is there later = later there
@@ -66,7 +70,9 @@ found-again : (leader number : ℕ) (m : Copy) → is_copy leader number m ≡ t
     → copy_in (map (λ x. if is_copy leader number x then m else x) cs) leader number ≡ Some m
 found-again leader number m own [] c found = absurd (cc found)
 found-again leader number m own (x ∷ xs) c found = by (is_copy leader number x) refl found (found-again leader number m own xs c) where
-  by : (b : Bool) → is_copy leader number x ≡ b → cond b (Some x) (copy_in xs leader number) ≡ Some c → (copy_in xs leader number ≡ Some c → copy_in (map (λ y. if is_copy leader number y then m else y) xs) leader number ≡ Some m)
+  by : (b : Bool) → is_copy leader number x ≡ b → cond b (Some x) (copy_in xs leader number) ≡ Some c
+      → (copy_in xs leader number ≡ Some c → copy_in (map (λ y. if is_copy leader number y then m else y) xs) leader
+      number ≡ Some m)
       → copy_in ((if b then m else x) ∷ map (λ y. if is_copy leader number y then m else y) xs) leader number ≡ Some m
   by true is here later = ap (λ (t : Bool). cond t (Some m) (copy_in (map (λ y. if is_copy leader number y then m else y) xs) leader number)) own
   by false is there later = ap (λ (t : Bool). cond t (Some x) (copy_in (map (λ y. if is_copy leader number y then m else y) xs) leader number)) is ∙ later there
@@ -149,7 +155,8 @@ module _ (s : Dimensions) (leader number block : ℕ) where
   copy-there d ds (Some c) none = refl
 
   -- with one of them marked, the copy waits for the others
-  waits : (d e : ℕ) (es : List ℕ) (n : ℕ) (p : Process) (c : Copy) → AreMarkable s leader number block (d ∷ e ∷ es) p → copy_in p.as_row.copies leader number ≡ Some c
+  waits : (d e : ℕ) (es : List ℕ) (n : ℕ) (p : Process) (c : Copy) → AreMarkable s leader number block (d ∷ e ∷ es) p
+      → copy_in p.as_row.copies leader number ≡ Some c
       → All (λ x. at None c.marks x ≡ None) (d ∷ e ∷ es) → AreMarkable s leader number block (e ∷ es) (copy_taken s leader number d n p).process
   waits d e es n p c markable found none =
       let us : List Update = up_to n (replica_of p d) in
@@ -179,7 +186,8 @@ module _ (s : Dimensions) (leader number block : ℕ) where
         own = markable.own;
       })
     where
-      again : (m : Copy) (cs : List Copy) (c : Copy) → is_copy leader number m ≡ true → copy_in cs leader number ≡ Some c → copy_in (with_copy m cs) leader number ≡ Some m
+      again : (m : Copy) (cs : List Copy) (c : Copy) → is_copy leader number m ≡ true → copy_in cs leader number
+          ≡ Some c → copy_in (with_copy m cs) leader number ≡ Some m
       again m cs c own found =
           let of_leader : m.leader ≡ leader = grind (arith, common_steps) in
           let of_number : m.number ≡ number = grind (arith, common_steps) in
@@ -188,7 +196,8 @@ module _ (s : Dimensions) (leader number block : ℕ) where
   pub left-next : (d : ℕ) (ds : List ℕ) (p : Process) → AreMarkable s leader number block (d ∷ ds) p → AreLeft ds (mark d p).process
   left-next d [] p markable = tt
   left-next d (e ∷ es) p markable = by (copy_in p.as_row.copies leader number) refl markable.unmarked where
-    by : (o : Option Copy) → copy_in p.as_row.copies leader number ≡ o → AreUnmarked (d ∷ e ∷ es) o → AreMarkable s leader number block (e ∷ es) (mark d p).process
+    by : (o : Option Copy) → copy_in p.as_row.copies leader number ≡ o → AreUnmarked (d ∷ e ∷ es) o
+        → AreMarkable s leader number block (e ∷ es) (mark d p).process
     by None found none = absurd none
     by (Some c) found none =
         subst (λ (step : ProcessStep). AreMarkable s leader number block (e ∷ es) step.process)

@@ -45,13 +45,15 @@ opening-ready s number limits within = record {
     shape = refl;
     name = refl;
     blocks = length-replicate s.k _;
-    ready = λ d inside. subst (λ (r : Replica). All (IsReady (no_bytes s number) d) r.log) (sym (at-replicate empty_replica s.k d)) (All-nil (IsReady (no_bytes s number) d));
+    ready = λ d inside. subst (λ (r : Replica). All (IsReady (no_bytes s number) d) r.log)
+        (sym (at-replicate empty_replica s.k d)) (All-nil (IsReady (no_bytes s number) d));
   };
   sound = opening s number limits within;
 }
 
 -- at the start nothing has to be ready
-pub starts-ready : (s : Dimensions) (number : ℕ) (v : Serving) (h : Holding) → IsShape s → number < s.m → v ≡ at_start s (ParityNode number) → h ≡ no_bytes s number → IsReadyFor v h
+pub starts-ready : (s : Dimensions) (number : ℕ) (v : Serving) (h : Holding) → IsShape s → number < s.m
+    → v ≡ at_start s (ParityNode number) → h ≡ no_bytes s number → IsReadyFor v h
 starts-ready s number v h limits within service bytes =
     subst (λ (x : Serving). IsReadyFor x h) (sym service)
     (subst (λ (x : Holding). IsReadyFor (at_start s (ParityNode number)) x) (sym bytes) (opening-ready s number limits within))
@@ -95,7 +97,8 @@ received-ready v w g h from m (Err e) ready fits group shape over is same_servic
 pub asked-ready : (v w : Serving) (g h : Holding) (name : CallName) (op : Asked) → IsReadyFor v g → w.shape ≡ v.shape → IsOver w h
     → (ask_process v.shape name op (serving v g.process)).step.process ≡ serving w h.process → IsReadyFor w h
 asked-ready v w g h name op ready shape over is =
-    became v w g h (ask_process v.shape name op (serving v g.process)).step.process shape over is (asked-sound v.shape name op (serving v g.process) ready.sound)
+    became v w g h (ask_process v.shape name op (serving v g.process)).step.process shape over is
+    (asked-sound v.shape name op (serving v g.process) ready.sound)
 
 -- a process that needs a block for a call heads a partition
 headed : (s : Dimensions) (block d : ℕ) (oldest : Option Oldest) (p : Process) (name : CallName) (op : Asked) (o : Option Head) → head_at p d ≡ o
@@ -114,7 +117,8 @@ needs-headed v h block oldest name op ready is =
     )
 
 -- a process that needed a block for a call, and opened a session for it, or not, or wanted memory for it
-pub retried-ready : (v v2 w : Serving) (g g2 h : Holding) (name : CallName) (op : Asked) (block : ℕ) (result : Result answered.CallStep AllocError) → IsReadyFor v g
+pub retried-ready : (v v2 w : Serving) (g g2 h : Holding) (name : CallName) (op : Asked) (block : ℕ)
+    (result : Result answered.CallStep AllocError) → IsReadyFor v g
     → v2.shape ≡ v.shape → IsAsked v.shape name op (serving v g.process) (Need block) (serving v2 g2.process) → w.shape ≡ v2.shape → IsOver w h
     → IfOk result (λ step. retry_block v2.shape block (oldest_inherited (serving v2 g2.process) (range_with_len 0 v2.shape.k)) (serving v2 g2.process)
     ≡ called (serving w h.process) step)

@@ -1,5 +1,6 @@
 -- A leader that starts a session.
-use Rattle.std.proofs.Common.{ℕ, suc, ◌≡◌, ◌<◌, ◌≤◌, Bool, true, false, cond, List, [], ◌∷◌, ◌++◌, length, find, is_some, Option, Some, None, Contains, refl, sym, ap, ap₂, subst, ◌∙◌, arith}
+use Rattle.std.proofs.Common.{ℕ, suc, ◌≡◌, ◌<◌, ◌≤◌, Bool, true, false, cond, List, [], ◌∷◌, ◌++◌, length, find}
+use Rattle.std.proofs.Common.{is_some, Option, Some, None, Contains, refl, sym, ap, ap₂, subst, ◌∙◌, arith}
 use Rattle.std.specs.Option.{option_or}
 use Rattle.std.proofs.lemmas.Grind.{common_steps}
 use Rattle.std.proofs.lemmas.List.{append-nil}
@@ -136,9 +137,11 @@ module _ (s : Dimensions) (p : Process) (sound : CanLead s p) (d : ℕ) (inside 
         ∙ ap (λ (xs : List Sent). record { process = r; sent = xs; settled = [] }) (append-nil (session_starts s leader next block p) ∙ sym told)
 
 -- what begins beneath the process's partitions
-pub begun-beneath : (v : Serving) (b : Process) (leader block : ℕ) (lost rows : List ℕ) → lost ≡ lost_of v.shape (serving v b) → rows ≡ rows_of v.shape (serving v b)
+pub begun-beneath : (v : Serving) (b : Process) (leader block : ℕ) (lost rows : List ℕ)
+    → lost ≡ lost_of v.shape (serving v b) → rows ≡ rows_of v.shape (serving v b)
     → serving v (session_begun v.shape leader block lost rows b)
-    ≡ begun_if (takes_next leader (serving v b)) v.shape leader (suc b.as_leader.last_session) block (session_opened v.shape (suc b.as_leader.last_session) block (serving v b))
+    ≡ begun_if (takes_next leader (serving v b)) v.shape leader (suc b.as_leader.last_session) block
+    (session_opened v.shape (suc b.as_leader.last_session) block (serving v b))
 begun-beneath v b leader block lost rows is_lost is_rows =
     ap₂ (λ (ls rs : List ℕ). serving v (session_begun v.shape leader block ls rs b)) is_lost is_rows ∙ by (takes_next leader b)
   where
@@ -150,8 +153,10 @@ begun-beneath v b leader block lost rows is_lost is_rows =
     by false = refl
 
 -- a start of a session, of what its parts give
-module _ (v : Serving) (b : Holding) (leader number block : ℕ) (lost rows : List ℕ) (ready : IsReadyFor v b) (heads : HeadsOne v) (named : b.process.name ≡ ParityNode leader)
-    (is_next : number ≡ suc b.process.as_leader.last_session) (is_lost : lost ≡ lost_of v.shape (serving v b.process)) (is_rows : rows ≡ rows_of v.shape (serving v b.process)) where
+module _ (v : Serving) (b : Holding) (leader number block : ℕ) (lost rows : List ℕ) (ready : IsReadyFor v b)
+    (heads : HeadsOne v) (named : b.process.name ≡ ParityNode leader)
+    (is_next : number ≡ suc b.process.as_leader.last_session) (is_lost : lost ≡ lost_of v.shape (serving v b.process))
+    (is_rows : rows ≡ rows_of v.shape (serving v b.process)) where
   abbrev s : Dimensions
   s = v.shape
 
@@ -160,9 +165,11 @@ module _ (v : Serving) (b : Holding) (leader number block : ℕ) (lost rows : Li
 
   pub start-lost : AreLost b.shape lost rows
   start-lost = subst (λ (x : Dimensions). AreLost x lost rows) (sym ready.over.shape)
-      (subst (λ (ls : List ℕ). AreLost s ls rows) (sym is_lost) (subst (AreLost s (lost_of s p)) (sym is_rows) (are-lost s p ready.sound heads.0 heads.1 heads.2)))
+      (subst (λ (ls : List ℕ). AreLost s ls rows) (sym is_lost)
+      (subst (AreLost s (lost_of s p)) (sym is_rows) (are-lost s p ready.sound heads.0 heads.1 heads.2)))
 
-  module _ (b2 : Process) (marked : List ℕ) (started_as : b2 ≡ session_begun b.shape (parity_number b.process.name) block lost rows b.process) (is_marked : marked ≡ lost) where
+  module _ (b2 : Process) (marked : List ℕ) (started_as : b2 ≡ session_begun b.shape (parity_number b.process.name)
+      block lost rows b.process) (is_marked : marked ≡ lost) where
     begun-so : serving v b2 ≡ begun s p ready.sound heads.0 heads.1 heads.2 block leader named
     begun-so =
         ap (serving v) started_as

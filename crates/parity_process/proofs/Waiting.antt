@@ -18,7 +18,8 @@ found-waits i number (g ∷ gs) all = by (g.number == number) (found-waits i num
   by false later = later
 
 -- a session that is open waits for it
-pub own-awaited : (leader number : ℕ) (p : Process) → p.name ≡ ParityNode leader → WaitForOwnRow p → IfSome (open_session p.as_leader number) (λ g. Contains g.rows leader)
+pub own-awaited : (leader number : ℕ) (p : Process) → p.name ≡ ParityNode leader → WaitForOwnRow p
+    → IfSome (open_session p.as_leader number) (λ g. Contains g.rows leader)
 own-awaited leader number p name wait =
     found-waits leader number p.as_leader.sessions (subst (λ (x : ProcessId). All (λ g. Contains g.rows (parity_number x)) p.as_leader.sessions) name wait)
 

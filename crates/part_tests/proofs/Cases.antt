@@ -1,5 +1,6 @@
 -- What the tests build: orders of the partitions, and pieces of 16 bytes.
-use Rattle.std.proofs.Common.{◌≡◌, ℕ, zero, suc, ◌<◌, ◌==◌, Bool, true, false, ◌&&◌, not, nat_lt, List, [], ◌∷◌, ◌++◌, length, drop, get_or, All, Contains, inl, inr, sym, ap, ◌∙◌, refl, arith}
+use Rattle.std.proofs.Common.{◌≡◌, ℕ, zero, suc, ◌<◌, ◌==◌, Bool, true, false, ◌&&◌, not, nat_lt, List, [], ◌∷◌, ◌++◌}
+use Rattle.std.proofs.Common.{length, drop, get_or, All, Contains, inl, inr, sym, ap, ◌∙◌, refl, arith}
 use Rattle.std.specs.List.{AllByRecursion, IsDistinct, list_any}
 use Rattle.std.specs.Set.{is_member}
 use Rattle.std.proofs.lemmas.Bool.{and_parts, or_parts, cases_eq, not-true, ltb-true}
@@ -78,9 +79,11 @@ pub block_long : (numbers : List ℕ) (pieces : List Piece) (n : ℕ) → HoldsB
 block_long numbers pieces n holds found = holds.long (place_of pieces n) (record { number = n; bytes = [] }) (place_within pieces n (rw holds.numbered found))
 
 length-overwritten : (bytes others : List ℕ) → length (overwritten bytes others) ≡ length bytes
-length-overwritten bytes others = length-take-le (length bytes) (others ++ drop (length others) bytes) (omega (arith, length-append others (drop (length others) bytes), length-drop (length others) bytes))
+length-overwritten bytes others = length-take-le (length bytes) (others ++ drop (length others) bytes)
+    (omega (arith, length-append others (drop (length others) bytes), length-drop (length others) bytes))
 
-pub blocks_written : (numbers : List ℕ) (pieces : List Piece) (n : ℕ) (bytes : List ℕ) → HoldsBlocks numbers pieces → Contains numbers n → HoldsBlocks numbers (with_bytes pieces n bytes)
+pub blocks_written : (numbers : List ℕ) (pieces : List Piece) (n : ℕ) (bytes : List ℕ) → HoldsBlocks numbers pieces
+    → Contains numbers n → HoldsBlocks numbers (with_bytes pieces n bytes)
 blocks_written numbers pieces n bytes holds found = record {
   numbered = numbers_kept pieces n bytes (rw holds.numbered found) ∙ holds.numbered;
   long = All-set (λ (p : Piece). length p.bytes ≡ 16) pieces (place_of pieces n) (record (piece_of pieces n) { bytes = overwritten (bytes_of pieces n) bytes })

@@ -1,5 +1,7 @@
 -- What the parts of a replica keep, through each of its calls.
-use Rattle.std.proofs.Common.{◌≡◌, ℕ, zero, suc, ◌+◌, ◌-◌, ◌≤◌, ◌<◌, Bool, true, false, not, ◌&&◌, ◌||◌, List, [], ◌∷◌, length, length-append, slice_set, nat_lt, if◌then◌else◌, All, Option, Some, None, refl, sym, ap, ◌∙◌, subst, arith}
+use Rattle.std.proofs.Common.{◌≡◌, ℕ, zero, suc, ◌+◌, ◌-◌, ◌≤◌, ◌<◌, Bool, true, false, not, ◌&&◌, ◌||◌, List, [], ◌∷◌}
+use Rattle.std.proofs.Common.{length, length-append, slice_set, nat_lt, if◌then◌else◌, All, Option, Some, None, refl}
+use Rattle.std.proofs.Common.{sym, ap, ◌∙◌, subst, arith}
 use Rattle.std.proofs.Math.Bool.{or-true}
 use Rattle.std.proofs.lemmas.List.Elements.{All-append, All-nil, All-head, All-tail}
 use Rattle.std.specs.Prelude.{T}
@@ -24,13 +26,17 @@ use Rattle.partition_replica.specs.Sound.{IsSound, log_runs, owners}
 use Rattle.partition_replica.specs.State.{State, HasRoom, is_among, is_needed}
 use Rattle.partition_replica.proofs.Indices.{set_put}
 use Rattle.partition_replica.proofs.Keys.{number_on-each}
-use Rattle.partition_replica.proofs.Sound.{sound_at_start, takeable, sound_with, free_with, sound_with_all, sound_emptied, free_emptied, free_refilled, sound_settled, free_settled, settled_first}
+use Rattle.partition_replica.proofs.Sound.{sound_at_start, takeable, sound_with, free_with, sound_with_all}
+use Rattle.partition_replica.proofs.Sound.{sound_emptied, free_emptied, free_refilled, sound_settled, free_settled}
+use Rattle.partition_replica.proofs.Sound.{settled_first}
 
 -- the keys of a log are ready
 abbrev pub AreReady : List (List ℕ) → List Update → Type 0
 AreReady ready log = All (λ u. is_among ready u.key ≡ true) log
 
-pub agrees_at_start : (s : State) (space : Space) → s.replica ≡ empty_replica → s.room.spare ≡ 0 → space.size ≡ space_of s.shape → ((a : ℕ) → alloc.is_free space a ≡ nat_lt a (space_of s.shape)) → PartsAgree s space 0
+pub agrees_at_start : (s : State) (space : Space) → s.replica ≡ empty_replica → s.room.spare ≡ 0
+    → space.size ≡ space_of s.shape → ((a : ℕ) → alloc.is_free space a ≡ nat_lt a (space_of s.shape))
+    → PartsAgree s space 0
 agrees_at_start s space start none size free =
     subst (λ (r : Replica). PartsAgree (record s { replica = r }) space 0) (sym start) (record {
       sound = sound_at_start _;
@@ -45,7 +51,8 @@ agrees_at_start s space start none size free =
       all_free true = refl
       all_free false = refl
 
-pub agrees_received : (s : State) (u : Update) (old new : Space) (fit : ℕ) → PartsAgree s old fit → CanCome (space_of s.shape) s.replica u → HasRoom s.room (u ∷ [])
+pub agrees_received : (s : State) (u : Update) (old new : Space) (fit : ℕ) → PartsAgree s old fit
+    → CanCome (space_of s.shape) s.replica u → HasRoom s.room (u ∷ [])
     → Takes old new (λ a. in_some_run a (run_of u.body)) 1
     → PartsAgree (record s { replica = with_update u s.replica; room = record s.room { spare = s.room.spare - 1 } }) new (fit - 1)
 agrees_received s u old new fit agree come room taken = record {
@@ -63,7 +70,9 @@ length-put [] i x lt = absurd (omega arith)
 length-put (y ∷ ys) zero x lt = refl
 length-put (y ∷ ys) (suc i) x lt = ap suc (length-put ys i x (omega arith))
 
-module _ {s : State} {u : Update} {us : List Update} {old : Space} {fit : ℕ} (sorted : T (is_sorted (slice_cmp nat_cmp) s.replica.items)) (first : s.replica.log ≡ u ∷ us) (agree : PartsAgree s old fit) where
+module _ {s : State} {u : Update} {us : List Update} {old : Space} {fit : ℕ}
+    (sorted : T (is_sorted (slice_cmp nat_cmp) s.replica.items)) (first : s.replica.log ≡ u ∷ us)
+    (agree : PartsAgree s old fit) where
   -- the update is ready to be settled
   pub first_ready : is_among s.room.ready u.key ≡ true
   first_ready = All-head (λ v. is_among s.room.ready v.key ≡ true) u us (subst (AreReady s.room.ready) first agree.ready)
@@ -74,21 +83,25 @@ module _ {s : State} {u : Update} {us : List Update} {old : Space} {fit : ℕ} (
   pub first_caller : u.caller < length s.replica.kept
   first_caller = rw agree.callers (All-head (λ v. v.caller < callers) u us (subst (All (λ v. v.caller < callers)) first agree.sound.callers))
 
-  pub agrees_settled : (new : Space) → Gives old new (λ a. in_some_run a u.frees) 1 → PartsAgree (record s { replica = applied_to (s.replica.applied + 1) s.replica }) new fit
+  pub agrees_settled : (new : Space) → Gives old new (λ a. in_some_run a u.frees) 1
+      → PartsAgree (record s { replica = applied_to (s.replica.applied + 1) s.replica }) new fit
   agrees_settled new given = record {
     sound = sound_settled _ s.replica u us sorted first agree.sound;
     size = given.size ∙ agree.size;
     free = λ a. given.free a ∙ ap (λ b. b || in_some_run a u.frees) (agree.free a) ∙ sym (free_settled _ s.replica u us sorted first agree.sound a);
     runs = omega (arith, ap (λ (r : Replica). length r.log) (settled_first s.replica u us first), ap length first, agree.runs, given.spare);
     updates = agree.updates;
-    ready = subst (λ (r : Replica). AreReady s.room.ready r.log) (sym (settled_first s.replica u us first)) (All-tail (λ v. is_among s.room.ready v.key ≡ true) u us (subst (AreReady s.room.ready) first agree.ready));
+    ready = subst (λ (r : Replica). AreReady s.room.ready r.log) (sym (settled_first s.replica u us first))
+        (All-tail (λ v. is_among s.room.ready v.key ≡ true) u us (subst (AreReady s.room.ready) first agree.ready));
     callers = ap (λ (r : Replica). length r.kept) (settled_first s.replica u us first) ∙ length-put s.replica.kept u.caller _ first_caller ∙ agree.callers;
   }
 
 -- the parts after the first update is settled
-pub replica_settled : (old new : Keys (List ℕ)) (log rest : Logged Update) (kept : List (Option Kept)) (u : Update) → log.updates ≡ u ∷ rest.updates → rest.applied ≡ log.applied + 1
+pub replica_settled : (old new : Keys (List ℕ)) (log rest : Logged Update) (kept : List (Option Kept)) (u : Update)
+    → log.updates ≡ u ∷ rest.updates → rest.applied ≡ log.applied + 1
     → items_in new ≡ item_settled u (items_in old) → u.caller < length kept
-    → replica_in new rest (slice_set kept u.caller (Some (record { call = u.call; outcome = u.outcome }))) ≡ applied_to (log.applied + 1) (replica_in old log kept)
+    → replica_in new rest (slice_set kept u.caller (Some (record { call = u.call; outcome = u.outcome })))
+    ≡ applied_to (log.applied + 1) (replica_in old log kept)
 replica_settled old new log rest kept u first applied items caller =
     rw (items, applied, set_put None kept u.caller (Some (record { call = u.call; outcome = u.outcome })) caller)
     (sym (settled_first (replica_in old log kept) u rest.updates first))
@@ -114,11 +127,14 @@ agrees_tidied s space fit ready key agree left = record {
 }
 
 -- the free runs once the log is dropped
-free_middle : {s : State} {old middle : Space} {fit : ℕ} → PartsAgree s old fit → Gives old middle (λ a. list_any (in_run a) (log_runs s.replica.log)) (length s.replica.log)
+free_middle : {s : State} {old middle : Space} {fit : ℕ} → PartsAgree s old fit
+    → Gives old middle (λ a. list_any (in_run a) (log_runs s.replica.log)) (length s.replica.log)
     → (a : ℕ) → alloc.is_free middle a ≡ is_free (space_of s.shape) (with_log [] s.replica) a
-free_middle {s = s} agree gives a = gives.free a ∙ ap (λ b. b || list_any (in_run a) (log_runs s.replica.log)) (agree.free a) ∙ sym (free_emptied _ s.replica agree.sound a)
+free_middle {s = s} agree gives a = gives.free a ∙ ap (λ b. b || list_any (in_run a) (log_runs s.replica.log))
+    (agree.free a) ∙ sym (free_emptied _ s.replica agree.sound a)
 
-module _ {s : State} {old : Space} {fit : ℕ} (us : List Update) (agree : PartsAgree s old fit) (come : AllCanCome (space_of s.shape) (with_log [] s.replica) us) where
+module _ {s : State} {old : Space} {fit : ℕ} (us : List Update) (agree : PartsAgree s old fit)
+    (come : AllCanCome (space_of s.shape) (with_log [] s.replica) us) where
   sound_adopted : IsSound (space_of s.shape) (with_log us s.replica)
   sound_adopted = sound_with_all _ (with_log [] s.replica) us (sound_emptied _ s.replica agree.sound) come
 
@@ -133,7 +149,8 @@ module _ {s : State} {old : Space} {fit : ℕ} (us : List Update) (agree : Parts
     agrees_adopted new ready tidy dropped room left takes = record {
       sound = sound_adopted;
       size = takes.size ∙ gives.size ∙ agree.size;
-      free = λ a. takes.free a ∙ ap (λ b. b && not (list_any (in_run a) (log_runs us))) (free_middle agree gives a) ∙ sym (free_refilled _ s.replica us sound_adopted a);
+      free = λ a. takes.free a ∙ ap (λ b. b && not (list_any (in_run a) (log_runs us))) (free_middle agree gives a)
+          ∙ sym (free_refilled _ s.replica us sound_adopted a);
       runs = omega (arith, agree.runs, gives.spare, takes.spare, room.spare);
       updates = omega arith;
       ready = still_ready s.replica.items us ready tidy dropped room.ready left;

@@ -1,5 +1,6 @@
 -- Places of lists, as the code and the machine read them.
-use Rattle.std.proofs.Common.{◌≡◌, ℕ, zero, suc, ◌+◌, ◌<◌, Bool, ◌||◌, List, [], ◌∷◌, ◌++◌, length, get_or, slice_set, take, All, refl, sym, ap, ◌∙◌, subst, arith}
+use Rattle.std.proofs.Common.{◌≡◌, ℕ, zero, suc, ◌+◌, ◌<◌, Bool, ◌||◌, List, [], ◌∷◌, ◌++◌, length, get_or, slice_set}
+use Rattle.std.proofs.Common.{take, All, refl, sym, ap, ◌∙◌, subst, arith}
 use Rattle.std.proofs.Math.Seq.{take-suc}
 use Rattle.std.proofs.lemmas.List.Elements.{All-push}
 use Rattle.std.specs.List.{list_any}
@@ -25,4 +26,6 @@ module _ {X : Type 0} where
   pub all_next : (P : X → Type 0) (xs : List X) (i : ℕ) (x : X) → i < length xs → x ≡ get_or xs i x → All P (take i xs) → P x → All P (take (i + 1) xs)
   all_next P xs i x lt is done here =
       let one : suc i ≡ i + 1 = omega arith in
-      subst (λ (n : ℕ). All P (take n xs)) one (subst (All P) (sym (take-suc xs i x lt ∙ ap (λ (y : X). take i xs ++ y ∷ []) (sym is))) (All-push P (take i xs) x done here))
+      subst (λ (n : ℕ). All P (take n xs)) one
+      (subst (All P) (sym (take-suc xs i x lt ∙ ap (λ (y : X). take i xs ++ y ∷ []) (sym is)))
+      (All-push P (take i xs) x done here))

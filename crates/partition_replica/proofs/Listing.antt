@@ -1,5 +1,6 @@
 -- The entries of an index, once they are in the order of keys, are the items.
-use Rattle.std.proofs.Common.{◌≡◌, ℕ, suc, ◌+◌, ◌<◌, Bool, true, false, ◌&&◌, List, [], ◌∷◌, length, get_or, Option, Some, None, refl, sym, ap, ◌∙◌, subst, arith}
+use Rattle.std.proofs.Common.{◌≡◌, ℕ, suc, ◌+◌, ◌<◌, Bool, true, false, ◌&&◌, List, [], ◌∷◌, length, get_or, Option}
+use Rattle.std.proofs.Common.{Some, None, refl, sym, ap, ◌∙◌, subst, arith}
 use Rattle.std.specs.Prelude.{T}
 use mathlib.Core.Bool.{false≢true}
 use Rattle.std.specs.declared.cmp.Ordering.{Ordering}
@@ -79,7 +80,9 @@ below x (e ∷ es) (differs, others) up = both _ _ (before _ refl) (below x es o
 rises : (es : List (List ℕ × Slot)) → IsDistinct equal (keys_of es) → IsSortedBy comes_before es → T (is_sorted order es)
 rises [] distinct up = tt
 rises (e ∷ es) distinct up =
-    both _ _ (below e es (IsDistinct-head equal e.0 (keys_of es) distinct) (λ j d low. sorted_far comes_before (ranks_by nat_list_cmp_total (λ (x : List ℕ × Slot). x.0)) (e ∷ es) up 0 (suc j) d (omega arith) (omega (arith, low))))
+    both _ _ (below e es (IsDistinct-head equal e.0 (keys_of es) distinct)
+    (λ j d low. sorted_far comes_before (ranks_by nat_list_cmp_total (λ (x : List ℕ × Slot). x.0)) (e ∷ es) up 0
+    (suc j) d (omega arith) (omega (arith, low))))
     (rises es (IsDistinct-tail equal e.0 (keys_of es) distinct) later) where
       both : (a b : Bool) → T a → T b → T (a && b)
       both true b p q = q
@@ -91,17 +94,23 @@ rises (e ∷ es) distinct up =
           subst (λ (n : ℕ). comes_before (get_or (e ∷ es) n d) (get_or es k d) ≡ false) next (up (suc k) d (omega arith) (omega (arith, less)))
 
 -- the order of the entries doesn't count
-same_lookup : (xs ys : List (List ℕ × Slot)) (q : List ℕ) → IsDistinct equal (keys_of xs) → IsDistinct equal (keys_of ys) → IsPermutation xs ys → lookup (equal q) ys ≡ lookup (equal q) xs
+same_lookup : (xs ys : List (List ℕ × Slot)) (q : List ℕ) → IsDistinct equal (keys_of xs)
+    → IsDistinct equal (keys_of ys) → IsPermutation xs ys → lookup (equal q) ys ≡ lookup (equal q) xs
 same_lookup xs ys q once again moved = by (lookup (equal q) xs) (lookup (equal q) ys) refl refl where
   by : (x y : Option Slot) → lookup (equal q) xs ≡ x → lookup (equal q) ys ≡ y → lookup (equal q) ys ≡ lookup (equal q) xs
-  by (Some slot) y is there = lookup-from_Contains equal_laws q slot ys again (Contains-permutation xs ys (q, slot) moved (Contains-from_lookup equal_same q slot xs is)) ∙ sym is
+  by (Some slot) y is there = lookup-from_Contains equal_laws q slot ys again
+      (Contains-permutation xs ys (q, slot) moved (Contains-from_lookup equal_same q slot xs is)) ∙ sym is
   by None (Some slot) is there = lookup-from_Contains equal_laws q slot ys again (Contains-from_lookup equal_same q slot ys there)
-      ∙ sym (lookup-from_Contains equal_laws q slot xs once (Contains-permutation ys xs (q, slot) (IsPermutation-sym xs ys moved) (Contains-from_lookup equal_same q slot ys there)))
+      ∙ sym (lookup-from_Contains equal_laws q slot xs once
+      (Contains-permutation ys xs (q, slot) (IsPermutation-sym xs ys moved)
+      (Contains-from_lookup equal_same q slot ys there)))
   by None None is there = there ∙ sym is
 
-pub items_sorted : (index : Keys (List ℕ)) (xs ys : List (List ℕ × Slot)) → IsListing equal index xs → IsPermutation xs ys → IsSortedBy comes_before ys → ys ≡ items_in index
+pub items_sorted : (index : Keys (List ℕ)) (xs ys : List (List ℕ × Slot)) → IsListing equal index xs
+    → IsPermutation xs ys → IsSortedBy comes_before ys → ys ≡ items_in index
 items_sorted index xs ys listing moved up =
-    let again : IsDistinct equal (keys_of ys) = IsDistinct-IsPermutation equal equal_laws.symm (keys_of xs) (keys_of ys) (IsPermutation-map (λ (e : List ℕ × Slot). e.0) xs ys moved) listing.once in
+    let again : IsDistinct equal (keys_of ys) = IsDistinct-IsPermutation equal equal_laws.symm (keys_of xs) (keys_of ys)
+    (IsPermutation-map (λ (e : List ℕ × Slot). e.0) xs ys moved) listing.once in
     same_entries order nat_list_cmp_total tied ys (items_in index) (rises ys again up) (map.entries_sorted (as_map order index))
     (λ q. find_lookup q ys ∙ same_lookup xs ys q listing.once again moved ∙ listing.slots q ∙ sym (slot_in-items_in index q))
 

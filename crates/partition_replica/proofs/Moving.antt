@@ -1,5 +1,6 @@
 -- Updates whose runs are taken or given back, one after the other.
-use Rattle.std.proofs.Common.{◌≡◌, ℕ, ◌+◌, ◌≤◌, ◌==◌, Bool, true, false, not, ◌&&◌, ◌||◌, cond, if◌then◌else◌, List, [], ◌∷◌, length, All, Option, Some, None, refl, sym, ap, ◌∙◌, arith}
+use Rattle.std.proofs.Common.{◌≡◌, ℕ, ◌+◌, ◌≤◌, ◌==◌, Bool, true, false, not, ◌&&◌, ◌||◌, cond, if◌then◌else◌, List, []}
+use Rattle.std.proofs.Common.{◌∷◌, length, All, Option, Some, None, refl, sym, ap, ◌∙◌, arith}
 use Rattle.std.specs.Prelude.{IfSome}
 use Rattle.std.proofs.lemmas.Bool.Decides.{nat_tests}
 use Rattle.group_types.specs.declared.run.Run.{Run}
@@ -30,7 +31,8 @@ pub record Giving (start now : Space) (all left : List Update) : Type 0 where
 pub taking_start : (start : Space) (all : List Update) → ((a : ℕ) → owners a (log_runs all) ≤ (if is_free start a then 1 else 0)) → Taking start start all all
 taking_start start all free = record { size = refl; free = λ a. rw (count_log (in_run a) all) at (free a); gone = λ a. refl; spare = omega arith }
 
-pub giving_start : (start : Space) (all : List Update) → All (λ r. r.at + r.len ≤ start.size) (log_runs all) → ((a : ℕ) → owners a (log_runs all) ≤ (if is_free start a then 0 else 1)) → Giving start start all all
+pub giving_start : (start : Space) (all : List Update) → All (λ r. r.at + r.len ≤ start.size) (log_runs all)
+    → ((a : ℕ) → owners a (log_runs all) ≤ (if is_free start a then 0 else 1)) → Giving start start all all
 giving_start start all inside taken = record {
   size = refl;
   inside = sym (count_log (outside start.size) all) ∙ none_outside start.size (log_runs all) inside;
@@ -111,7 +113,8 @@ module _ (start now : Space) (all left : List Update) (u : Update) where
       same false true n = grind (arith, nat_tests)
       same false false n = grind (arith, nat_tests)
 
-pub taking_end : (start now : Space) (all left : List Update) → Taking start now all left → length left ≡ 0 → Takes start now (λ a. list_any (in_run a) (log_runs all)) (length all)
+pub taking_end : (start now : Space) (all left : List Update) → Taking start now all left → length left ≡ 0
+    → Takes start now (λ a. list_any (in_run a) (log_runs all)) (length all)
 taking_end start now all (u ∷ left) at none = absurd (omega arith)
 taking_end start now all [] at none = record {
   size = at.size;
@@ -121,7 +124,8 @@ taking_end start now all [] at none = record {
   last : (f s : Bool) (n : ℕ) → (f && true) ≡ (s && (n == 0)) → f ≡ (s && not (not (n == 0)))
   last f s n is = grind (arith, nat_tests)
 
-pub giving_end : (start now : Space) (all left : List Update) → Giving start now all left → length left ≡ 0 → Gives start now (λ a. list_any (in_run a) (log_runs all)) (length all)
+pub giving_end : (start now : Space) (all left : List Update) → Giving start now all left → length left ≡ 0
+    → Gives start now (λ a. list_any (in_run a) (log_runs all)) (length all)
 giving_end start now all (u ∷ left) at none = absurd (omega arith)
 giving_end start now all [] at none = record {
   size = at.size;

@@ -1,5 +1,6 @@
 -- Counting over the runs of items and of the log: how many of them pass a test, as the one whether a run has an address.
-use Rattle.std.proofs.Common.{◌≡◌, ℕ, ◌+◌, ◌≤◌, ◌==◌, nat_lt, Bool, true, false, cond, not, ◌&&◌, ◌||◌, ◌⊎◌, inl, inr, List, [], ◌∷◌, ◌++◌, Option, Some, None, refl, sym, ap, ◌∙◌, arith}
+use Rattle.std.proofs.Common.{◌≡◌, ℕ, ◌+◌, ◌≤◌, ◌==◌, nat_lt, Bool, true, false, cond, not, ◌&&◌, ◌||◌, ◌⊎◌, inl, inr}
+use Rattle.std.proofs.Common.{List, [], ◌∷◌, ◌++◌, Option, Some, None, refl, sym, ap, ◌∙◌, arith}
 use Rattle.std.specs.Prelude.{T, count_by, All}
 use Rattle.std.specs.declared.cmp.Ordering.{Ordering}
 use Rattle.std.specs.declared.cmp.Ordering.TheVariants.{Less, Equal, Greater}
@@ -123,7 +124,9 @@ module _ (p : Run → Bool) where
   put_most : (key : List ℕ) (new : Slot) (items : Items) → held (entries.put order key new items) ≤ held items + cond (p (run_in new)) 1 0
   put_most key new [] = omega arith
   put_most key new (e ∷ es) =
-      elim (order key e.0) as (λ o. held (entries.by_order o ((key, new) ∷ e ∷ es) ((e.0, new) ∷ es) (e ∷ entries.put order key new es)) ≤ held (e ∷ es) + cond (p (run_in new)) 1 0) [
+      elim (order key e.0) as
+      (λ o. held (entries.by_order o ((key, new) ∷ e ∷ es) ((e.0, new) ∷ es) (e ∷ entries.put order key new es))
+      ≤ held (e ∷ es) + cond (p (run_in new)) 1 0) [
         | Less ↦ omega arith
         | Equal ↦ omega arith
         | Greater ↦ omega (arith, put_most key new es)
@@ -178,26 +181,35 @@ module _ (p : Run → Bool) where
   without_count : (key : List ℕ) (items : Items) → T (entries.is_sorted order items) → held (without key items) + has (slot_in items key) ≡ held items
   without_count key [] sorted = refl
   without_count key (e ∷ es) sorted =
-      elim (same_key key e.0) as (λ b. same_key key e.0 ≡ b → held (cond (not b) (e ∷ without key es) (without key es)) + has (cond b (Some e.1) (slot_in es key)) ≡ held (e ∷ es)) [
+      elim (same_key key e.0) as
+      (λ b. same_key key e.0 ≡ b → held (cond (not b) (e ∷ without key es) (without key es)) + has
+      (cond b (Some e.1) (slot_in es key)) ≡ held (e ∷ es)) [
         | true ↦ λ is. omega (arith, kept_all key es (find_none key e.0 es (inr ((Equal-is _).0 is)) (first _ _ sorted)))
         | false ↦ λ is. omega (arith, without_count key es (second _ _ sorted))
       ] refl
 
-  put_count : (key : List ℕ) (new : Slot) (items : Items) → T (entries.is_sorted order items) → held (entries.put order key new items) + has (slot_in items key) ≡ held items + cond (p (run_in new)) 1 0
+  put_count : (key : List ℕ) (new : Slot) (items : Items) → T (entries.is_sorted order items)
+      → held (entries.put order key new items) + has (slot_in items key) ≡ held items + cond (p (run_in new)) 1 0
   put_count key new [] sorted = omega arith
   put_count key new (e ∷ es) sorted =
-      elim (order key e.0) as (λ o. order key e.0 ≡ o → held (entries.by_order o ((key, new) ∷ e ∷ es) ((e.0, new) ∷ es) (e ∷ entries.put order key new es)) + has (cond (is_eq o) (Some e.1) (slot_in es key)) ≡ held (e ∷ es) + cond (p (run_in new)) 1 0) [
+      elim (order key e.0) as
+      (λ o. order key e.0 ≡ o
+      → held (entries.by_order o ((key, new) ∷ e ∷ es) ((e.0, new) ∷ es) (e ∷ entries.put order key new es)) + has
+      (cond (is_eq o) (Some e.1) (slot_in es key)) ≡ held (e ∷ es) + cond (p (run_in new)) 1 0) [
         | Less ↦ λ is. omega (arith, ap has (find_none key e.0 es (inl is) (first _ _ sorted)))
         | Equal ↦ λ is. omega arith
         | Greater ↦ λ is. omega (arith, put_count key new es (second _ _ sorted))
       ] refl
 
-  with_count : (key : List ℕ) (new : Option Slot) (items : Items) → T (entries.is_sorted order items) → held (with_slot key new items) + has (slot_in items key) ≡ held items + has new
+  with_count : (key : List ℕ) (new : Option Slot) (items : Items) → T (entries.is_sorted order items)
+      → held (with_slot key new items) + has (slot_in items key) ≡ held items + has new
   with_count key None items sorted = omega (arith, without_count key items sorted)
   with_count key (Some new) items sorted = put_count key new items sorted
 
   -- an update takes the run from the items that it frees, and brings the one that it writes
-  pub settled_count : (u : Update) (items : Items) → T (entries.is_sorted (slice_cmp nat_cmp) items) → u.frees ≡ freed_by u.body (slot_in items u.key) → held (item_settled u items) + weight u.frees ≡ held items + weight (run_of u.body)
+  pub settled_count : (u : Update) (items : Items) → T (entries.is_sorted (slice_cmp nat_cmp) items)
+      → u.frees ≡ freed_by u.body (slot_in items u.key) → held (item_settled u items) + weight u.frees
+      ≡ held items + weight (run_of u.body)
   settled_count u items sorted frees =
       let old = slot_in items u.key in
       rw frees (omega (arith, with_count u.key (slot_after u.number u.body old) items sorted, after_count u.number u.body old))
@@ -211,11 +223,15 @@ any_written a [] = refl
 any_written a (u ∷ us) = rw weight-in_run (more (in_some_run a (run_of u.body)) _ _ (any_written a us))
 
 -- an address that the log's updates free is in a run
-pub freed_owned : (a : ℕ) (items : Items) (log : List Update) → FreeTheirs items log → list_any (λ u. in_some_run a u.frees) log ≡ true → 1 ≤ held (in_run a) items + written (in_run a) log
+pub freed_owned : (a : ℕ) (items : Items) (log : List Update) → FreeTheirs items log
+    → list_any (λ u. in_some_run a u.frees) log ≡ true → 1 ≤ held (in_run a) items + written (in_run a) log
 freed_owned a items [] frees some = cc
 freed_owned a items (u ∷ us) frees some = here (or_cases _ _ some) (freed_owned a (item_settled u items) us frees.1) where
-  here : (in_some_run a u.frees ≡ true) ⊎ (list_any (λ u. in_some_run a u.frees) us ≡ true) → (list_any (λ u. in_some_run a u.frees) us ≡ true → 1 ≤ held (in_run a) (item_settled u items) + written (in_run a) us) → 1 ≤ held (in_run a) items + written (in_run a) (u ∷ us)
-  here (inl now) later = let one : weight (in_run a) u.frees ≡ 1 = weight-in_run a u.frees ∙ ap (λ (b : Bool). cond b 1 0) now in omega (arith, freed_held (in_run a) u items frees.0)
+  here : (in_some_run a u.frees ≡ true) ⊎ (list_any (λ u. in_some_run a u.frees) us ≡ true)
+      → (list_any (λ u. in_some_run a u.frees) us ≡ true → 1 ≤ held (in_run a) (item_settled u items) + written
+      (in_run a) us) → 1 ≤ held (in_run a) items + written (in_run a) (u ∷ us)
+  here (inl now) later = let one : weight (in_run a) u.frees ≡ 1 = weight-in_run a u.frees
+      ∙ ap (λ (b : Bool). cond b 1 0) now in omega (arith, freed_held (in_run a) u items frees.0)
   here (inr then) later = omega (arith, later then, settled_most (in_run a) u items)
 
 -- the run ends behind the space

@@ -20,7 +20,8 @@ module _ (space : ℕ) (r : Replica) (len : ℕ) where
       let own : IsFreeRun space (is_free space r) at l' = subst (λ (n : ℕ). IsFreeRun space (is_free space r) at n) long best.run in
       omega (arith, best.lowest at' other, best'.lowest at own)
 
-  place_found : (found : Option Run) (at : ℕ) → IsPlaced space r len found → IsPlace space (is_free space r) len at → Some (record { at = at; len = len }) ≡ found
+  place_found : (found : Option Run) (at : ℕ) → IsPlaced space r len found → IsPlace space (is_free space r) len at
+      → Some (record { at = at; len = len }) ≡ found
   place_found None at placed place = absurd (omega (arith, place.1.fits, placed at place.0 place.1.run))
   place_found (Some run) at placed place =
       let same : at ≡ run.at = same_best at run.at place.0 placed.1.0 place.1 placed.1.1 in

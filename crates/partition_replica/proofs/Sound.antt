@@ -1,5 +1,7 @@
 -- What keeps a replica sound, and which addresses are then free.
-use Rattle.std.proofs.Common.{◌≡◌, ℕ, ◌+◌, ◌-◌, ◌<◌, ◌≤◌, ◌==◌, nat_lt, Bool, true, false, cond, if◌then◌else◌, not, ◌&&◌, ◌||◌, ◌⊎◌, inl, inr, List, [], ◌∷◌, ◌++◌, length, take, drop, Option, Some, None, refl, sym, ap, subst, ◌∙◌, append_assoc, append-nil, arith}
+use Rattle.std.proofs.Common.{◌≡◌, ℕ, ◌+◌, ◌-◌, ◌<◌, ◌≤◌, ◌==◌, nat_lt, Bool, true, false, cond, if◌then◌else◌, not}
+use Rattle.std.proofs.Common.{◌&&◌, ◌||◌, ◌⊎◌, inl, inr, List, [], ◌∷◌, ◌++◌, length, take, drop, Option, Some, None}
+use Rattle.std.proofs.Common.{refl, sym, ap, subst, ◌∙◌, append_assoc, append-nil, arith}
 use Rattle.std.specs.Prelude.{T, All, IfSome}
 use Rattle.std.specs.Cmp.Lexicographic.{slice_cmp}
 use Rattle.std.specs.FinMap.Entries as entries
@@ -16,11 +18,14 @@ use Rattle.run_alloc.specs.Free.{AllFree, NoneFree}
 use Rattle.run_alloc.proofs.Spread.{in_run-true, in_run-inside}
 use Rattle.std.specs.List.{list_any}
 use Rattle.group_run.specs.Free.{in_run, in_some_run, is_free}
-use Rattle.group_run.specs.Replica.{Items, Replica, empty_replica, callers, slot_in, run_of, item_settled, items_after, kept_after, applied_to, with_update, with_log}
+use Rattle.group_run.specs.Replica.{Items, Replica, empty_replica, callers, slot_in, run_of, item_settled, items_after}
+use Rattle.group_run.specs.Replica.{kept_after, applied_to, with_update, with_log}
 use Rattle.group_run.specs.Replica.{freed_by}
 use Rattle.group_run.specs.Fitting.{Writes, CanCome, AllCanCome}
 use Rattle.partition_replica.specs.Sound.{log_runs, runs_of, owners, AreApart, FreeTheirs, IsSound}
-use Rattle.partition_replica.proofs.Owners.{weight, has, held, found_most, written, count_log, count_all, written-append, any_item, any_log, any_written, weight-in_run, freed_held, settled_count, freed_owned, outside, none_outside, all_inside, none_behind}
+use Rattle.partition_replica.proofs.Owners.{weight, has, held, found_most, written, count_log, count_all}
+use Rattle.partition_replica.proofs.Owners.{written-append, any_item, any_log, any_written, weight-in_run, freed_held}
+use Rattle.partition_replica.proofs.Owners.{settled_count, freed_owned, outside, none_outside, all_inside, none_behind}
 
 -- how many runs of items and of the log have the address
 abbrev taken : Replica → ℕ → ℕ
@@ -36,9 +41,16 @@ taken_inside : (space : ℕ) (r : Replica) → IsSound space r → (a : ℕ) →
 taken_inside space r sound a some = decide (cases_lt a space) where
   decide : (a < space) ⊎ (space ≤ a) → a < space
   decide (inl below) = below
-  decide (inr behind) = absurd (omega (arith, none_behind space a (runs_of r) behind, count_all (in_run a) r.items r.log, none_outside space (runs_of r) sound.runs.inside))
+  decide (inr behind) =
+      absurd (omega (
+        arith,
+        none_behind space a (runs_of r) behind,
+        count_all (in_run a) r.items r.log,
+        none_outside space (runs_of r) sound.runs.inside,
+      ))
 
-are_apart : (space : ℕ) (r : Replica) → held (outside space) r.items + written (outside space) r.log ≡ 0 → ((a : ℕ) → taken r a ≤ 1) → AreApart space (runs_of r)
+are_apart : (space : ℕ) (r : Replica) → held (outside space) r.items + written (outside space) r.log ≡ 0
+    → ((a : ℕ) → taken r a ≤ 1) → AreApart space (runs_of r)
 are_apart space r inside once = record {
   inside = all_inside space (runs_of r) (count_all (outside space) r.items r.log ∙ inside);
   apart = λ a. omega (arith, count_all (in_run a) r.items r.log, once a);
@@ -71,11 +83,13 @@ free_is space r sound a free =
     let test : (nat_lt a space && (taken r a == 0)) ≡ true = sym (free_untaken space r sound a) ∙ free in
     grind (arith, nat_tests)
 
-frees_push : (items : Items) (log : List Update) (u : Update) → FreeTheirs items log → u.frees ≡ freed_by u.body (slot_in (items_after items log) u.key) → FreeTheirs items (log ++ u ∷ [])
+frees_push : (items : Items) (log : List Update) (u : Update) → FreeTheirs items log
+    → u.frees ≡ freed_by u.body (slot_in (items_after items log) u.key) → FreeTheirs items (log ++ u ∷ [])
 frees_push items [] u frees last = (last, tt)
 frees_push items (x ∷ log) u frees last = (frees.0, frees_push (item_settled x items) log u frees.1 last)
 
-new_free : (space : ℕ) (r : Replica) (run : Option Run) → IfSome run (λ run. AllFree (is_free space r) run.at run.len) → (a : ℕ) → in_some_run a run ≡ true → is_free space r a ≡ true
+new_free : (space : ℕ) (r : Replica) (run : Option Run) → IfSome run (λ run. AllFree (is_free space r) run.at run.len)
+    → (a : ℕ) → in_some_run a run ≡ true → is_free space r a ≡ true
 new_free space r None free a inside = cc
 new_free space r (Some run) free a inside = let bounds = in_run-true run.at run.len a inside in free a bounds.0 bounds.1
 
@@ -103,7 +117,12 @@ module _ (space : ℕ) (r : Replica) (u : Update) (sound : IsSound space r) (can
 
   pub free_with : (a : ℕ) → is_free space (with_update u r) a ≡ (is_free space r a && not (in_some_run a (run_of u.body)))
   free_with a =
-      rw (free_untaken space (with_update u r) sound_with a, free_untaken space r sound a, written-append (in_run a) r.log (u ∷ []), weight-in_run a (run_of u.body))
+      rw (
+        free_untaken space (with_update u r) sound_with a,
+        free_untaken space r sound a,
+        written-append (in_run a) r.log (u ∷ []),
+        weight-in_run a (run_of u.body),
+      )
       (test (nat_lt a space) (in_some_run a (run_of u.body)) (held (in_run a) r.items) (written (in_run a) r.log)) where
         test : (t b : Bool) (i w : ℕ) → (t && (i + (w + (cond b 1 0 + 0)) == 0)) ≡ (t && (i + w == 0) && not b)
         test t true i w = grind (arith, nat_tests)
@@ -144,20 +163,23 @@ givable space r sound a = rw (count_log (in_run a) r.log) (split (is_free space 
 given_test : (a space i w : ℕ) → i + w ≤ 1 → (1 ≤ i + w → a < space) → (nat_lt a space && (i + 0 == 0)) ≡ ((nat_lt a space && (i + w == 0)) || not (w == 0))
 given_test a space i w once inside = grind (arith, nat_tests)
 
-pub free_emptied : (space : ℕ) (r : Replica) → IsSound space r → (a : ℕ) → is_free space (with_log [] r) a ≡ (is_free space r a || list_any (in_run a) (log_runs r.log))
+pub free_emptied : (space : ℕ) (r : Replica) → IsSound space r → (a : ℕ) → is_free space (with_log [] r) a
+    ≡ (is_free space r a || list_any (in_run a) (log_runs r.log))
 free_emptied space r sound a =
     rw (free_untaken space (with_log [] r) (sound_emptied space r sound) a, free_untaken space r sound a, any_log (in_run a) r.log)
     (given_test a space (held (in_run a) r.items) (written (in_run a) r.log) (taken_once space r sound a) (taken_inside space r sound a))
 
 -- an address of the log's runs is free once the log is empty
-pub takeable : (space : ℕ) (r : Replica) (us : List Update) → IsSound space (with_log us r) → (a : ℕ) → owners a (log_runs us) ≤ (if is_free space (with_log [] r) a then 1 else 0)
+pub takeable : (space : ℕ) (r : Replica) (us : List Update) → IsSound space (with_log us r) → (a : ℕ)
+    → owners a (log_runs us) ≤ (if is_free space (with_log [] r) a then 1 else 0)
 takeable space r us sound a =
     rw (count_log (in_run a) us, free_untaken space (with_log [] r) (sound_emptied space (with_log us r) sound) a)
     (test (held (in_run a) r.items) (written (in_run a) us) (taken_once space (with_log us r) sound a) (taken_inside space (with_log us r) sound a)) where
       test : (i w : ℕ) → i + w ≤ 1 → (1 ≤ i + w → a < space) → w ≤ (if nat_lt a space && (i + 0 == 0) then 1 else 0)
       test i w once inside = grind (arith, nat_tests)
 
-pub free_refilled : (space : ℕ) (r : Replica) (us : List Update) → IsSound space (with_log us r) → (a : ℕ) → is_free space (with_log us r) a ≡ (is_free space (with_log [] r) a && not (list_any (in_run a) (log_runs us)))
+pub free_refilled : (space : ℕ) (r : Replica) (us : List Update) → IsSound space (with_log us r) → (a : ℕ)
+    → is_free space (with_log us r) a ≡ (is_free space (with_log [] r) a && not (list_any (in_run a) (log_runs us)))
 free_refilled space r us sound a =
     rw (free_untaken space (with_log us r) sound a, free_untaken space (with_log [] r) (sound_emptied space (with_log us r) sound) a, any_log (in_run a) us)
     (test (held (in_run a) r.items) (written (in_run a) us)) where
@@ -168,21 +190,35 @@ free_refilled space r us sound a =
 abbrev settled : Update → List Update → Replica → Replica
 settled u us r = record { items = item_settled u r.items; applied = r.applied + 1; log = us; kept = kept_after r.kept (u ∷ []) }
 
-pub settled_first : (r : Replica) (u : Update) (us : List Update) → r.log ≡ u ∷ us → applied_to (r.applied + 1) r ≡ record { items = item_settled u r.items; applied = r.applied + 1; log = us; kept = kept_after r.kept (u ∷ []) }
+pub settled_first : (r : Replica) (u : Update) (us : List Update) → r.log ≡ u ∷ us → applied_to (r.applied + 1) r
+    ≡ record { items = item_settled u r.items; applied = r.applied + 1; log = us; kept = kept_after r.kept (u ∷ []) }
 settled_first r u us is =
     let one : r.applied + 1 - r.applied ≡ 1 = omega arith in
     ap (λ (l : List Update). applied_to (r.applied + 1) (with_log l r)) is
-    ∙ ap (λ (n : ℕ). record { items = items_after r.items (take n (u ∷ us)); applied = r.applied + length (take n (u ∷ us)); log = drop n (u ∷ us); kept = kept_after r.kept (take n (u ∷ us)) }) one
+    ∙ ap (λ (n : ℕ). record {
+      items = items_after r.items (take n (u ∷ us));
+      applied = r.applied + length (take n (u ∷ us));
+      log = drop n (u ∷ us);
+      kept =
+          kept_after r.kept (take n (u ∷ us));
+    }) one
 
 pub settled_none : (r : Replica) → r.log ≡ [] → applied_to (r.applied + 1) r ≡ r
 settled_none r none =
     let one : r.applied + 1 - r.applied ≡ 1 = omega arith in
     let same : r.applied + 0 ≡ r.applied = omega arith in
     ap (λ (l : List Update). applied_to (r.applied + 1) (with_log l r)) none
-    ∙ ap (λ (n : ℕ). record { items = items_after r.items (take n []); applied = r.applied + length (take {A = Update} n []); log = drop n []; kept = kept_after r.kept (take n []) }) one
+    ∙ ap (λ (n : ℕ). record {
+      items = items_after r.items (take n []);
+      applied = r.applied + length (take {A = Update} n []);
+      log = drop n [];
+      kept = kept_after r.kept (take n []);
+    })
+    one
     ∙ (λ i. record { items = r.items; applied = same i; log = sym none i; kept = r.kept })
 
-module _ (space : ℕ) (r : Replica) (u : Update) (us : List Update) (sorted : T (entries.is_sorted (slice_cmp nat_cmp) r.items)) (is : r.log ≡ u ∷ us) (sound : IsSound space r) where
+module _ (space : ℕ) (r : Replica) (u : Update) (us : List Update)
+    (sorted : T (entries.is_sorted (slice_cmp nat_cmp) r.items)) (is : r.log ≡ u ∷ us) (sound : IsSound space r) where
   -- the replica, its log written out
   abbrev whole : Replica
   whole = with_log (u ∷ us) r
@@ -198,7 +234,9 @@ module _ (space : ℕ) (r : Replica) (u : Update) (us : List Update) (sorted : T
 
   first_sound : IsSound space (settled u us r)
   first_sound = record {
-    runs = are_apart space (settled u us r) (omega (arith, count (outside space), all_inside_space space whole whole_sound)) (λ a. omega (arith, count (in_run a), taken_once space whole whole_sound a));
+    runs = are_apart space (settled u us r)
+        (omega (arith, count (outside space), all_inside_space space whole whole_sound))
+        (λ a. omega (arith, count (in_run a), taken_once space whole whole_sound a));
     frees = whole_sound.frees.1;
     writes = All-tail (λ u. Writes space u.body) u us whole_sound.writes;
     callers = All-tail (λ u. u.caller < callers) u us whole_sound.callers;
@@ -215,8 +253,11 @@ module _ (space : ℕ) (r : Replica) (u : Update) (us : List Update) (sorted : T
         test : (b : Bool) → in_some_run a u.frees ≡ b → (nat_lt a space && (taken (settled u us r) a == 0)) ≡ ((nat_lt a space && (taken whole a == 0)) || b)
         test b freed =
             let one : weight (in_run a) u.frees ≡ cond b 1 0 = weight-in_run a u.frees ∙ ap (λ (b : Bool). cond b 1 0) freed in
-            given b _ _ _ _ (taken_once space whole whole_sound a) (taken_inside space whole whole_sound a) (ap (λ (n : ℕ). held (in_run a) (item_settled u r.items) + n) (sym one) ∙ count (in_run a)) where
-              given : (b : Bool) (i j x w : ℕ) → i + (x + w) ≤ 1 → (1 ≤ i + (x + w) → a < space) → j + cond b 1 0 ≡ i + x → (nat_lt a space && (j + w == 0)) ≡ ((nat_lt a space && (i + (x + w) == 0)) || b)
+            given b _ _ _ _ (taken_once space whole whole_sound a) (taken_inside space whole whole_sound a)
+            (ap (λ (n : ℕ). held (in_run a) (item_settled u r.items) + n) (sym one) ∙ count (in_run a)) where
+              given : (b : Bool) (i j x w : ℕ) → i + (x + w) ≤ 1 → (1 ≤ i + (x + w) → a < space)
+                  → j + cond b 1 0 ≡ i + x → (nat_lt a space && (j + w == 0))
+                  ≡ ((nat_lt a space && (i + (x + w) == 0)) || b)
               given true i j x w once inside sums = grind (arith, nat_tests)
               given false i j x w once inside sums = grind (arith, nat_tests)
 

@@ -53,7 +53,8 @@ module _ (s : Dimensions) (v : Serving) (b : Process) (peers : Peers) (h : Head)
       → IsMade s (decided s d h op r b) (acts s d peers h name op r calls b (decided s d h op r b)) asked r2 held b2
       → IsAsked s name op (serving v b) asked (thus r2 held b2)
   asked-is are heads (Done step) r2 held b2 made =
-      rw (made.0.replica, made.0.held, made.0.bytes, made.0.sent, made.0.settled, made.0.answer) (asks_are_the_machines s v b peers h r name op are heads made.1)
+      rw (made.0.replica, made.0.held, made.0.bytes, made.0.sent, made.0.settled, made.0.answer)
+      (asks_are_the_machines s v b peers h r name op are heads made.1)
   asked-is are heads (Need block) r2 held b2 made =
       let act : Decision → HeadStep = acts s d peers h name op r calls b in
       let same_r : r2 ≡ r = made.1 ∙ ap (λ (x : Decision). (act x).replica) made.0 in
@@ -77,4 +78,6 @@ module _ (s : Dimensions) (v : Serving) (b : Process) (peers : Peers) (h : Head)
       → IsAsked s name op (serving v b) asked (serving (record v { replicas = put empty_replica v.replicas e r2; held = put [] v.held e held }) b2)
   asked-at e same = subst (λ (e : ℕ). ArePeers s v b peers → Heads v e h r → (asked : Asking) (r2 : Replica) (held : List Held) (b2 : Process)
       → IsMade s (decided s e h op r b) (acts s e peers h name op r (at [] v.held e) b (decided s e h op r b)) asked r2 held b2
-      → IsAsked s name op (serving v b) asked (serving (record v { replicas = put empty_replica v.replicas e r2; held = put [] v.held e held }) b2)) (sym same) asked-is
+      → IsAsked s name op (serving v b) asked
+      (serving (record v { replicas = put empty_replica v.replicas e r2; held = put [] v.held e held }) b2))
+      (sym same) asked-is

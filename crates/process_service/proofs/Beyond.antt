@@ -23,7 +23,8 @@ followed-beyond own ranks k n d r are long is behind =
     let now = ap (λ (xs : List ℕ). length xs) are in
     low-le n d behind ∙ sym (ap (λ (y : ℕ). nat_le y r) (at_behind 0 ranks d (omega (arith, same, now, long, is, behind))) ∙ low-le 0 r (omega arith))
 
-pub headed-beyond : (v w : Serving) (b : Process) (k n : ℕ) (m : Message) (r : Rank) (d : Partition) (number : ℕ) → m ≡ tells.Ack r d number → v ≡ w → length v.heads ≡ k
+pub headed-beyond : (v w : Serving) (b : Process) (k n : ℕ) (m : Message) (r : Rank) (d : Partition) (number : ℕ)
+    → m ≡ tells.Ack r d number → v ≡ w → length v.heads ≡ k
     → n ≡ k → n ≤ d.0 → nat_lt d.0 n ≡ is_current (serving w b) m
 headed-beyond v w b k n m r d number is view long same behind =
     beyond ∙ sym (ap (is_current (serving w b)) is

@@ -23,7 +23,9 @@ module _ (s : Dimensions) (v : Serving) (b : Process) (i rank d n : ℕ) where
   passed-over = by (at None v.heads d) where
     by : (head : Option Head) → is_under rank head ≡ false → acknowledge s i rank d n head (serving v b) ≡ quietly (serving v b) []
     by None other = refl
-    by (Some h) other = ap (λ (same : Bool). when same (serving v b) (judge s d (serving (record v { heads = put None v.heads d (Some (acknowledged i n h)) }) b))) other
+    by (Some h) other =
+        ap (λ (same : Bool). when same (serving v b)
+        (judge s d (serving (record v { heads = put None v.heads d (Some (acknowledged i n h)) }) b))) other
 
   pub counted : (peers : Peers) (h : Head) (r : Replica) → ArePeers s v b peers → Heads v d h r → (rank == h.rank) ≡ true
       → (h2 : Head) (r2 : Replica) (b2 : Process) (settled : List Settlement) → h2 ≡ acknowledged i n h
@@ -37,4 +39,9 @@ module _ (s : Dimensions) (v : Serving) (b : Process) (i rank d n : ℕ) where
       ap (λ (x : Option Head). acknowledge s i rank d n x (serving v b)) heads.head
       ∙ ap (λ (x : Bool). when x (serving v b) (judge s d (serving w b))) same
       ∙ judges_are_the_machines s w b peers d (acknowledged i n h) r (record { m = are.m; name = are.name; known = are.known })
-      (record { head = at-put None None v.heads d (Some (acknowledged i n h)); replica = heads.replica; has_replica = heads.has_replica; has_held = heads.has_held }))
+      (record {
+        head = at-put None None v.heads d (Some (acknowledged i n h));
+        replica = heads.replica;
+        has_replica = heads.has_replica;
+        has_held = heads.has_held;
+      }))

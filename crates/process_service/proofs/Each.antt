@@ -41,7 +41,8 @@ module _ (f : ℕ → Process → ProcessStep) where
         settled = ap (λ (n : ℕ). before ++ (for_each (range_with_len 0 n) f p).settled) e;
       }
 
-  pub left-last : (k d : ℕ) (p : Process) (now before : List Settlement) (all : ProcessStep) → k - d ≡ 0 → IsLeft k d p now all before → HasMade all before p now
+  pub left-last : (k d : ℕ) (p : Process) (now before : List Settlement) (all : ProcessStep) → k - d ≡ 0
+      → IsLeft k d p now all before → HasMade all before p now
   left-last k d p now before all done is =
       let e : left k d p ≡ record { process = p; sent = []; settled = [] } = ap (λ (n : ℕ). for_each (range_with_len d n) f p) done in
       record {

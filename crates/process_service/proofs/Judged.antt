@@ -25,7 +25,11 @@ pub judged-made : (s : Dimensions) (v : Serving) (b : Process) (peers : Peers) (
     → HasMade (judge s d (serving v b)) before (serving (record v { replicas = put empty_replica v.replicas d r2 }) b2) after
 judged-made s v b peers d h r are heads r2 b2 before after r-is b-is settled =
     let law = judges_are_the_machines s v b peers d h r are heads in
-    record { process = rw (r-is, b-is) (sym (ap (λ (x : ProcessStep). x.process) law)); settled = settled ∙ sym (ap (λ (x : ProcessStep). before ++ x.settled) law) }
+    record {
+      process = rw (r-is, b-is) (sym (ap (λ (x : ProcessStep). x.process) law));
+      settled = settled
+          ∙ sym (ap (λ (x : ProcessStep). before ++ x.settled) law);
+    }
 
 -- what waits in one log waits in all of them, and what is settled of it waits no more
 module _ (rs : List Replica) (d : ℕ) (r : Replica) (here : at empty_replica rs d ≡ r) (within : d < length rs) where
@@ -47,14 +51,16 @@ module _ (rs : List Replica) (d : ℕ) (r : Replica) (here : at empty_replica rs
       ∙ ap length (take-append-drop (n - r.applied) r.log) in
       omega (arith, put-waiting r2, parts, grown, wider, fits)
 
-  pub settled-long : (n long long2 : ℕ) (before after : List Settlement) → after ≡ before ++ settlements d (up_to n r) → long ≡ length before → long2 ≡ length after
+  pub settled-long : (n long long2 : ℕ) (before after : List Settlement) → after ≡ before ++ settlements d (up_to n r)
+      → long ≡ length before → long2 ≡ length after
       → long2 ≡ long + length (up_to n r)
   settled-long n long long2 before after is was now =
       let one : Update → Settlement = λ u. record { partition = d; update = u } in
       now ∙ ap length is ∙ length-append before (settlements d (up_to n r)) ∙ omega (arith, was, length-map (up_to n r) one)
 
 -- a step that does nothing
-pub made-nothing : (step : ProcessStep) (p : Process) (before : List Settlement) → step ≡ record { process = p; sent = []; settled = [] } → HasMade step before p before
+pub made-nothing : (step : ProcessStep) (p : Process) (before : List Settlement)
+    → step ≡ record { process = p; sent = []; settled = [] } → HasMade step before p before
 made-nothing step p before is = record {
   process = sym (ap (λ (x : ProcessStep). x.process) is);
   settled = sym (append-nil before) ∙ sym (ap (λ (x : ProcessStep). before ++ x.settled) is);

@@ -1,5 +1,6 @@
 -- What a process keeps of one partition, as its contracts see it, and what it keeps once the partition's part changed.
-use Rattle.std.proofs.Common.{ℕ, ◌≡◌, ◌<◌, ◌≤◌, ◌+◌, ◌-◌, false, List, ◌++◌, Option, None, Some, length, map, take, drop, slice_index_or, All, IfSome, refl, sym, ap, subst, ◌∙◌, arith}
+use Rattle.std.proofs.Common.{ℕ, ◌≡◌, ◌<◌, ◌≤◌, ◌+◌, ◌-◌, false, List, ◌++◌, Option, None, Some, length, map, take}
+use Rattle.std.proofs.Common.{drop, slice_index_or, All, IfSome, refl, sym, ap, subst, ◌∙◌, arith}
 use Rattle.std.proofs.lemmas.List.{length-append, take-append-drop}
 use Rattle.std.specs.Prelude.{set}
 use Rattle.group_types.specs.Dimensions.{Dimensions}
@@ -54,10 +55,12 @@ module _ {inside : Inside} {now : Serving} {d : ℕ} (place : HasPlace inside no
   heads-put x = set_put None inside.heads.items d x has-head ∙ ap (λ (w : Serving). put None w.heads d x) place.view
 
   pub heads-same : (x : Option Head) → x ≡ at None now.heads d → set inside.heads.items d x ≡ now.heads
-  heads-same x is = heads-put x ∙ ap (put None now.heads d) is ∙ put-at None None now.heads d (omega (arith, has-head, ap (λ (w : Serving). length w.heads) place.view))
+  heads-same x is = heads-put x ∙ ap (put None now.heads d) is
+      ∙ put-at None None now.heads d (omega (arith, has-head, ap (λ (w : Serving). length w.heads) place.view))
 
   pub ranks-put : (x : Rank) → map (λ (y : Rank). y.0) (set inside.ranks.items d x) ≡ put 0 now.ranks d x.0
-  ranks-put x = part-put (λ (y : Rank). y.0) 0 inside.ranks.items d x (omega (arith, narrow, place.kept.ranks_long)) ∙ ap (λ (w : Serving). put 0 w.ranks d x.0) place.view
+  ranks-put x = part-put (λ (y : Rank). y.0) 0 inside.ranks.items d x (omega (arith, narrow, place.kept.ranks_long))
+      ∙ ap (λ (w : Serving). put 0 w.ranks d x.0) place.view
 
 module _ {inside : Inside} {now : Serving} {d : ℕ} {state : State} (lent : IsLent inside now d state) where
   pub within : d < length inside.replicas.items
@@ -102,7 +105,13 @@ module _ {inside : Inside} {now : Serving} {d : ℕ} {state : State} (lent : IsL
     head = is;
     replica = here;
     has_replica = has-replica;
-    has_held = omega (arith, narrow lent.place, lent.place.kept.held_long, long-map (λ x. x.items) inside.held.items, ap (λ (w : Serving). length w.held) lent.place.view);
+    has_held = omega (
+      arith,
+      narrow lent.place,
+      lent.place.kept.held_long,
+      long-map (λ x. x.items) inside.held.items,
+      ap (λ (w : Serving). length w.held) lent.place.view,
+    );
   }
 
   -- what the process keeps with another replica at that place
@@ -110,7 +119,8 @@ module _ {inside : Inside} {now : Serving} {d : ℕ} {state : State} (lent : IsL
   written t = record (the_view inside) { replicas = map (λ (x : State). x.replica) (set inside.replicas.items d t) }
 
   pub put-back : (t : State) → written t ≡ record now { replicas = put empty_replica now.replicas d t.replica }
-  put-back t = ap (λ (rs : List Replica). record (the_view inside) { replicas = rs }) (part-put (λ (x : State). x.replica) empty_replica inside.replicas.items d t within)
+  put-back t = ap (λ (rs : List Replica). record (the_view inside) { replicas = rs })
+      (part-put (λ (x : State). x.replica) empty_replica inside.replicas.items d t within)
       ∙ ap (λ (w : Serving). record w { replicas = put empty_replica w.replicas d t.replica }) lent.place.view
 
   pub put-same : (t : State) → t.replica ≡ state.replica → written t ≡ now
@@ -122,9 +132,14 @@ module _ {inside : Inside} {now : Serving} {d : ℕ} {state : State} (lent : IsL
   headed t rank head = record (written t) { ranks = map (λ (x : Rank). x.0) (set inside.ranks.items d rank); heads = set inside.heads.items d head }
 
   pub headed-is : (t : State) (rank : Rank) (h : Head) → rank.0 ≡ h.rank
-      → headed t rank (Some h) ≡ record now { replicas = put empty_replica now.replicas d t.replica; ranks = put 0 now.ranks d h.rank; heads = put None now.heads d (Some h) }
+      → headed t rank (Some h) ≡ record now {
+        replicas = put empty_replica now.replicas d t.replica;
+        ranks = put 0 now.ranks d h.rank;
+        heads = put None now.heads d (Some h);
+      }
   headed-is t rank h same =
-      ap (λ (ns : List ℕ). record (written t) { ranks = ns; heads = set inside.heads.items d (Some h) }) (ranks-put lent.place rank ∙ ap (put 0 now.ranks d) same)
+      ap (λ (ns : List ℕ). record (written t) { ranks = ns; heads = set inside.heads.items d (Some h) })
+      (ranks-put lent.place rank ∙ ap (put 0 now.ranks d) same)
       ∙ ap (λ (hs : List (Option Head)). record (written t) { ranks = put 0 now.ranks d h.rank; heads = hs }) (heads-put lent.place (Some h))
       ∙ ap (λ (w : Serving). record w { ranks = put 0 now.ranks d h.rank; heads = put None now.heads d (Some h) }) (put-back t)
 
@@ -143,7 +158,8 @@ module _ {inside : Inside} {now : Serving} {d : ℕ} {state : State} (lent : IsL
     pages = stays.pages;
   }
 
-  pub grows-over : {IsMissed : ℕ → Type 0} {b c : Storage} → IsBeneath now b → (t : State) → IsSeat d t c → AreKept b.process c.process → MakesReady IsMissed b c
+  pub grows-over : {IsMissed : ℕ → Type 0} {b c : Storage} → IsBeneath now b → (t : State) → IsSeat d t c
+      → AreKept b.process c.process → MakesReady IsMissed b c
       → GrowsOver IsMissed now (written t) b c
   grows-over is t seat kept makes = record {
     shape = view-shape;
@@ -153,7 +169,8 @@ module _ {inside : Inside} {now : Serving} {d : ℕ} {state : State} (lent : IsL
   }
 
   -- the bytes, where the partition is applied up to a number
-  pub applied-kept : {b : Storage} → IsBeneath now b → (c : Storage) (n : ℕ) → c.process ≡ bytes_after b.shape d (up_to n state.replica) b.process → AreKept b.process c.process
+  pub applied-kept : {b : Storage} → IsBeneath now b → (c : Storage) (n : ℕ)
+      → c.process ≡ bytes_after b.shape d (up_to n state.replica) b.process → AreKept b.process c.process
   applied-kept {b} is c n = after-as b.shape d (up_to n state.replica) b.process c.process (omega (arith, lent.place.below, is.blocks))
 
   -- the room of a list for what waits, before and after the partition's updates are settled into it
@@ -177,7 +194,8 @@ module _ {inside : Inside} {now : Serving} {d : ℕ} {state : State} (lent : IsL
       (settled-long now.replicas d state.replica here has-replica n long long2 before after settled was grown) wider fits)
 
 -- the ranks and heads don't count beneath
-pub other-heads : {v w : Serving} {b c : Storage} (ranks : List ℕ) (heads : List (Option Head)) → StaysOver v w b c → StaysOver v (record w { ranks = ranks; heads = heads }) b c
+pub other-heads : {v w : Serving} {b c : Storage} (ranks : List ℕ) (heads : List (Option Head)) → StaysOver v w b c
+    → StaysOver v (record w { ranks = ranks; heads = heads }) b c
 other-heads ranks heads is = record {
   shape = is.shape;
   name = is.name;
@@ -185,7 +203,8 @@ other-heads ranks heads is = record {
   pages = is.pages;
 }
 
-pub other-ranks : {IsMissed : ℕ → Type 0} {v w : Serving} {b c : Storage} (ranks : List ℕ) → GrowsOver IsMissed v w b c → GrowsOver IsMissed v (record w { ranks = ranks }) b c
+pub other-ranks : {IsMissed : ℕ → Type 0} {v w : Serving} {b c : Storage} (ranks : List ℕ) → GrowsOver IsMissed v w b c
+    → GrowsOver IsMissed v (record w { ranks = ranks }) b c
 other-ranks ranks is = record {
   shape = is.shape;
   name = is.name;

@@ -1,5 +1,6 @@
 -- What stands at a place of the lists that a process keeps, and what setting a place makes of them.
-use Rattle.std.proofs.Common.{ℕ, suc, zero, ◌≡◌, ◌<◌, false, List, [], ◌∷◌, Option, Some, None, is_some, length, map, All, slice_index_or, refl, sym, ap, subst, ◌∙◌, arith}
+use Rattle.std.proofs.Common.{ℕ, suc, zero, ◌≡◌, ◌<◌, false, List, [], ◌∷◌, Option, Some, None, is_some, length, map}
+use Rattle.std.proofs.Common.{All, slice_index_or, refl, sym, ap, subst, ◌∙◌, arith}
 use Rattle.std.specs.Prelude.{set}
 use Rattle.group_types.specs.Lists.{at, put}
 use Rattle.group_types.proofs.Lists.{at-map, at_index, put-at, set_put}

@@ -42,7 +42,12 @@ module _ (s : Dimensions) where
 
   judge-same-of : (d : ℕ) (p : Process) (h : Option Head) → IsSameBut d p (judge_head s d p h).process
   judge-same-of d p None = record { name = refl; known = refl; head = λ e other. refl; other = λ e other. refl }
-  judge-same-of d p (Some h) = record { name = refl; known = refl; head = λ e other. refl; other = λ e other. at-put-other empty_replica p.replicas d e _ other }
+  judge-same-of d p (Some h) = record {
+    name = refl;
+    known = refl;
+    head = λ e other. refl;
+    other = λ e other. at-put-other empty_replica p.replicas d e _ other;
+  }
 
   -- judging changes no head, and no replica of a partition that isn't headed
   pub record KeepsUnheaded (p q : Process) : Type 0 where
@@ -185,4 +190,5 @@ module _ (s : Dimensions) where
   pub judged-heirs : (ds : List ℕ) (p q : Process) → KeepsUnheaded p q → heirs (view q) ds ≡ heirs (view p) ds
   judged-heirs [] p q keeps = refl
   judged-heirs (d ∷ ds) p q keeps =
-      ap (λ (x : Option Head). x ∷ heirs (view q) ds) (judged-heir d p q keeps) ∙ ap (λ (xs : List (Option Head)). heir_at (view p) d ∷ xs) (judged-heirs ds p q keeps)
+      ap (λ (x : Option Head). x ∷ heirs (view q) ds) (judged-heir d p q keeps)
+      ∙ ap (λ (xs : List (Option Head)). heir_at (view p) d ∷ xs) (judged-heirs ds p q keeps)

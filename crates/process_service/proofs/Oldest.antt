@@ -38,7 +38,8 @@ module _ (p : Process) (k d : ℕ) (below : d < k) (found : Option Inherited) wh
   none-of None none is = refl
   none-of (Some h) none is = if-none (nat_lt (replica_of p d).applied h.inherited) _ found none is rest
 
-  pub oldest-here : is_some found ≡ true → inherited_or p d (head_at p d) None ≡ oldest_as found → oldest_inherited p (range_with_len d (k - d)) ≡ oldest_as found
+  pub oldest-here : is_some found ≡ true → inherited_or p d (head_at p d) None ≡ oldest_as found
+      → oldest_inherited p (range_with_len d (k - d)) ≡ oldest_as found
   oldest-here some is = looked ∙ first-of (head_at p d) some is
 
   pub oldest-behind : is_some found ≡ false → inherited_or p d (head_at p d) None ≡ oldest_as found → oldest_inherited p (range_with_len d (k - d)) ≡ rest

@@ -1,5 +1,6 @@
 -- A call is looked for partition by partition.
-use Rattle.std.proofs.Common.{ℕ, suc, ◌≡◌, ◌<◌, ◌+◌, ◌-◌, nat_le, Bool, true, false, List, [], length, Option, Some, None, is_some, refl, sym, ap, subst, ◌∙◌, arith}
+use Rattle.std.proofs.Common.{ℕ, suc, ◌≡◌, ◌<◌, ◌+◌, ◌-◌, nat_le, Bool, true, false, List, [], length, Option, Some}
+use Rattle.std.proofs.Common.{None, is_some, refl, sym, ap, subst, ◌∙◌, arith}
 use Rattle.std.specs.Prelude.{find}
 use Rattle.std.specs.List.{range_with_len}
 use Rattle.group_types.specs.Lists.{at, put}
@@ -54,13 +55,20 @@ module _ (caller call k d : ℕ) (v : Serving) (b : Process) (below : d < k) whe
       → is_some (find (is_call caller call) mine) ≡ true
       → collect_from caller call (serving v b) (range_with_len d (k - d)) ≡ only answer (serving (record v { held = put [] v.held d left }) b)
   collected-as within answer number mine left number-is mine-is told kept-are some =
-      let own : (f : Option Held) → found ≡ f → is_some f ≡ true → collect_from caller call (serving v b) (range_with_len d (k - d)) ≡ only (told_of applied found) (kept found)
+      let own : (f : Option Held) → found ≡ f → is_some f ≡ true
+      → collect_from caller call (serving v b) (range_with_len d (k - d)) ≡ only (told_of applied found) (kept found)
       = λ f is some. by f is some in
       own found refl (subst (λ (xs : List Held). is_some (find (is_call caller call) xs) ≡ true) mine-is some)
-      ∙ ap (λ (xs : List Held). only (told_of applied (find (is_call caller call) xs)) (serving (record v { held = put [] v.held d (kept_of applied (find (is_call caller call) xs) xs) }) b)) (sym mine-is)
-      ∙ ap (λ (n : ℕ). only (told_of n (find (is_call caller call) mine)) (serving (record v { held = put [] v.held d (kept_of n (find (is_call caller call) mine) mine) }) b)) (sym number-is)
+      ∙ ap (λ (xs : List Held). only (told_of applied (find (is_call caller call) xs))
+      (serving (record v { held = put [] v.held d (kept_of applied (find (is_call caller call) xs) xs) }) b))
+      (sym mine-is)
+      ∙ ap (λ (n : ℕ). only (told_of n (find (is_call caller call) mine))
+      (serving (record v { held = put [] v.held d (kept_of n (find (is_call caller call) mine) mine) }) b))
+      (sym number-is)
       ∙ ap (λ (a : Answer). only a (serving (record v { held = put [] v.held d (kept_of number (find (is_call caller call) mine) mine) }) b)) (sym told)
       ∙ ap (λ (xs : List Held). only answer (serving (record v { held = put [] v.held d xs }) b)) (sym kept-are) where
-        by : (f : Option Held) → found ≡ f → is_some f ≡ true → collect_from caller call (serving v b) (range_with_len d (k - d)) ≡ only (told_of applied found) (kept found)
+        by : (f : Option Held) → found ≡ f → is_some f ≡ true
+            → collect_from caller call (serving v b) (range_with_len d (k - d)) ≡ only (told_of applied found)
+            (kept found)
         by None is some = absurd (cc some)
         by (Some h) is some = collected within h is

@@ -1,5 +1,6 @@
 -- What is beneath a process's partitions, after a step for one of them.
-use Rattle.std.proofs.Common.{ℕ, Result, Ok, Err, IfOk, OnErr, OnOk, ◌≡◌, ◌≢◌, ◌<◌, ◌==◌, true, false, ◌⊎◌, inl, inr, [], List, length, refl, sym, ap, subst, ◌∙◌}
+use Rattle.std.proofs.Common.{ℕ, Result, Ok, Err, IfOk, OnErr, OnOk, ◌≡◌, ◌≢◌, ◌<◌, ◌==◌, true, false, ◌⊎◌, inl, inr}
+use Rattle.std.proofs.Common.{[], List, length, refl, sym, ap, subst, ◌∙◌}
 use Rattle.std.proofs.lemmas.Bool.Decides.{eqb_tells}
 use Rattle.std.specs.Prelude.{All}
 use Rattle.group_types.specs.Dimensions.{Dimensions}
@@ -41,7 +42,8 @@ after-as s d us b b2 within is = subst (AreKept b) (sym is) (after-kept s d us b
 pub same-as : (b b2 : Process) → b2 ≡ b → AreKept b b2
 same-as b b2 is = subst (AreKept b) (sym is) (record { name = refl; blocks = refl })
 
-pub acts-kept : (s : Dimensions) (d : ℕ) (peers : Peers) (h : Head) (name : CallName) (op : Asked) (r : Replica) (held : List Held) (b : Process) (decision : Decision)
+pub acts-kept : (s : Dimensions) (d : ℕ) (peers : Peers) (h : Head) (name : CallName) (op : Asked) (r : Replica)
+    (held : List Held) (b : Process) (decision : Decision)
     → d < length b.as_leader.rebuilt → AreKept b (acts s d peers h name op r held b decision).bytes
 acts-kept s d peers h name op r held b (decides.Answer reply) within = record { name = refl; blocks = refl }
 acts-kept s d peers h name op r held b (decides.Retry n) within = record { name = refl; blocks = refl }
@@ -58,15 +60,21 @@ module _ (v : Serving) (b : Storage) (is : IsBeneath v b) where
     shape = same ∙ is.shape ∙ sym shape;
     name = kept.name ∙ is.name ∙ sym name;
     blocks = kept.blocks ∙ is.blocks ∙ ap (λ (x : Dimensions). x.k) (sym shape);
-    ready = λ e below. subst (λ (rs : List Replica). All (c.is_ready e) (at empty_replica rs e).log) (sym replicas) (by e (subst (λ (x : Dimensions). e < x.k) shape below) (eqb_tells e d));
+    ready = λ e below. subst (λ (rs : List Replica). All (c.is_ready e) (at empty_replica rs e).log) (sym replicas)
+        (by e (subst (λ (x : Dimensions). e < x.k) shape below) (eqb_tells e d));
   } where
-    by : (e : ℕ) → e < v.shape.k → (((e == d) ≡ true) × (e ≡ d)) ⊎ (((e == d) ≡ false) × (e ≢ d)) → All (c.is_ready e) (at empty_replica (put empty_replica v.replicas d r) e).log
-    by e below (inl same) = subst (λ (x : Replica). All (c.is_ready e) x.log) (sym (ap (at empty_replica (put empty_replica v.replicas d r)) same.1 ∙ at-put empty_replica empty_replica v.replicas d r))
+    by : (e : ℕ) → e < v.shape.k → (((e == d) ≡ true) × (e ≡ d)) ⊎ (((e == d) ≡ false) × (e ≢ d))
+        → All (c.is_ready e) (at empty_replica (put empty_replica v.replicas d r) e).log
+    by e below (inl same) = subst (λ (x : Replica). All (c.is_ready e) x.log)
+        (sym (ap (at empty_replica (put empty_replica v.replicas d r)) same.1 ∙ at-put empty_replica empty_replica
+        v.replicas d r))
         (subst (λ (x : ℕ). All (c.is_ready x) r.log) (sym same.1) here)
-    by e below (inr other) = subst (λ (x : Replica). All (c.is_ready e) x.log) (sym (at-put-other empty_replica v.replicas d e r other.1)) (λ k u lt. others e _ (is.ready e below k u lt))
+    by e below (inr other) = subst (λ (x : Replica). All (c.is_ready e) x.log)
+        (sym (at-put-other empty_replica v.replicas d e r other.1)) (λ k u lt. others e _ (is.ready e below k u lt))
 
 -- the bytes of a head's step
-pub made-kept : {E : Type 0} (s : Dimensions) (d : ℕ) (peers : Peers) (h : Head) (name : CallName) (op : Asked) (r : State) (held : List Held) (b c : Storage) (decision : Decision)
+pub made-kept : {E : Type 0} (s : Dimensions) (d : ℕ) (peers : Peers) (h : Head) (name : CallName) (op : Asked)
+    (r : State) (held : List Held) (b c : Storage) (decision : Decision)
     → d < length b.process.as_leader.rebuilt → (result : Result Asking E) (r2 : State) (held2 : List Held)
     → IfOk result (λ asked. IsMade s decision (acts b.shape d peers h name op r.replica held b.process decision) asked r2.replica held2 c.process)
     → OnErr result ((held2 ≡ held) × ChangesOnlyRoom r r2 b c) → AreKept b.process c.process

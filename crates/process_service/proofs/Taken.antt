@@ -44,7 +44,8 @@ module _ (s : Dimensions) (v : Serving) (b : Process) (same : b.name ≡ v.name)
       (ap (λ (due : Bool). when due (serving v b) (taken_over s d (serving v b))) (tested ∙ none-of (is_taken v d) (at empty_replica v.replicas d) none))
 
   -- it is taken over
-  pub taken-made : (peers : Peers) (h : Head) (r : Replica) → ArePeers s v b peers → at empty_replica v.replicas d ≡ r → d < length v.replicas → Some h ≡ heir_at v d
+  pub taken-made : (peers : Peers) (h : Head) (r : Replica) → ArePeers s v b peers → at empty_replica v.replicas d ≡ r
+      → d < length v.replicas → Some h ≡ heir_at v d
       → (r2 : Replica) (b2 : Process) (before after : List Settlement) → r2 ≡ applied_to (settles peers h (last_of r)) r
       → b2 ≡ bytes_after s d (up_to (settles peers h (last_of r)) r) b → after ≡ before ++ settlements d (up_to (settles peers h (last_of r)) r)
       → HasMade (take_over_if s d (serving v b)) before

@@ -16,7 +16,8 @@ module _ (s : Dimensions) (v : Serving) (b : Process) (h : Head) (r : Replica) (
   abbrev d : ℕ
   d = home_of (key_of op.act) s.k
 
-  head-wants : at None v.heads d ≡ Some h → at empty_replica v.replicas d ≡ r → MayWant (space_of s) h.inherited r op (found_in s d b) → AskWants s op (serving v b)
+  head-wants : at None v.heads d ≡ Some h → at empty_replica v.replicas d ≡ r
+      → MayWant (space_of s) h.inherited r op (found_in s d b) → AskWants s op (serving v b)
   head-wants head replica wants = subst (λ (o : Option Head). WantsBy s op d (serving v b) o) (sym head)
       (subst (λ (y : Replica). MayWant (space_of s) h.inherited y op (found_in s d b)) (sym replica) wants)
 

@@ -1,5 +1,7 @@
 -- A connection among others at one gateway, call by call.
-use Rattle.std.proofs.Common.{◌≡◌, ◌≢◌, ℕ, suc, ◌+◌, List, [], ◌∷◌, ◌++◌, All, Bool, true, false, drop, take, length, Option, Some, None, Result, Err, IfSome, is_some, arith, append-nil, refl, sym, ap, ◌∙◌, subst, ◌⊎◌, inl, inr, if◌then◌else◌}
+use Rattle.std.proofs.Common.{◌≡◌, ◌≢◌, ℕ, suc, ◌+◌, List, [], ◌∷◌, ◌++◌, All, Bool, true, false, drop, take, length}
+use Rattle.std.proofs.Common.{Option, Some, None, Result, Err, IfSome, is_some, arith, append-nil, refl, sym, ap, ◌∙◌}
+use Rattle.std.proofs.Common.{subst, ◌⊎◌, inl, inr, if◌then◌else◌}
 use Rattle.std.proofs.lemmas.List.Elements.{All-nil}
 use Rattle.edge_io.specs.Moving.{Input}
 use Rattle.edge_io.specs.Writing.{HasWritten}
@@ -50,7 +52,8 @@ due-some told [] _ is none = is
 due-some told (request ∷ others) _ is none = cc
 
 -- the same call is due at another moment
-due-at : (told prior : Option ℕ) (op first : Asked) (waiting : List Request) → IsDue prior waiting (due.Call first) → op.act ≡ first.act → IsMoment told op.moment → IsDue told waiting (due.Call op)
+due-at : (told prior : Option ℕ) (op first : Asked) (waiting : List Request) → IsDue prior waiting (due.Call first)
+    → op.act ≡ first.act → IsMoment told op.moment → IsDue told waiting (due.Call op)
 due-at told prior op first [] is same moment = absurd is
 due-at told prior op first (Get [] with_cas ∷ others) is same moment = absurd (cc is)
 due-at told prior op first (Get (key ∷ keys) with_cas ∷ others) is same moment = (same ∙ is.0, moment)
@@ -72,7 +75,8 @@ due-moment told op (Refused refusal ∷ others) is = absurd (cc is)
 
 -- where an order or a text is due no call is
 pub order-alone : (waiting : List Request) → OrderIsDue waiting → ¬ CallIsDue waiting
-order-alone waiting is (told, op, call) = let acts = due-acts told waiting op call in let none : op.act ∷ acts.0 ≡ [] = sym acts.1 ∙ order-acts waiting is in absurd (cc none)
+order-alone waiting is (told, op, call) = let acts = due-acts told waiting op call in let none : op.act ∷ acts.0 ≡ [] =
+    sym acts.1 ∙ order-acts waiting is in absurd (cc none)
 
 pub text-alone : (waiting : List Request) → TextIsDue waiting → ¬ CallIsDue waiting
 text-alone [] (told, is) call = is
@@ -84,13 +88,16 @@ text-alone (Version ∷ others) (told, is) (prior, op, call) = absurd (cc call)
 text-alone (Quit ∷ others) (told, is) (prior, op, call) = absurd (cc call)
 text-alone (Refused refusal ∷ others) (told, is) (prior, op, call) = absurd (cc call)
 
-module _ {G K : Type 0} (rules : Rules G K) (order : IsOrder rules.later) (overlap : Overlap) (told : Option ℕ) (input input_now : Input) (first : G) (before : List ℕ) where
+module _ {G K : Type 0} (rules : Rules G K) (order : IsOrder rules.later) (overlap : Overlap) (told : Option ℕ)
+    (input input_now : Input) (first : G) (before : List ℕ) where
   -- nothing was read
-  pub begins : (held : List ℕ) (progress : Progress) → HasRead progress.kept [] [] → progress.waiting ≡ [] → progress.count ≡ 0 → Comes rules overlap told input input first held first (held ++ []) progress [] 0 None
+  pub begins : (held : List ℕ) (progress : Progress) → HasRead progress.kept [] [] → progress.waiting ≡ []
+      → progress.count ≡ 0 → Comes rules overlap told input input first held first (held ++ []) progress [] 0 None
   begins held progress has_read none unread = record {
     ends = λ _. first;
     later = λ _. order.same first;
-    come = subst (λ (bs : List ℕ). HasComeTo (ways_of rules overlap) told input input (stand (λ _. first) held) (stand (λ _. first) bs) progress None) (sym (append-nil held))
+    come = subst (λ (bs : List ℕ). HasComeTo (ways_of rules overlap) told input input (stand (λ _. first) held)
+        (stand (λ _. first) bs) progress None) (sym (append-nil held))
         (inl (none, goes_on-none (ways_of rules overlap) told input (stand (λ _. first) held) progress.kept progress.count has_read unread));
     wanted = λ _. tt;
     opened = λ call has. absurd has;
@@ -98,21 +105,29 @@ module _ {G K : Type 0} (rules : Rules G K) (order : IsOrder rules.later) (overl
   }
 
   -- the gateway came to be later meanwhile, and the calls are open as before
-  pub stays : (now next : G) (held : List ℕ) (progress : Progress) (calls : List (OpenCall K)) (unwanted : ℕ) (end : Option (Result End ConnectionFault)) → rules.later now next → KeepsCalls rules calls now next
-      → Comes rules overlap told input input_now first before now held progress calls unwanted end → Comes rules overlap told input input_now first before next held progress calls unwanted end
+  pub stays : (now next : G) (held : List ℕ) (progress : Progress) (calls : List (OpenCall K)) (unwanted : ℕ)
+      (end : Option (Result End ConnectionFault)) → rules.later now next → KeepsCalls rules calls now next
+      → Comes rules overlap told input input_now first before now held progress calls unwanted end
+      → Comes rules overlap told input input_now first before next held progress calls unwanted end
   stays now next held progress calls unwanted end later keeps come = record {
     ends = come.ends;
     later = λ sequence. order.on (come.ends sequence) now next (come.later sequence) later;
     come = come.come;
-    wanted = λ goes. calls-stay rules order overlap told come.ends now next (acts_ahead progress.waiting) (drop unwanted calls) (λ call op began has. keeps call op began (open-drop unwanted calls call has)) later (come.wanted goes);
+    wanted = λ goes. calls-stay rules order overlap told come.ends now next (acts_ahead progress.waiting)
+        (drop unwanted calls) (λ call op began has. keeps call op began (open-drop unwanted calls call has)) later
+        (come.wanted goes);
     opened = still-open rules now next calls keeps come.opened;
     distinct = come.distinct;
   }
 
   -- it ended so, and its calls are to be let go
-  pub ended-so : (now next : G) (held : List ℕ) (progress : Progress) (calls : List (OpenCall K)) (unwanted : ℕ) (result : Result End ConnectionFault) (ends : List ℕ → G) → ((sequence : List ℕ) → rules.later (ends sequence) now)
+  pub ended-so : (now next : G) (held : List ℕ) (progress : Progress) (calls : List (OpenCall K)) (unwanted : ℕ)
+      (result : Result End ConnectionFault) (ends : List ℕ → G)
+      → ((sequence : List ℕ) → rules.later (ends sequence) now)
       → rules.later now next → AreOpen rules next calls → StandOnce calls
-      → HasComeTo (ways_of rules overlap) told input input_now (stand (λ _. first) before) (stand ends held) progress (Some result) → Comes rules overlap told input input_now first before next held progress calls unwanted (Some result)
+      → HasComeTo (ways_of rules overlap) told input input_now (stand (λ _. first) before) (stand ends held) progress
+      (Some result) → Comes rules overlap told input input_now first before next held progress calls unwanted
+      (Some result)
   ended-so now next held progress calls unwanted result ends laters later opens distinct come = record {
     ends = ends;
     later = λ sequence. order.on (ends sequence) now next (laters sequence) later;
@@ -129,8 +144,11 @@ module _ {G K : Type 0} (rules : Rules G K) (order : IsOrder rules.later) (overl
     pub under : IsUnderWay (ways_of rules overlap) told input input_now (stand (λ _. first) before) (stand ends held) progress
     pub are : AreCalls rules overlap told ends now (acts_ahead progress.waiting) calls
 
-  pub comes-so : (now : G) (held held_now : List ℕ) (progress : Progress) (calls : List (OpenCall K)) (unwanted : ℕ) (wanted : List (OpenCall K)) (end : Option (Result End ConnectionFault)) → (goes : GoesOnSo now held progress wanted) → drop unwanted calls ≡ wanted
-      → AreOpen rules now calls → StandOnce calls → HasComeTo (ways_of rules overlap) told input input_now (stand (λ _. first) before) (stand goes.ends held_now) progress end
+  pub comes-so : (now : G) (held held_now : List ℕ) (progress : Progress) (calls : List (OpenCall K)) (unwanted : ℕ)
+      (wanted : List (OpenCall K)) (end : Option (Result End ConnectionFault))
+      → (goes : GoesOnSo now held progress wanted) → drop unwanted calls ≡ wanted
+      → AreOpen rules now calls → StandOnce calls → HasComeTo (ways_of rules overlap) told input input_now
+      (stand (λ _. first) before) (stand goes.ends held_now) progress end
       → Comes rules overlap told input input_now first before now held_now progress calls unwanted end
   comes-so now held held_now progress calls unwanted wanted end goes same opens distinct come = record {
     ends = goes.ends;
@@ -153,7 +171,8 @@ module _ {G K : Type 0} (rules : Rules G K) (order : IsOrder rules.later) (overl
     apart : All (λ other. sequence_of overlap other ≢ sequence_of overlap op.act) (take (length calls) acts)
     are : AreCalls rules overlap told ends prior acts calls
 
-  front-of : (prior now : G) (held : List ℕ) (was : Progress) (call : OpenCall K) (calls : List (OpenCall K)) (end : CallEnd) → CallIsDue was.waiting → HasEndOf rules prior call end now → rules.later prior now
+  front-of : (prior now : G) (held : List ℕ) (was : Progress) (call : OpenCall K) (calls : List (OpenCall K))
+      (end : CallEnd) → CallIsDue was.waiting → HasEndOf rules prior call end now → rules.later prior now
       → (come : Comes rules overlap told input input_now first before prior held was (call ∷ calls) 0 None) → IsFront prior now was.waiting come.ends end calls
   front-of prior now held was call calls end (told_then, op, is) ended later come = by made_call
     where
@@ -175,11 +194,14 @@ module _ {G K : Type 0} (rules : Rules G K) (order : IsOrder rules.later) (overl
         later = made.later;
         acts = acts.0;
         acts_are = acts.1 ∙ ap (λ (a : Act). a ∷ acts.0) (sym made.begun.act_is);
-        apart = subst (λ (a : Act). All (λ other. sequence_of overlap other ≢ sequence_of overlap a) (take (length calls) acts.0)) (sym made.begun.act_is) are.1;
+        apart = subst (λ (a : Act). All (λ other. sequence_of overlap other ≢ sequence_of overlap a)
+            (take (length calls) acts.0)) (sym made.begun.act_is) are.1;
         are = are.2;
       }
 
-  ends-later : (ends : List ℕ → G) (one : List ℕ) (prior after now : G) → ((sequence : List ℕ) → rules.later (ends sequence) prior) → rules.later prior now → rules.later after now → (sequence : List ℕ) → rules.later (with_end ends one after sequence) now
+  ends-later : (ends : List ℕ → G) (one : List ℕ) (prior after now : G)
+      → ((sequence : List ℕ) → rules.later (ends sequence) prior) → rules.later prior now → rules.later after now
+      → (sequence : List ℕ) → rules.later (with_end ends one after sequence) now
   ends-later ends one prior after now laters later own sequence = by (same_key one sequence)
     where
       by : (same : Bool) → rules.later (if same then after else ends sequence) now
@@ -190,50 +212,92 @@ module _ {G K : Type 0} (rules : Rules G K) (order : IsOrder rules.later) (overl
   drop-next n one acts = let next : 1 + n ≡ suc n = omega arith in ap (λ (m : ℕ). drop m (one ∷ acts)) next
 
   -- the text of its first call, which ended, is written
-  pub ends : (prior now : G) (sent out out_now : List ℕ) (was left : Progress) (call : OpenCall K) (calls : List (OpenCall K)) (end : CallEnd) → CallIsDue was.waiting → HasEndOf rules prior call end now → rules.later prior now → KeepsCalls rules calls prior now
+  pub ends : (prior now : G) (sent out out_now : List ℕ) (was left : Progress) (call : OpenCall K)
+      (calls : List (OpenCall K)) (end : CallEnd) → CallIsDue was.waiting → HasEndOf rules prior call end now
+      → rules.later prior now → KeepsCalls rules calls prior now
       → HasSettled end out out_now was.waiting left.waiting → left.kept ≡ was.kept → left.quits ≡ was.quits → left.count ≡ was.count
-      → Comes rules overlap told input input_now first before prior (sent ++ out) was (call ∷ calls) 0 None → GoesOnSo now (sent ++ out_now) left (drop (unneeded_of end was.waiting) calls)
-  ends prior now sent out out_now was left call calls end is_due ended later keeps is kept quits count come = by (front-of prior now (sent ++ out) was call calls end is_due ended later come)
+      → Comes rules overlap told input input_now first before prior (sent ++ out) was (call ∷ calls) 0 None
+      → GoesOnSo now (sent ++ out_now) left (drop (unneeded_of end was.waiting) calls)
+  ends prior now sent out out_now was left call calls end is_due ended later keeps is kept quits count come =
+      by (front-of prior now (sent ++ out) was call calls end is_due ended later come)
     where
       by : IsFront prior now was.waiting come.ends end calls → GoesOnSo now (sent ++ out_now) left (drop (unneeded_of end was.waiting) calls)
       by front = record {
         ends = ends_now;
         later = ends-later come.ends (sequence_of overlap front.op.act) prior front.after now come.later later front.later;
-        under = more (ways_of rules overlap) told input input_now (stand (λ _. first) before) (stand come.ends (sent ++ out)) (stand ends_now (sent ++ out_now)) was left
-            (under-of (ways_of rules overlap) told input input_now (stand (λ _. first) before) (stand come.ends (sent ++ out)) was (due-some told was.waiting (due.Call front.op) front.due) come.come)
-            (call-steps (ways_of rules overlap) told come.ends ends_now (sent ++ out) (sent ++ out_now) front.op end was.waiting left.waiting front.due front.made (settled sent end out out_now was.waiting left.waiting is)) kept quits count;
+        under = more (ways_of rules overlap) told input input_now (stand (λ _. first) before)
+            (stand come.ends (sent ++ out)) (stand ends_now (sent ++ out_now)) was left
+            (under-of (ways_of rules overlap) told input input_now (stand (λ _. first) before)
+            (stand come.ends (sent ++ out)) was (due-some told was.waiting (due.Call front.op) front.due) come.come)
+            (call-steps (ways_of rules overlap) told come.ends ends_now (sent ++ out) (sent ++ out_now) front.op end
+            was.waiting left.waiting front.due front.made (settled sent end out out_now was.waiting left.waiting is))
+            kept quits count;
         are = subst (λ (asks : List Act). AreCalls rules overlap told ends_now now asks (drop (unneeded_of end was.waiting) calls)) (sym acts_left)
             (calls-drop rules order overlap told ends_now now (unneeded_of end was.waiting) front.acts calls
-            (calls-on rules order overlap told come.ends ends_now prior now front.acts calls (λ k d below. ended-elsewhere come.ends (sequence_of overlap front.op.act) _ front.after (front.apart k d below)) keeps later front.are));
+            (calls-on rules order overlap told come.ends ends_now prior now front.acts calls
+            (λ k d below. ended-elsewhere come.ends (sequence_of overlap front.op.act) _ front.after
+            (front.apart k d below)) keeps later front.are));
       }
         where
           ends_now : List ℕ → G
           ends_now = with_end come.ends (sequence_of overlap front.op.act) front.after
 
           acts_left : acts_ahead left.waiting ≡ drop (unneeded_of end was.waiting) front.acts
-          acts_left = settled-acts told front.op end out out_now was.waiting left.waiting front.due is ∙ ap (drop (1 + unneeded_of end was.waiting)) front.acts_are ∙ drop-next (unneeded_of end was.waiting) front.op.act front.acts
+          acts_left = settled-acts told front.op end out out_now was.waiting left.waiting front.due is
+              ∙ ap (drop (1 + unneeded_of end was.waiting)) front.acts_are ∙ drop-next (unneeded_of end was.waiting)
+              front.op.act front.acts
 
   -- a fault came while it was written
-  pub ends-broken : (prior now : G) (sent out out_now : List ℕ) (was left : Progress) (call : OpenCall K) (calls : List (OpenCall K)) (unwanted : ℕ) (end : CallEnd) (faults faults_now : ℕ) (fault : ConnectionFault) → CallIsDue was.waiting → HasEndOf rules prior call end now
-      → rules.later prior now → AreOpen rules now calls → StandOnce calls → HasWritten out out_now (first_text end was.waiting) → HasSinkCause {T = Unit {0}} faults faults_now (Err fault)
-      → Comes rules overlap told input input_now first before prior (sent ++ out) was (call ∷ calls) 0 None → Comes rules overlap told input input_now first before now (sent ++ out_now) left calls unwanted (Some (Err fault))
-  ends-broken prior now sent out out_now was left call calls unwanted end faults faults_now fault is_due ended later opens distinct is cause come = by (front-of prior now (sent ++ out) was call calls end is_due ended later come)
+  pub ends-broken : (prior now : G) (sent out out_now : List ℕ) (was left : Progress) (call : OpenCall K)
+      (calls : List (OpenCall K)) (unwanted : ℕ) (end : CallEnd) (faults faults_now : ℕ) (fault : ConnectionFault)
+      → CallIsDue was.waiting → HasEndOf rules prior call end now
+      → rules.later prior now → AreOpen rules now calls → StandOnce calls
+      → HasWritten out out_now (first_text end was.waiting) → HasSinkCause {T = Unit {0}} faults faults_now
+      (Err fault)
+      → Comes rules overlap told input input_now first before prior (sent ++ out) was (call ∷ calls) 0 None
+      → Comes rules overlap told input input_now first before now (sent ++ out_now) left calls unwanted
+      (Some (Err fault))
+  ends-broken prior now sent out out_now was left call calls unwanted end faults faults_now fault is_due ended later
+      opens distinct is cause come = by (front-of prior now (sent ++ out) was call calls end is_due ended later come)
     where
-      by : IsFront prior now was.waiting come.ends end calls → Comes rules overlap told input input_now first before now (sent ++ out_now) left calls unwanted (Some (Err fault))
-      by front = ended-so now now (sent ++ out_now) left calls unwanted (Err fault) (with_end come.ends (sequence_of overlap front.op.act) front.after) (ends-later come.ends (sequence_of overlap front.op.act) prior front.after now come.later later front.later) (order.same now) opens distinct
-          (halts (ways_of rules overlap) told input input_now (stand (λ _. first) before) (stand come.ends (sent ++ out)) (stand (with_end come.ends (sequence_of overlap front.op.act) front.after) (sent ++ out_now)) was faults faults_now fault
-          (under-of (ways_of rules overlap) told input input_now (stand (λ _. first) before) (stand come.ends (sent ++ out)) was (due-some told was.waiting (due.Call front.op) front.due) come.come)
-          (call-breaks (ways_of rules overlap) told come.ends (with_end come.ends (sequence_of overlap front.op.act) front.after) (sent ++ out) (sent ++ out_now) front.op end fault was.waiting front.due front.made (part sent (first_text end was.waiting) out out_now is)) cause)
+      by : IsFront prior now was.waiting come.ends end calls → Comes rules overlap told input input_now first before now
+          (sent ++ out_now) left calls unwanted (Some (Err fault))
+      by front = ended-so now now (sent ++ out_now) left calls unwanted (Err fault)
+          (with_end come.ends (sequence_of overlap front.op.act) front.after)
+          (ends-later come.ends (sequence_of overlap front.op.act) prior front.after now come.later later front.later)
+          (order.same now) opens distinct
+          (halts (ways_of rules overlap) told input input_now (stand (λ _. first) before)
+          (stand come.ends (sent ++ out)) (stand (with_end come.ends (sequence_of overlap front.op.act) front.after)
+          (sent ++ out_now)) was faults faults_now fault
+          (under-of (ways_of rules overlap) told input input_now (stand (λ _. first) before)
+          (stand come.ends (sent ++ out)) was (due-some told was.waiting (due.Call front.op) front.due) come.come)
+          (call-breaks (ways_of rules overlap) told come.ends
+          (with_end come.ends (sequence_of overlap front.op.act) front.after) (sent ++ out) (sent ++ out_now) front.op
+          end fault was.waiting front.due front.made (part sent (first_text end was.waiting) out out_now is)) cause)
 
   -- the call that is due was begun
-  pub called : (now next : G) (held : List ℕ) (progress : Progress) (op : Asked) (call : K) → IsDue told progress.waiting (due.Call op) → rules.opened next call op now → rules.later now next
-      → Comes rules overlap told input input_now first before now held progress [] 0 None → Comes rules overlap told input input_now first before next held progress (Open call ∷ []) 0 None
+  pub called : (now next : G) (held : List ℕ) (progress : Progress) (op : Asked) (call : K)
+      → IsDue told progress.waiting (due.Call op) → rules.opened next call op now → rules.later now next
+      → Comes rules overlap told input input_now first before now held progress [] 0 None
+      → Comes rules overlap told input input_now first before next held progress (Open call ∷ []) 0 None
   called now next held progress op call is opened later come = record {
     ends = come.ends;
     later = λ sequence. order.on (come.ends sequence) now next (come.later sequence) later;
     come = come.come;
-    wanted = λ _. subst (λ (asks : List Act). AreCalls rules overlap told come.ends next asks (Open call ∷ [])) (sym acts.1)
-        ((op, now, record { act_is = refl; moment = due-moment told op progress.waiting is; later = come.later (sequence_of overlap op.act) }, opened), All-nil _, tt);
+    wanted = λ _. subst (λ (asks : List Act). AreCalls rules overlap told come.ends next asks (Open call ∷ [])) (sym acts.1) (
+      (
+        op,
+        now,
+        record {
+          act_is = refl;
+          moment = due-moment told op progress.waiting is;
+          later = come.later (sequence_of overlap op.act);
+        },
+        opened,
+      ),
+      All-nil _,
+      tt,
+    );
     opened = opens;
     distinct = (λ has. has, tt);
   }
@@ -246,42 +310,65 @@ module _ {G K : Type 0} (rules : Rules G K) (order : IsOrder rules.later) (overl
       opens one (inr has) = absurd has
 
   -- there was no memory for what the first of the requests needs, or for a call ahead of it
-  pub wants-first : (now next : G) (held : List ℕ) (was : Progress) (calls : List (OpenCall K)) (unwanted : ℕ) → was.waiting ≢ [] → rules.later now next → AreOpen rules next calls → StandOnce calls
-      → Comes rules overlap told input input_now first before now held was calls unwanted None → Comes rules overlap told input input_now first before next held was calls unwanted (Some (Err Want))
-  wants-first now next held was calls unwanted some later opens distinct come = ended-so now next held was calls unwanted (Err Want) come.ends come.later later opens distinct
+  pub wants-first : (now next : G) (held : List ℕ) (was : Progress) (calls : List (OpenCall K)) (unwanted : ℕ)
+      → was.waiting ≢ [] → rules.later now next → AreOpen rules next calls → StandOnce calls
+      → Comes rules overlap told input input_now first before now held was calls unwanted None
+      → Comes rules overlap told input input_now first before next held was calls unwanted (Some (Err Want))
+  wants-first now next held was calls unwanted some later opens distinct come =
+      ended-so now next held was calls unwanted (Err Want) come.ends come.later later opens distinct
       (halts (ways_of rules overlap) told input input_now (stand (λ _. first) before) (stand come.ends held) (stand come.ends held) was 0 0 Want
       (under-of (ways_of rules overlap) told input input_now (stand (λ _. first) before) (stand come.ends held) was some come.come)
       (breaks-early (ways_of rules overlap) told come.ends held Want was.waiting some) (record { later = omega arith; cause = tt }))
 
   -- there was none for the call that is due
-  pub wants-call : (now next : G) (held : List ℕ) (was : Progress) (calls : List (OpenCall K)) (unwanted : ℕ) (op : Asked) → IsDue told was.waiting (due.Call op) → rules.ways.kept now op next → rules.later now next → AreOpen rules next calls → StandOnce calls
-      → Comes rules overlap told input input_now first before now held was calls unwanted None → Comes rules overlap told input input_now first before next held was calls unwanted (Some (Err Want))
-  wants-call now next held was calls unwanted op is kept later opens distinct come = ended-so next next held was calls unwanted (Err Want) ends_now (ends-later come.ends (sequence_of overlap op.act) now next next come.later later (order.same next)) (order.same next) opens distinct
+  pub wants-call : (now next : G) (held : List ℕ) (was : Progress) (calls : List (OpenCall K)) (unwanted : ℕ)
+      (op : Asked) → IsDue told was.waiting (due.Call op) → rules.ways.kept now op next → rules.later now next
+      → AreOpen rules next calls → StandOnce calls
+      → Comes rules overlap told input input_now first before now held was calls unwanted None
+      → Comes rules overlap told input input_now first before next held was calls unwanted (Some (Err Want))
+  wants-call now next held was calls unwanted op is kept later opens distinct come =
+      ended-so next next held was calls unwanted (Err Want) ends_now
+      (ends-later come.ends (sequence_of overlap op.act) now next next come.later later (order.same next))
+      (order.same next) opens distinct
       (halts (ways_of rules overlap) told input input_now (stand (λ _. first) before) (stand come.ends held) (stand ends_now held) was 0 0 Want
-      (under-of (ways_of rules overlap) told input input_now (stand (λ _. first) before) (stand come.ends held) was (due-some told was.waiting (due.Call op) is) come.come)
-      (breaks-wanted (ways_of rules overlap) told come.ends ends_now held op was.waiting is (now, next, come.later (sequence_of overlap op.act), kept, refl)) (record { later = omega arith; cause = tt }))
+      (under-of (ways_of rules overlap) told input input_now (stand (λ _. first) before) (stand come.ends held) was
+      (due-some told was.waiting (due.Call op) is) come.come)
+      (breaks-wanted (ways_of rules overlap) told come.ends ends_now held op was.waiting is
+      (now, next, come.later (sequence_of overlap op.act), kept, refl)) (record { later = omega arith; cause = tt }))
     where
       ends_now : List ℕ → G
       ends_now = with_end come.ends (sequence_of overlap op.act) next
 
   -- there was none for the order that is due
-  pub wants-order : (now next : G) (held : List ℕ) (was : Progress) (calls : List (OpenCall K)) (unwanted : ℕ) (at : ProcessId) (keep : ℕ) → IsDue told was.waiting (due.Fail at keep) → rules.ways.unmade now next → AreOpen rules next calls → StandOnce calls
-      → Comes rules overlap told input input_now first before now held was calls unwanted None → Comes rules overlap told input input_now first before next held was calls unwanted (Some (Err Want))
-  wants-order now next held was calls unwanted at keep is unmade opens distinct come = ended-so next next held was calls unwanted (Err Want) (λ _. next) (λ _. order.same next) (order.same next) opens distinct
+  pub wants-order : (now next : G) (held : List ℕ) (was : Progress) (calls : List (OpenCall K)) (unwanted : ℕ)
+      (at : ProcessId) (keep : ℕ) → IsDue told was.waiting (due.Fail at keep) → rules.ways.unmade now next
+      → AreOpen rules next calls → StandOnce calls
+      → Comes rules overlap told input input_now first before now held was calls unwanted None
+      → Comes rules overlap told input input_now first before next held was calls unwanted (Some (Err Want))
+  wants-order now next held was calls unwanted at keep is unmade opens distinct come =
+      ended-so next next held was calls unwanted (Err Want) (λ _. next) (λ _. order.same next) (order.same next) opens
+      distinct
       (halts (ways_of rules overlap) told input input_now (stand (λ _. first) before) (stand come.ends held) (stand (λ _. next) held) was 0 0 Want
-      (under-of (ways_of rules overlap) told input input_now (stand (λ _. first) before) (stand come.ends held) was (due-some told was.waiting (due.Fail at keep) is) come.come)
-      (breaks-unmade (ways_of rules overlap) told come.ends (λ _. next) held at keep was.waiting is (now, next, come.later, unmade, refl)) (record { later = omega arith; cause = tt }))
+      (under-of (ways_of rules overlap) told input input_now (stand (λ _. first) before) (stand come.ends held) was
+      (due-some told was.waiting (due.Fail at keep) is) come.come)
+      (breaks-unmade (ways_of rules overlap) told come.ends (λ _. next) held at keep was.waiting is
+      (now, next, come.later, unmade, refl)) (record { later = omega arith; cause = tt }))
 
   -- an order was given, and its text is written
-  pub orders : (now next : G) (sent out out_now : List ℕ) (was left : Progress) (calls : List (OpenCall K)) (at : ProcessId) (keep : ℕ) (end : FailEnd) → IsDue told was.waiting (due.Fail at keep) → rules.ways.failed now at keep end next
+  pub orders : (now next : G) (sent out out_now : List ℕ) (was left : Progress) (calls : List (OpenCall K))
+      (at : ProcessId) (keep : ℕ) (end : FailEnd) → IsDue told was.waiting (due.Fail at keep)
+      → rules.ways.failed now at keep end next
       → HasTold (fail_text end) out out_now was.waiting left.waiting → left.kept ≡ was.kept → left.quits ≡ was.quits → left.count ≡ was.count
       → Comes rules overlap told input input_now first before now (sent ++ out) was calls 0 None → GoesOnSo next (sent ++ out_now) left calls
   orders now next sent out out_now was left calls at keep end is failed text kept quits count come = record {
     ends = λ _. next;
     later = λ _. order.same next;
-    under = more (ways_of rules overlap) told input input_now (stand (λ _. first) before) (stand come.ends (sent ++ out)) (stand (λ _. next) (sent ++ out_now)) was left
-        (under-of (ways_of rules overlap) told input input_now (stand (λ _. first) before) (stand come.ends (sent ++ out)) was (due-some told was.waiting (due.Fail at keep) is) come.come)
-        (order-steps (ways_of rules overlap) told come.ends (λ _. next) (sent ++ out) (sent ++ out_now) at keep end was.waiting left.waiting is (now, next, come.later, failed, refl)
+    under = more (ways_of rules overlap) told input input_now (stand (λ _. first) before)
+        (stand come.ends (sent ++ out)) (stand (λ _. next) (sent ++ out_now)) was left
+        (under-of (ways_of rules overlap) told input input_now (stand (λ _. first) before)
+        (stand come.ends (sent ++ out)) was (due-some told was.waiting (due.Fail at keep) is) come.come)
+        (order-steps (ways_of rules overlap) told come.ends (λ _. next) (sent ++ out) (sent ++ out_now) at keep end
+        was.waiting left.waiting is (now, next, come.later, failed, refl)
         (told-of sent (fail_text end) out out_now was.waiting left.waiting text)) kept quits count;
     are = subst (λ (cs : List (OpenCall K)). AreCalls rules overlap told (λ _. next) next (acts_ahead left.waiting) cs) (sym none) tt;
   }
@@ -289,87 +376,132 @@ module _ {G K : Type 0} (rules : Rules G K) (order : IsOrder rules.later) (overl
       none : calls ≡ []
       none = calls-none rules order overlap told come.ends now (acts_ahead was.waiting) calls (order-acts was.waiting (told, at, keep, is)) (come.wanted refl)
 
-  pub orders-broken : (now next : G) (sent out out_now : List ℕ) (was left : Progress) (calls : List (OpenCall K)) (unwanted : ℕ) (at : ProcessId) (keep : ℕ) (end : FailEnd) (faults faults_now : ℕ) (fault : ConnectionFault) → IsDue told was.waiting (due.Fail at keep)
-      → rules.ways.failed now at keep end next → AreOpen rules next calls → StandOnce calls → HasWritten out out_now (fail_text end) → HasSinkCause {T = Unit {0}} faults faults_now (Err fault)
-      → Comes rules overlap told input input_now first before now (sent ++ out) was calls unwanted None → Comes rules overlap told input input_now first before next (sent ++ out_now) left calls unwanted (Some (Err fault))
-  orders-broken now next sent out out_now was left calls unwanted at keep end faults faults_now fault is failed opens distinct text cause come = ended-so next next (sent ++ out_now) left calls unwanted (Err fault) (λ _. next) (λ _. order.same next) (order.same next) opens distinct
-      (halts (ways_of rules overlap) told input input_now (stand (λ _. first) before) (stand come.ends (sent ++ out)) (stand (λ _. next) (sent ++ out_now)) was faults faults_now fault
-      (under-of (ways_of rules overlap) told input input_now (stand (λ _. first) before) (stand come.ends (sent ++ out)) was (due-some told was.waiting (due.Fail at keep) is) come.come)
-      (order-breaks (ways_of rules overlap) told come.ends (λ _. next) (sent ++ out) (sent ++ out_now) at keep end fault was.waiting is (now, next, come.later, failed, refl) (part sent (fail_text end) out out_now text)) cause)
+  pub orders-broken : (now next : G) (sent out out_now : List ℕ) (was left : Progress) (calls : List (OpenCall K))
+      (unwanted : ℕ) (at : ProcessId) (keep : ℕ) (end : FailEnd) (faults faults_now : ℕ) (fault : ConnectionFault)
+      → IsDue told was.waiting (due.Fail at keep)
+      → rules.ways.failed now at keep end next → AreOpen rules next calls → StandOnce calls
+      → HasWritten out out_now (fail_text end) → HasSinkCause {T = Unit {0}} faults faults_now (Err fault)
+      → Comes rules overlap told input input_now first before now (sent ++ out) was calls unwanted None
+      → Comes rules overlap told input input_now first before next (sent ++ out_now) left calls unwanted
+      (Some (Err fault))
+  orders-broken now next sent out out_now was left calls unwanted at keep end faults faults_now fault is failed opens
+      distinct text cause come = ended-so next next (sent ++ out_now) left calls unwanted (Err fault) (λ _. next)
+      (λ _. order.same next) (order.same next) opens distinct
+      (halts (ways_of rules overlap) told input input_now (stand (λ _. first) before) (stand come.ends (sent ++ out))
+      (stand (λ _. next) (sent ++ out_now)) was faults faults_now fault
+      (under-of (ways_of rules overlap) told input input_now (stand (λ _. first) before) (stand come.ends (sent ++ out))
+      was (due-some told was.waiting (due.Fail at keep) is) come.come)
+      (order-breaks (ways_of rules overlap) told come.ends (λ _. next) (sent ++ out) (sent ++ out_now) at keep end fault
+      was.waiting is (now, next, come.later, failed, refl) (part sent (fail_text end) out out_now text)) cause)
 
   -- the text of a request that needs no call is written
-  pub tells : (now : G) (sent out out_now : List ℕ) (was left : Progress) (calls : List (OpenCall K)) → IsDue told was.waiting due.Text → HasTold (own_text was.waiting) out out_now was.waiting left.waiting → left.kept ≡ was.kept → left.quits ≡ was.quits → left.count ≡ was.count
+  pub tells : (now : G) (sent out out_now : List ℕ) (was left : Progress) (calls : List (OpenCall K))
+      → IsDue told was.waiting due.Text → HasTold (own_text was.waiting) out out_now was.waiting left.waiting
+      → left.kept ≡ was.kept → left.quits ≡ was.quits → left.count ≡ was.count
       → Comes rules overlap told input input_now first before now (sent ++ out) was calls 0 None → GoesOnSo now (sent ++ out_now) left calls
   tells now sent out out_now was left calls is text kept quits count come = record {
     ends = come.ends;
     later = come.later;
-    under = more (ways_of rules overlap) told input input_now (stand (λ _. first) before) (stand come.ends (sent ++ out)) (stand come.ends (sent ++ out_now)) was left
-        (under-of (ways_of rules overlap) told input input_now (stand (λ _. first) before) (stand come.ends (sent ++ out)) was (due-some told was.waiting due.Text is) come.come)
-        (text-steps (ways_of rules overlap) told come.ends (sent ++ out) (sent ++ out_now) was.waiting left.waiting is (told-of sent (own_text was.waiting) out out_now was.waiting left.waiting text)) kept quits count;
-    are = subst (λ (asks : List Act). AreCalls rules overlap told come.ends now asks calls) (sym (told-acts (own_text was.waiting) out out_now was.waiting left.waiting (told, is) text)) (come.wanted refl);
+    under = more (ways_of rules overlap) told input input_now (stand (λ _. first) before)
+        (stand come.ends (sent ++ out)) (stand come.ends (sent ++ out_now)) was left
+        (under-of (ways_of rules overlap) told input input_now (stand (λ _. first) before)
+        (stand come.ends (sent ++ out)) was (due-some told was.waiting due.Text is) come.come)
+        (text-steps (ways_of rules overlap) told come.ends (sent ++ out) (sent ++ out_now) was.waiting left.waiting is
+        (told-of sent (own_text was.waiting) out out_now was.waiting left.waiting text)) kept quits count;
+    are = subst (λ (asks : List Act). AreCalls rules overlap told come.ends now asks calls)
+        (sym (told-acts (own_text was.waiting) out out_now was.waiting left.waiting (told, is) text))
+        (come.wanted refl);
   }
 
-  pub tells-broken : (now : G) (sent out out_now : List ℕ) (was left : Progress) (calls : List (OpenCall K)) (unwanted : ℕ) (faults faults_now : ℕ) (fault : ConnectionFault) → IsDue told was.waiting due.Text → HasWritten out out_now (own_text was.waiting)
+  pub tells-broken : (now : G) (sent out out_now : List ℕ) (was left : Progress) (calls : List (OpenCall K))
+      (unwanted : ℕ) (faults faults_now : ℕ) (fault : ConnectionFault) → IsDue told was.waiting due.Text
+      → HasWritten out out_now (own_text was.waiting)
       → HasSinkCause {T = Unit {0}} faults faults_now (Err fault)
-      → Comes rules overlap told input input_now first before now (sent ++ out) was calls unwanted None → Comes rules overlap told input input_now first before now (sent ++ out_now) left calls unwanted (Some (Err fault))
-  tells-broken now sent out out_now was left calls unwanted faults faults_now fault is text cause come = ended-so now now (sent ++ out_now) left calls unwanted (Err fault) come.ends come.later (order.same now) come.opened come.distinct
-      (halts (ways_of rules overlap) told input input_now (stand (λ _. first) before) (stand come.ends (sent ++ out)) (stand come.ends (sent ++ out_now)) was faults faults_now fault
-      (under-of (ways_of rules overlap) told input input_now (stand (λ _. first) before) (stand come.ends (sent ++ out)) was (due-some told was.waiting due.Text is) come.come)
-      (text-breaks (ways_of rules overlap) told come.ends (sent ++ out) (sent ++ out_now) fault was.waiting is (part sent (own_text was.waiting) out out_now text)) cause)
+      → Comes rules overlap told input input_now first before now (sent ++ out) was calls unwanted None
+      → Comes rules overlap told input input_now first before now (sent ++ out_now) left calls unwanted
+      (Some (Err fault))
+  tells-broken now sent out out_now was left calls unwanted faults faults_now fault is text cause come =
+      ended-so now now (sent ++ out_now) left calls unwanted (Err fault) come.ends come.later (order.same now)
+      come.opened come.distinct
+      (halts (ways_of rules overlap) told input input_now (stand (λ _. first) before) (stand come.ends (sent ++ out))
+      (stand come.ends (sent ++ out_now)) was faults faults_now fault
+      (under-of (ways_of rules overlap) told input input_now (stand (λ _. first) before) (stand come.ends (sent ++ out))
+      was (due-some told was.waiting due.Text is) come.come)
+      (text-breaks (ways_of rules overlap) told come.ends (sent ++ out) (sent ++ out_now) fault was.waiting is
+      (part sent (own_text was.waiting) out out_now text)) cause)
 
   -- the first of its calls was let go, whose end was wanted no more
-  pub lets-go : (now next : G) (held : List ℕ) (progress : Progress) (calls calls_now : List (OpenCall K)) (unwanted unwanted_now : ℕ) (end : Option (Result End ConnectionFault)) → (end ≡ None → drop unwanted_now calls_now ≡ drop unwanted calls)
+  pub lets-go : (now next : G) (held : List ℕ) (progress : Progress) (calls calls_now : List (OpenCall K))
+      (unwanted unwanted_now : ℕ) (end : Option (Result End ConnectionFault))
+      → (end ≡ None → drop unwanted_now calls_now ≡ drop unwanted calls)
       → ((call : K) → HasOpen calls_now call → HasOpen calls call) → StandOnce calls_now → KeepsCalls rules calls_now now next → rules.later now next
-      → Comes rules overlap told input input_now first before now held progress calls unwanted end → Comes rules overlap told input input_now first before next held progress calls_now unwanted_now end
+      → Comes rules overlap told input input_now first before now held progress calls unwanted end
+      → Comes rules overlap told input input_now first before next held progress calls_now unwanted_now end
   lets-go now next held progress calls calls_now unwanted unwanted_now end same fewer distinct keeps later come = record {
     ends = come.ends;
     later = λ sequence. order.on (come.ends sequence) now next (come.later sequence) later;
     come = come.come;
-    wanted = λ goes. calls-stay rules order overlap told come.ends now next (acts_ahead progress.waiting) (drop unwanted_now calls_now) (λ call op began has. keeps call op began (open-drop unwanted_now calls_now call has)) later
+    wanted = λ goes. calls-stay rules order overlap told come.ends now next (acts_ahead progress.waiting)
+        (drop unwanted_now calls_now)
+        (λ call op began has. keeps call op began (open-drop unwanted_now calls_now call has)) later
         (subst (λ (cs : List (OpenCall K)). AreCalls rules overlap told come.ends now (acts_ahead progress.waiting) cs) (sym (same goes)) (come.wanted goes));
     opened = still-open rules now next calls_now keeps (λ call has. come.opened call (fewer call has));
     distinct = distinct;
   }
 
   -- all that was read is answered, and no call is under way
-  pub none-under-way : (now : G) (held : List ℕ) (was : Progress) (calls : List (OpenCall K)) → was.waiting ≡ [] → Comes rules overlap told input input_now first before now held was calls 0 None → calls ≡ []
-  none-under-way now held was calls none come = calls-none rules order overlap told come.ends now (acts_ahead was.waiting) calls (ap acts_ahead none) (come.wanted refl)
+  pub none-under-way : (now : G) (held : List ℕ) (was : Progress) (calls : List (OpenCall K)) → was.waiting ≡ []
+      → Comes rules overlap told input input_now first before now held was calls 0 None → calls ≡ []
+  none-under-way now held was calls none come = calls-none rules order overlap told come.ends now
+      (acts_ahead was.waiting) calls (ap acts_ahead none) (come.wanted refl)
 
   -- a piece was read, or none was there
-  pub reads : (now : G) (input_next : Input) (held held_next : List ℕ) (was left : Progress) (calls : List (OpenCall K)) (end : Option (Result End ConnectionFault)) → was.waiting ≡ []
+  pub reads : (now : G) (input_next : Input) (held held_next : List ℕ) (was left : Progress) (calls : List (OpenCall K))
+      (end : Option (Result End ConnectionFault)) → was.waiting ≡ []
       → ((ends : List ℕ → G) → GoesOn (ways_of rules overlap) told input input_now (stand (λ _. first) before) (stand ends held) was.kept was.count
       → HasComeTo (ways_of rules overlap) told input input_next (stand (λ _. first) before) (stand ends held_next) left end)
-      → Comes rules overlap told input input_now first before now held was calls 0 None → Comes rules overlap told input input_next first before now held_next left calls 0 end
+      → Comes rules overlap told input input_now first before now held was calls 0 None
+      → Comes rules overlap told input input_next first before now held_next left calls 0 end
   reads now input_next held held_next was left calls end none reading come = record {
     ends = come.ends;
     later = come.later;
     come = reading come.ends (goes-of (ways_of rules overlap) told input input_now (stand (λ _. first) before) (stand come.ends held) was none come.come);
-    wanted = λ _. subst (λ (cs : List (OpenCall K)). AreCalls rules overlap told come.ends now (acts_ahead left.waiting) cs) (sym (none-under-way now held was calls none come)) tt;
+    wanted = λ _. subst (λ (cs : List (OpenCall K)). AreCalls rules overlap told come.ends now (acts_ahead left.waiting)
+        cs) (sym (none-under-way now held was calls none come)) tt;
     opened = come.opened;
     distinct = come.distinct;
   }
 
   -- none of its calls is unwanted, and it has not ended
-  pub resumes : (now : G) (held : List ℕ) (progress : Progress) (calls : List (OpenCall K)) (unwanted : ℕ) (end : Option (Result End ConnectionFault)) → unwanted ≡ 0 → end ≡ None
-      → Comes rules overlap told input input_now first before now held progress calls unwanted end → Comes rules overlap told input input_now first before now held progress calls 0 None
-  resumes now held progress calls unwanted end wanted goes come = subst (λ (n : ℕ). Comes rules overlap told input input_now first before now held progress calls n None) wanted
+  pub resumes : (now : G) (held : List ℕ) (progress : Progress) (calls : List (OpenCall K)) (unwanted : ℕ)
+      (end : Option (Result End ConnectionFault)) → unwanted ≡ 0 → end ≡ None
+      → Comes rules overlap told input input_now first before now held progress calls unwanted end
+      → Comes rules overlap told input input_now first before now held progress calls 0 None
+  resumes now held progress calls unwanted end wanted goes come =
+      subst (λ (n : ℕ). Comes rules overlap told input input_now first before now held progress calls n None) wanted
       (subst (λ (e : Option (Result End ConnectionFault)). Comes rules overlap told input input_now first before now held progress calls unwanted e) goes come)
 
 module _ {G K : Type 0} (rules : Rules G K) (order : IsOrder rules.later) (told : Option ℕ) (input input_now : Input) (first : G) (before : List ℕ) where
   -- a call was begun behind those that are under way, on another key
-  pub called-behind : (now next : G) (held : List ℕ) (progress : Progress) (calls : List (OpenCall K)) (one : OpenCall K) (op : Asked) → IsDueAhead told progress.waiting (length calls) op → IsBegunAs rules now op one next → KeepsOpen rules now next → rules.later now next
-      → Comes rules OtherKeys told input input_now first before now held progress calls 0 None → Comes rules OtherKeys told input input_now first before next held progress (calls ++ one ∷ []) 0 None
+  pub called-behind : (now next : G) (held : List ℕ) (progress : Progress) (calls : List (OpenCall K))
+      (one : OpenCall K) (op : Asked) → IsDueAhead told progress.waiting (length calls) op
+      → IsBegunAs rules now op one next → KeepsOpen rules now next → rules.later now next
+      → Comes rules OtherKeys told input input_now first before now held progress calls 0 None
+      → Comes rules OtherKeys told input input_now first before next held progress (calls ++ one ∷ []) 0 None
   called-behind now next held progress calls one op is begun keeps later come = record {
     ends = come.ends;
     later = λ sequence. order.on (come.ends sequence) now next (come.later sequence) later;
     come = come.come;
     wanted = λ _. subst (λ (asks : List Act). AreCalls rules OtherKeys told come.ends next asks (calls ++ one ∷ [])) (sym is.split)
         (calls-more rules order OtherKeys told come.ends next op.act one is.before is.behind calls is.count is.apart
-        (calling-begun rules order OtherKeys told come.ends now next op one (record { act_is = refl; moment = is.moment; later = come.later (key_of op.act) }) begun)
+        (calling-begun rules order OtherKeys told come.ends now next op one
+        (record { act_is = refl; moment = is.moment; later = come.later (key_of op.act) }) begun)
         (subst (λ (asks : List Act). AreCalls rules OtherKeys told come.ends next asks calls) is.split
-        (calls-stay rules order OtherKeys told come.ends now next (acts_ahead progress.waiting) calls (λ call call_op began has. keeps call call_op began) later (come.wanted refl))));
+        (calls-stay rules order OtherKeys told come.ends now next (acts_ahead progress.waiting) calls
+        (λ call call_op began has. keeps call call_op began) later (come.wanted refl))));
     opened = λ call has. by call (open-in calls (one ∷ []) call has);
-    distinct = distinct-more calls one come.distinct (λ call has at. let opened = come.opened call at in begun-fresh rules now next op one begun call has opened.0 opened.1 opened.2);
+    distinct = distinct-more calls one come.distinct (λ call has at. let opened = come.opened call at in
+        begun-fresh rules now next op one begun call has opened.0 opened.1 opened.2);
   }
     where
       by : (call : K) → HasOpen calls call ⊎ HasOpen (one ∷ []) call → (call_op : Asked) × (began : G) × rules.opened next call call_op began
@@ -384,11 +516,16 @@ pub some-of : {K : Type 0} (P : K → Type 0) (found : Option K) (one : K) → f
 some-of P found one is holds = subst (λ (o : Option _). IfSome o P) is holds
 
 -- a connection of which text went out
-pub sends : {G K : Type 0} (rules : Rules G K) (overlap : Overlap) (told : Option ℕ) (input input_then input_now : Input) (first now : G) (before held held_now : List ℕ) (was progress : Progress) (calls calls_now : Calls K) (end end_now : Option (Result End ConnectionFault))
+pub sends : {G K : Type 0} (rules : Rules G K) (overlap : Overlap) (told : Option ℕ)
+    (input input_then input_now : Input) (first now : G) (before held held_now : List ℕ) (was progress : Progress)
+    (calls calls_now : Calls K) (end end_now : Option (Result End ConnectionFault))
     → held_now ≡ held → input_now ≡ input_then → progress ≡ was → calls_now ≡ calls → end_now ≡ end
-    → Comes rules overlap told input input_then first before now held was calls.list calls.unwanted end → Comes rules overlap told input input_now first before now held_now progress calls_now.list calls_now.unwanted end_now
+    → Comes rules overlap told input input_then first before now held was calls.list calls.unwanted end
+    → Comes rules overlap told input input_now first before now held_now progress calls_now.list calls_now.unwanted
+    end_now
 sends rules overlap told input input_then input_now first now before held held_now was progress calls calls_now end end_now text read same called ended come =
-    subst (λ (e : Option (Result End ConnectionFault)). Comes rules overlap told input input_now first before now held_now progress calls_now.list calls_now.unwanted e) (sym ended)
+    subst (λ (e : Option (Result End ConnectionFault)). Comes rules overlap told input input_now first before now
+    held_now progress calls_now.list calls_now.unwanted e) (sym ended)
     (subst (λ (cs : Calls _). Comes rules overlap told input input_now first before now held_now progress cs.list cs.unwanted end) (sym called)
     (subst (λ (p : Progress). Comes rules overlap told input input_now first before now held_now p calls.list calls.unwanted end) (sym same)
     (subst (λ (i : Input). Comes rules overlap told input i first before now held_now was calls.list calls.unwanted end) (sym read)

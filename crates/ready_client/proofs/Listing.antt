@@ -41,7 +41,8 @@ module _ {K : Type 0} where
   distinct-behind (Open call) calls distinct = distinct.1
   distinct-behind (Ended end) calls distinct = distinct
 
-  pub distinct-more : (calls : List (OpenCall K)) (one : OpenCall K) → StandOnce calls → ((call : K) → HasOpen (one ∷ []) call → ¬ HasOpen calls call) → StandOnce (calls ++ one ∷ [])
+  pub distinct-more : (calls : List (OpenCall K)) (one : OpenCall K) → StandOnce calls
+      → ((call : K) → HasOpen (one ∷ []) call → ¬ HasOpen calls call) → StandOnce (calls ++ one ∷ [])
   distinct-more [] (Open call) distinct fresh = (λ has. has, tt)
   distinct-more [] (Ended end) distinct fresh = tt
   distinct-more (Open first ∷ calls) one distinct fresh = (apart, distinct-more calls one distinct.1 (λ call has at. fresh call has (inr at)))
@@ -56,45 +57,56 @@ module _ {K : Type 0} where
 
 module _ {G K : Type 0} (rules : Rules G K) where
   -- a call that was begun is none of those that were open
-  pub begun-fresh : (before after : G) (op : Asked) (one : OpenCall K) → IsBegunAs rules before op one after → (call : K) → HasOpen (one ∷ []) call → IsFree rules before call
+  pub begun-fresh : (before after : G) (op : Asked) (one : OpenCall K) → IsBegunAs rules before op one after
+      → (call : K) → HasOpen (one ∷ []) call → IsFree rules before call
   begun-fresh before after op (Open one) begun call (inl same) = subst (λ (k : K). IsFree rules before k) (sym same) begun.0
   begun-fresh before after op (Open one) begun call (inr has) = absurd has
   begun-fresh before after op (Ended end) begun call has = absurd has
 
   -- it is open, if its end wasn't taken
-  pub begun-open : (before after : G) (op : Asked) (one : OpenCall K) → IsBegunAs rules before op one after → (call : K) → HasOpen (one ∷ []) call → rules.opened after call op before
+  pub begun-open : (before after : G) (op : Asked) (one : OpenCall K) → IsBegunAs rules before op one after → (call : K)
+      → HasOpen (one ∷ []) call → rules.opened after call op before
   begun-open before after op (Open one) begun call (inl same) = subst (λ (k : K). rules.opened after k op before) (sym same) begun.1
   begun-open before after op (Open one) begun call (inr has) = absurd has
   begun-open before after op (Ended end) begun call has = absurd has
 
-  pub begun-apart : (before after : G) (op : Asked) (calls : List (OpenCall K)) (one : OpenCall K) → IsBegunAs rules before op one after → KeepsOpen rules before after
+  pub begun-apart : (before after : G) (op : Asked) (calls : List (OpenCall K)) (one : OpenCall K)
+      → IsBegunAs rules before op one after → KeepsOpen rules before after
       → KeepsApart rules calls (calls ++ one ∷ []) before after
-  begun-apart before after op calls one begun kept call call_op began other opened = (kept call call_op began opened, λ has. by (open-in calls (one ∷ []) call has))
+  begun-apart before after op calls one begun kept call call_op began other opened =
+      (kept call call_op began opened, λ has. by (open-in calls (one ∷ []) call has))
     where
       by : HasOpen calls call ⊎ HasOpen (one ∷ []) call → ⊥
       by (inl here) = other here
       by (inr there) = begun-fresh before after op one begun call there call_op began opened
 
-  pub begun-lends : (before after : G) (calls : List (OpenCall K)) (one : OpenCall K) → LendsBegun rules (Some one) before after → LendsApart rules calls (calls ++ one ∷ []) before after
+  pub begun-lends : (before after : G) (calls : List (OpenCall K)) (one : OpenCall K)
+      → LendsBegun rules (Some one) before after → LendsApart rules calls (calls ++ one ∷ []) before after
   begun-lends before after calls one lends call other lent = (by (lends call lent), λ has. other (open-before calls (one ∷ []) call has))
     where
       by : rules.lent before call ⊎ (Some one ≡ Some (Open call)) → rules.lent before call
       by (inl had) = had
-      by (inr same) = let is : one ≡ Open call = cc in absurd (other (open-last calls (one ∷ []) call (subst (λ (o : OpenCall K). HasOpen (o ∷ []) call) (sym is) (inl refl))))
+      by (inr same) = let is : one ≡ Open call = cc in
+          absurd (other
+          (open-last calls (one ∷ []) call (subst (λ (o : OpenCall K). HasOpen (o ∷ []) call) (sym is) (inl refl))))
 
   -- an open call ended
-  pub ended-apart : (before after : G) (one : K) (calls : List (OpenCall K)) → KeepsOthers rules one before after → KeepsApart rules (Open one ∷ calls) calls before after
+  pub ended-apart : (before after : G) (one : K) (calls : List (OpenCall K)) → KeepsOthers rules one before after
+      → KeepsApart rules (Open one ∷ calls) calls before after
   ended-apart before after one calls kept call op began other opened = (kept call op began (λ same. other (inl same)) opened, λ has. other (inr has))
 
-  pub ended-lends : (before after : G) (one : K) (calls : List (OpenCall K)) → LendsNone rules before after → ¬ (rules.lent after one) → LendsApart rules (Open one ∷ calls) calls before after
+  pub ended-lends : (before after : G) (one : K) (calls : List (OpenCall K)) → LendsNone rules before after
+      → ¬ (rules.lent after one) → LendsApart rules (Open one ∷ calls) calls before after
   ended-lends before after one calls none gone call other lent = (none call lent, by)
     where
       by : ¬ HasOpen (Open one ∷ calls) call
       by (inl same) = gone (subst (λ (k : K). rules.lent after k) same lent)
       by (inr has) = other has
 
-  pub ended-others : (before after : G) (one : K) (calls : List (OpenCall K)) → KeepsOthers rules one before after → StandOnce (Open one ∷ calls) → KeepsCalls rules calls before after
-  ended-others before after one calls kept distinct call op began has opened = kept call op began (λ same. distinct.0 (subst (λ (k : K). HasOpen calls k) same has)) opened
+  pub ended-others : (before after : G) (one : K) (calls : List (OpenCall K)) → KeepsOthers rules one before after
+      → StandOnce (Open one ∷ calls) → KeepsCalls rules calls before after
+  ended-others before after one calls kept distinct call op began has opened =
+      kept call op began (λ same. distinct.0 (subst (λ (k : K). HasOpen calls k) same has)) opened
 
   -- calls that are open stay so
   pub still-open : (before after : G) (calls : List (OpenCall K)) → KeepsCalls rules calls before after → AreOpen rules before calls → AreOpen rules after calls
@@ -104,12 +116,16 @@ module _ {G K : Type 0} (rules : Rules G K) where
   kept-all before after calls kept call op began has = kept call op began
 
   -- the same as these lists are
-  pub apart-as : (calls calls_now calls_then : List (OpenCall K)) (before after : G) → calls_now ≡ calls_then → KeepsApart rules calls calls_then before after → KeepsApart rules calls calls_now before after
+  pub apart-as : (calls calls_now calls_then : List (OpenCall K)) (before after : G) → calls_now ≡ calls_then
+      → KeepsApart rules calls calls_then before after → KeepsApart rules calls calls_now before after
   apart-as calls calls_now calls_then before after same apart = subst (λ (cs : List (OpenCall K)). KeepsApart rules calls cs before after) (sym same) apart
 
-  pub lends-as : (calls calls_now calls_then : List (OpenCall K)) (before after : G) → calls_now ≡ calls_then → LendsApart rules calls calls_then before after → LendsApart rules calls calls_now before after
+  pub lends-as : (calls calls_now calls_then : List (OpenCall K)) (before after : G) → calls_now ≡ calls_then
+      → LendsApart rules calls calls_then before after → LendsApart rules calls calls_now before after
   lends-as calls calls_now calls_then before after same lends = subst (λ (cs : List (OpenCall K)). LendsApart rules calls cs before after) (sym same) lends
 
 -- one came behind all
-pub appended : {X : Type 0} (first : Option X) (others now calls : List X) (one : X) → option_to_list first ++ others ≡ calls → now ≡ others ++ one ∷ [] → option_to_list first ++ now ≡ calls ++ one ∷ []
-appended first others now calls one is pushed = ap (λ (xs : List _). option_to_list first ++ xs) pushed ∙ sym (append_assoc (option_to_list first) others (one ∷ [])) ∙ ap (λ (xs : List _). xs ++ one ∷ []) is
+pub appended : {X : Type 0} (first : Option X) (others now calls : List X) (one : X) → option_to_list first
+    ++ others ≡ calls → now ≡ others ++ one ∷ [] → option_to_list first ++ now ≡ calls ++ one ∷ []
+appended first others now calls one is pushed = ap (λ (xs : List _). option_to_list first ++ xs) pushed
+    ∙ sym (append_assoc (option_to_list first) others (one ∷ [])) ∙ ap (λ (xs : List _). xs ++ one ∷ []) is

@@ -35,17 +35,30 @@ module _ {C : Type 0} (ways : Ways C) (later : C → C → Type 0) (order : IsOr
 
   made-behind : (last : AtOnce C) (call : Call) (next : AtOnce C) → LeadsBy ways_among last call next → IsMadeBehind last.caller call next.caller
   made-behind last (Made op end) next by = record { before = by.0.caller; after = by.2.after; behind = by.1; leads = by.2.made; follows = by.2.follows }
-  made-behind last (Failed at keep end) next by = record { before = by.0.caller; after = next.caller; behind = by.1; leads = by.2; follows = order.same next.caller }
+  made-behind last (Failed at keep end) next by = record {
+    before = by.0.caller;
+    after = next.caller;
+    behind = by.1;
+    leads = by.2;
+    follows = order.same next.caller;
+  }
 
-  in-order : (from : C) (last : AtOnce C) (calls : List Call) (now : AtOnce C) (end : C) → later from last.caller → later now.caller end → Leads ways_among last calls now → AreInOrder ways later from calls end
+  in-order : (from : C) (last : AtOnce C) (calls : List Call) (now : AtOnce C) (end : C) → later from last.caller
+      → later now.caller end → Leads ways_among last calls now → AreInOrder ways later from calls end
   in-order from last [] now end behind onward leads =
       order.on from last.caller end behind (subst (λ (gateway : AtOnce C). later gateway.caller end) leads onward)
   in-order from last (call ∷ calls) now end behind onward leads =
-      let made = made-behind last call leads.0 leads.1 in
-      (made.before, made.after, order.on from last.caller made.before behind made.behind, made.leads, in-order made.after leads.0 calls now end made.follows onward leads.2)
+      let made = made-behind last call leads.0 leads.1 in (
+        made.before,
+        made.after,
+        order.on from last.caller made.before behind made.behind,
+        made.leads,
+        in-order made.after leads.0 calls now end made.follows onward leads.2,
+      )
 
   -- where all that was read is answered, the calls were made in their order
-  pub answered-in-order : (told : Option ℕ) (input input_now : Input) (first now : AtOnce C) (before held : List ℕ) (progress : Progress) (calls : List (OpenCall _)) (unwanted : ℕ) → progress.waiting ≡ []
+  pub answered-in-order : (told : Option ℕ) (input input_now : Input) (first now : AtOnce C) (before held : List ℕ)
+      (progress : Progress) (calls : List (OpenCall _)) (unwanted : ℕ) → progress.waiting ≡ []
       → Comes (at_once ways later) Never told input input_now first before now held progress calls unwanted None
       → AnsweredInOrder ways later told input input_now progress.kept first.caller now.caller before held
   answered-in-order told input input_now first now before held progress calls unwanted none come = record {
@@ -59,11 +72,13 @@ module _ {C : Type 0} (ways : Ways C) (later : C → C → Type 0) (order : IsOr
   }
     where
       goes : GoesOn ways_among told input input_now (stand first before) (stand (come.ends []) held) progress.kept progress.count
-      goes = never-goes_on (at_once ways later).later (at_once ways later).ways told input input_now (λ _. first) come.ends before held progress.kept progress.count
+      goes = never-goes_on (at_once ways later).later (at_once ways later).ways told input input_now (λ _. first)
+          come.ends before held progress.kept progress.count
           (goes-of (ways_of (at_once ways later) Never) told input input_now (stand (λ _. first) before) (stand come.ends held) progress none come.come)
 
 module _ {G K : Type 0} (rules : Rules G K) (overlap : Overlap) where
-  in-sequences : (ends : List ℕ → G) (calls : List Call) (ends_now : List ℕ → G) (now : G) → ((s : List ℕ) → rules.later (ends_now s) now) → Leads (ways_of rules overlap) ends calls ends_now
+  in-sequences : (ends : List ℕ → G) (calls : List Call) (ends_now : List ℕ → G) (now : G)
+      → ((s : List ℕ) → rules.later (ends_now s) now) → Leads (ways_of rules overlap) ends calls ends_now
       → AreInSequences rules.ways rules.later (sequence_of overlap) ends calls now
   in-sequences ends [] ends_now now onward leads = subst (λ (e : List ℕ → G). (s : List ℕ) → rules.later (e s) now) leads onward
   in-sequences ends (Made op end ∷ calls) ends_now now onward (next, made, leads) = (
@@ -71,18 +86,21 @@ module _ {G K : Type 0} (rules : Rules G K) (overlap : Overlap) where
     made.1,
     made.2,
     made.3,
-    subst (λ (e : List ℕ → G). AreInSequences rules.ways rules.later (sequence_of overlap) e calls now) made.4 (in-sequences next calls ends_now now onward leads),
+    subst (λ (e : List ℕ → G). AreInSequences rules.ways rules.later (sequence_of overlap) e calls now) made.4
+        (in-sequences next calls ends_now now onward leads),
   )
   in-sequences ends (Failed at keep end ∷ calls) ends_now now onward (next, failed, leads) = (
     failed.0,
     failed.1,
     failed.2,
     failed.3,
-    subst (λ (e : List ℕ → G). AreInSequences rules.ways rules.later (sequence_of overlap) e calls now) failed.4 (in-sequences next calls ends_now now onward leads),
+    subst (λ (e : List ℕ → G). AreInSequences rules.ways rules.later (sequence_of overlap) e calls now) failed.4
+        (in-sequences next calls ends_now now onward leads),
   )
 
   -- where all that was read is answered, the calls of each sequence were made in their order
-  pub answered-in-sequences : (told : Option ℕ) (input input_now : Input) (first now : G) (before held : List ℕ) (progress : Progress) (calls : List (OpenCall K)) (unwanted : ℕ) → progress.waiting ≡ []
+  pub answered-in-sequences : (told : Option ℕ) (input input_now : Input) (first now : G) (before held : List ℕ)
+      (progress : Progress) (calls : List (OpenCall K)) (unwanted : ℕ) → progress.waiting ≡ []
       → Comes rules overlap told input input_now first before now held progress calls unwanted None
       → AnsweredInSequences rules.ways rules.later (sequence_of overlap) told input input_now progress.kept first now before held
   answered-in-sequences told input input_now first now before held progress calls unwanted none come = record {

@@ -1,5 +1,6 @@
 -- Marked keys, as keys are put among them and taken away.
-use Rattle.std.proofs.Common.{◌≡◌, ℕ, ◌<◌, ◌≤◌, nat_eq, List, [], ◌∷◌, ◌++◌, length, Bool, true, false, ◌||◌, slice_index_or, slice_set, refl, sym, ◌∙◌, subst, ⊎_elim, arith}
+use Rattle.std.proofs.Common.{◌≡◌, ℕ, ◌<◌, ◌≤◌, nat_eq, List, [], ◌∷◌, ◌++◌, length, Bool, true, false, ◌||◌}
+use Rattle.std.proofs.Common.{slice_index_or, slice_set, refl, sym, ◌∙◌, subst, ⊎_elim, arith}
 use Rattle.std.specs.List.{IsDistinct, AllByRecursion, list_any}
 use Rattle.std.specs.Cmp.{nat_eq_equiv}
 use Rattle.std.proofs.lemmas.Bool.{cases_Bool, cases_lt, eq-eqb, eqb-true}
@@ -32,7 +33,8 @@ pub itself : (key : ℕ) (keys : List ℕ) → is_queued (key ∷ keys) key ≡ 
 itself key keys = let same = eq-eqb key key refl in rw same refl
 
 -- there is room for a key that isn't marked
-pub free : (keys : List ℕ) (marks : List Bool) (capacity key : ℕ) → MarksKeys keys marks capacity → key < length marks → is_queued keys key ≡ false → length keys < capacity
+pub free : (keys : List ℕ) (marks : List Bool) (capacity key : ℕ) → MarksKeys keys marks capacity → key < length marks
+    → is_queued keys key ≡ false → length keys < capacity
 free keys marks capacity key kept below out = omega (arith, kept.room, length-le_from_distinct_below (key ∷ keys) (length marks) more at)
   where
     more : IsDistinct nat_eq (key ∷ keys)
@@ -51,7 +53,9 @@ first keys marks capacity key kept below out = record {
   once = IsDistinct-cons nat_eq key keys (all-apart (nat_eq key) keys out) kept.once;
   marked = λ q. ⊎_elim
       (λ equal. rw equal (rw (eqb-true q key equal) (get_or-set_same marks key true false below)))
-      (λ differs. rw differs (get_or-set_other marks key q true false (λ same. let bad : true ≡ false = sym (eq-eqb q key same) ∙ differs in cc) ∙ kept.marked q))
+      (λ differs. rw differs
+      (get_or-set_other marks key q true false (λ same. let bad : true ≡ false = sym (eq-eqb q key same) ∙ differs in
+      cc) ∙ kept.marked q))
       (cases_Bool (nat_eq q key));
   room = rw (length-set marks key true) kept.room;
 }
@@ -87,7 +91,8 @@ rest keys marks capacity key kept = record {
   once = IsDistinct-tail nat_eq key keys kept.once;
   marked = λ q. ⊎_elim
       (λ equal. rw (eqb-true q key equal) (get_or-set_same marks key false false below ∙ sym (alone keys marks capacity key kept)))
-      (λ differs. get_or-set_other marks key q false false (λ same. let bad : true ≡ false = sym (eq-eqb q key same) ∙ differs in cc) ∙ kept.marked q ∙ headless q differs)
+      (λ differs. get_or-set_other marks key q false false (λ same. let bad : true ≡ false = sym (eq-eqb q key same)
+      ∙ differs in cc) ∙ kept.marked q ∙ headless q differs)
       (cases_Bool (nat_eq q key));
   room = rw (length-set marks key false) kept.room;
 }
@@ -108,11 +113,13 @@ none keys marks capacity no_key no_mark = rw no_key (rw no_mark (record {
 }))
 
 -- a key whose mark was read as none stands nowhere
-pub unmarked : (keys : List ℕ) (marks : List Bool) (capacity key : ℕ) (mark : Bool) → MarksKeys keys marks capacity → mark ≡ slice_index_or marks key mark → mark ≡ false → is_queued keys key ≡ false
+pub unmarked : (keys : List ℕ) (marks : List Bool) (capacity key : ℕ) (mark : Bool) → MarksKeys keys marks capacity
+    → mark ≡ slice_index_or marks key mark → mark ≡ false → is_queued keys key ≡ false
 unmarked keys marks capacity key mark kept read clear = sym (kept.marked key) ∙ sym (subst (λ (b : Bool). b ≡ slice_index_or marks key b) clear read)
 
 -- the same keys and marks, in a block that holds as many at least
-pub larger : (keys now : List ℕ) (marks : List Bool) (capacity capacity_now : ℕ) → MarksKeys keys marks capacity → now ≡ keys → capacity ≤ capacity_now → MarksKeys now marks capacity_now
+pub larger : (keys now : List ℕ) (marks : List Bool) (capacity capacity_now : ℕ) → MarksKeys keys marks capacity
+    → now ≡ keys → capacity ≤ capacity_now → MarksKeys now marks capacity_now
 larger keys now marks capacity capacity_now kept same more = rw same (record {
   once = kept.once;
   marked = kept.marked;

@@ -1,5 +1,6 @@
 -- Clients that have more to do stand in the queue, as one comes, is served or goes.
-use Rattle.std.proofs.Common.{◌≡◌, ◌≢◌, ℕ, nat_eq, List, [], ◌∷◌, ◌++◌, drop, Option, Some, None, IfSome, IfNone, Bool, true, false, ◌||◌, if◌then◌else◌, refl, ap, sym, ◌∙◌, subst, ⊎_elim}
+use Rattle.std.proofs.Common.{◌≡◌, ◌≢◌, ℕ, nat_eq, List, [], ◌∷◌, ◌++◌, drop, Option, Some, None, IfSome, IfNone, Bool}
+use Rattle.std.proofs.Common.{true, false, ◌||◌, if◌then◌else◌, refl, ap, sym, ◌∙◌, subst, ⊎_elim}
 use Rattle.std.proofs.lemmas.Bool.{cases_Bool, eq-eqb, eqb-true}
 use Rattle.std.proofs.lemmas.List.Folds.{list_any-append}
 use Rattle.ready_client.specs.declared.client.Client.{Client}
@@ -12,12 +13,14 @@ use Rattle.ready_worker.specs.Queued.{MoreAreQueued, StayQueued}
 use Rattle.ready_worker.proofs.Placing.{left-by, placed-by, updates-at}
 
 -- the key at the head was taken
-pub popped : (old now : List ℕ) (key : ℕ) (taken : Option ℕ) → first_of old ≡ Some key → IfNone taken (old ≡ []) → IfSome taken (λ k. old ≡ k ∷ now) → now ≡ drop 1 old
+pub popped : (old now : List ℕ) (key : ℕ) (taken : Option ℕ) → first_of old ≡ Some key → IfNone taken (old ≡ [])
+    → IfSome taken (λ k. old ≡ k ∷ now) → now ≡ drop 1 old
 popped old now key None first none some = let bad : None ≡ Some key = sym (ap first_of none) ∙ first in cc
 popped old now key (Some k) first none some = sym (ap (drop 1) some)
 
 -- and stands there no more
-pub popped-out : (old now : List ℕ) (key : ℕ) (taken : Option ℕ) → first_of old ≡ Some key → IfNone taken (old ≡ []) → IfSome taken (λ k. old ≡ k ∷ now) → IfSome taken (λ k. is_queued now k ≡ false)
+pub popped-out : (old now : List ℕ) (key : ℕ) (taken : Option ℕ) → first_of old ≡ Some key → IfNone taken (old ≡ [])
+    → IfSome taken (λ k. old ≡ k ∷ now) → IfSome taken (λ k. is_queued now k ≡ false)
     → is_queued now key ≡ false
 popped-out old now key None first none some once = let bad : None ≡ Some key = sym (ap first_of none) ∙ first in cc
 popped-out old now key (Some k) first none some once = subst (λ (n : ℕ). is_queued now n ≡ false) same once
@@ -50,7 +53,8 @@ pushed-itself queue key = list_any-append (nat_eq key) queue (key ∷ []) ∙ ei
     either false b is = rw is refl
 
 -- a key was put at the head, or there is none to put
-pub put-first : {T : Type 0} (old now : Placed T) (key : ℕ) → (HasPlace old key → now.queue ≡ with_key_first old.queue key) → (placed_at old key ≡ None → now.queue ≡ old.queue)
+pub put-first : {T : Type 0} (old now : Placed T) (key : ℕ)
+    → (HasPlace old key → now.queue ≡ with_key_first old.queue key) → (placed_at old key ≡ None → now.queue ≡ old.queue)
     → StayQueued old.queue now.queue
 put-first {T} old now key put none other stands = by (placed_at old key) refl
   where
@@ -65,11 +69,14 @@ put-first {T} old now key put none other stands = by (placed_at old key) refl
 module _ {S K : Type 0} (old new : Placed (Client S K)) where
   -- the values are as they were, and those that were queued are so
   pub more-same : new.values ≡ old.values → StayQueued old.queue new.queue → MoreAreQueued old → MoreAreQueued new
-  more-same same stay more key client at has_more = stay key (more key client (sym (ap (λ (s : Slab (Client S K)). placed_at (record old { values = s }) key) same) ∙ at) has_more)
+  more-same same stay more key client at has_more =
+      stay key (more key client (sym (ap (λ (s : Slab (Client S K)). placed_at (record old { values = s }) key) same)
+      ∙ at) has_more)
 
   -- a client came that had no turn yet, where there was memory, or nothing changed
   pub more-put : (client : Client S K) (put : Bool) → (put ≡ true → Updates old.values new.values old.values.vacant_key (Some client))
-      → (put ≡ false → new.values ≡ record old.values { capacity = new.values.capacity }) → new.queue ≡ old.queue → client.last ≡ Waits → MoreAreQueued old → MoreAreQueued new
+      → (put ≡ false → new.values ≡ record old.values { capacity = new.values.capacity }) → new.queue ≡ old.queue
+      → client.last ≡ Waits → MoreAreQueued old → MoreAreQueued new
   more-put client put came same queue idle more key there at has_more = subst (λ (q : List ℕ). is_queued q key ≡ true) (sym queue) (⊎_elim
       (λ put_there. ⊎_elim
       (λ one. let bad : Waits ≡ More = sym idle ∙ ap (λ (c : Client S K). c.last) one.1 ∙ has_more in cc)
@@ -79,7 +86,8 @@ module _ {S K : Type 0} (old new : Placed (Client S K)) where
       (cases_Bool put))
 
 -- a client that stands in the queue was served
-pub more-served : {S K : Type 0} (old : Placed (Client S K)) (key : ℕ) (now : Client S K) → HasPlace old key → is_queued old.queue key ≡ true → MoreAreQueued old → MoreAreQueued (with_value_at old key now)
+pub more-served : {S K : Type 0} (old : Placed (Client S K)) (key : ℕ) (now : Client S K) → HasPlace old key
+    → is_queued old.queue key ≡ true → MoreAreQueued old → MoreAreQueued (with_value_at old key now)
 more-served old key now placed stands more other there at has_more = ⊎_elim
     (λ one. subst (λ (k : ℕ). is_queued old.queue k ≡ true) (sym one.0) stands)
     (λ another. more other there another.1 has_more)
@@ -98,8 +106,11 @@ module _ {S K : Type 0} (old new : Placed (Client S K)) (key : ℕ) where
 
       kept : turn ≢ More → new.values ≡ old.values → new.queue ≡ drop 1 old.queue → is_queued new.queue other ≡ true
       kept differs same queue = subst (λ (q : List ℕ). is_queued q other ≡ true) (sym queue) (⊎_elim
-          (λ equal. absurd (differs (at_key (λ (c : Client S K). c.last ≡ More → turn ≡ More) (placed_at old key) there (subst (λ (k : ℕ). placed_at old k ≡ Some there) (eqb-true other key equal) before) said has_more)))
-          (λ apart. popped-other old.queue key other first (λ is. let bad : true ≡ false = sym (eq-eqb other key is) ∙ apart in cc) (each other there before has_more))
+          (λ equal. absurd
+          (differs (at_key (λ (c : Client S K). c.last ≡ More → turn ≡ More) (placed_at old key) there
+          (subst (λ (k : ℕ). placed_at old k ≡ Some there) (eqb-true other key equal) before) said has_more)))
+          (λ apart. popped-other old.queue key other first (λ is. let bad : true ≡ false = sym (eq-eqb other key is)
+          ∙ apart in cc) (each other there before has_more))
           (cases_Bool (nat_eq other key)))
         where
           before : placed_at old other ≡ Some there
@@ -107,23 +118,30 @@ module _ {S K : Type 0} (old new : Placed (Client S K)) (key : ℕ) where
 
       by : (t : Turn) → turn ≡ t → is_queued new.queue other ≡ true
       by More is = subst (λ (p : Placed (Client S K)). is_queued p.queue other ≡ true) (sym (more is)) (⊎_elim
-          (λ equal. subst (λ (k : ℕ). is_queued (drop 1 old.queue ++ key ∷ []) k ≡ true) (sym (eqb-true other key equal)) (pushed-itself (drop 1 old.queue) key))
-          (λ apart. pushed (drop 1 old.queue) key other (popped-other old.queue key other first (λ same. let bad : true ≡ false = sym (eq-eqb other key same) ∙ apart in cc)
+          (λ equal. subst (λ (k : ℕ). is_queued (drop 1 old.queue ++ key ∷ []) k ≡ true)
+          (sym (eqb-true other key equal)) (pushed-itself (drop 1 old.queue) key))
+          (λ apart. pushed (drop 1 old.queue) key other
+          (popped-other old.queue key other first (λ same. let bad : true ≡ false = sym (eq-eqb other key same)
+          ∙ apart in cc)
           (each other there (sym (ap (λ (p : Placed (Client S K)). placed_at p other) (more is)) ∙ at) has_more)))
           (cases_Bool (nat_eq other key)))
-      by Waits is = kept (λ same. let bad : Waits ≡ More = sym is ∙ same in cc) (ap (λ (p : Placed (Client S K)). p.values) now) (ap (λ (p : Placed (Client S K)). p.queue) now)
+      by Waits is = kept (λ same. let bad : Waits ≡ More = sym is ∙ same in cc)
+          (ap (λ (p : Placed (Client S K)). p.values) now) (ap (λ (p : Placed (Client S K)). p.queue) now)
         where
           now : new ≡ record old { queue = drop 1 old.queue }
           now = waits (λ same. let bad : Waits ≡ More = sym is ∙ same in cc) (λ same. let bad : Waits ≡ Over = sym is ∙ same in cc)
-      by AwaitsCall is = kept (λ same. let bad : AwaitsCall ≡ More = sym is ∙ same in cc) (ap (λ (p : Placed (Client S K)). p.values) now) (ap (λ (p : Placed (Client S K)). p.queue) now)
+      by AwaitsCall is = kept (λ same. let bad : AwaitsCall ≡ More = sym is ∙ same in cc)
+          (ap (λ (p : Placed (Client S K)). p.values) now) (ap (λ (p : Placed (Client S K)). p.queue) now)
         where
           now : new ≡ record old { queue = drop 1 old.queue }
           now = waits (λ same. let bad : AwaitsCall ≡ More = sym is ∙ same in cc) (λ same. let bad : AwaitsCall ≡ Over = sym is ∙ same in cc)
-      by AwaitsCaller is = kept (λ same. let bad : AwaitsCaller ≡ More = sym is ∙ same in cc) (ap (λ (p : Placed (Client S K)). p.values) now) (ap (λ (p : Placed (Client S K)). p.queue) now)
+      by AwaitsCaller is = kept (λ same. let bad : AwaitsCaller ≡ More = sym is ∙ same in cc)
+          (ap (λ (p : Placed (Client S K)). p.values) now) (ap (λ (p : Placed (Client S K)). p.queue) now)
         where
           now : new ≡ record old { queue = drop 1 old.queue }
           now = waits (λ same. let bad : AwaitsCaller ≡ More = sym is ∙ same in cc) (λ same. let bad : AwaitsCaller ≡ Over = sym is ∙ same in cc)
       by Over is = subst (λ (q : List ℕ). is_queued q other ≡ true) (sym (gone is)) (⊎_elim
           (λ equal. let bad : None ≡ Some there = sym (over is).changed ∙ subst (λ (k : ℕ). placed_at new k ≡ Some there) (eqb-true other key equal) at in cc)
-          (λ apart. popped-other old.queue key other first (λ same. let bad : true ≡ false = sym (eq-eqb other key same) ∙ apart in cc) (each other there (left-by old new key (over is) other there at) has_more))
+          (λ apart. popped-other old.queue key other first (λ same. let bad : true ≡ false = sym (eq-eqb other key same)
+          ∙ apart in cc) (each other there (left-by old new key (over is) other there at) has_more))
           (cases_Bool (nat_eq other key)))

@@ -1,5 +1,7 @@
 -- What a line `regroup` does, by what came of the carry.
-use Rattle.std.proofs.Common.{ℕ, zero, suc, ◌≡◌, ◌+◌, ◌≤◌, ◌<◌, ◌⊎◌, inl, inr, ◌&&◌, Bool, true, false, nat_lt, nat_le, if◌then◌else◌, codes, List, [], ◌∷◌, ◌++◌, length, Option, Some, None, Result, Ok, Err, refl, sym, ap, subst, ◌∙◌, arith}
+use Rattle.std.proofs.Common.{ℕ, zero, suc, ◌≡◌, ◌+◌, ◌≤◌, ◌<◌, ◌⊎◌, inl, inr, ◌&&◌, Bool, true, false, nat_lt, nat_le}
+use Rattle.std.proofs.Common.{if◌then◌else◌, codes, List, [], ◌∷◌, ◌++◌, length, Option, Some, None, Result, Ok, Err}
+use Rattle.std.proofs.Common.{refl, sym, ap, subst, ◌∙◌, arith}
 use Rattle.std.proofs.lemmas.Bool.Decides.{nat_tests}
 use Rattle.std.specs.Prelude.{IfErr, IfOk, OnOk}
 use Rattle.std.specs.Fmt.{decimal}
@@ -59,7 +61,8 @@ waiting e led moving = by (next_delivery e.world) refl where
 all-true : (f : ℕ → Bool) (a n : ℕ) → ((d : ℕ) → a ≤ d → d < a + n → f d ≡ true) → list_all f (range_with_len a n) ≡ true
 all-true f a zero each = refl
 all-true f a (suc n) each =
-    ap (λ (b : Bool). b && list_all f (range_with_len (a + 1) n)) (each a (omega arith) (omega arith)) ∙ all-true f (a + 1) n (λ d low high. each d (omega (arith, low)) (omega (arith, high)))
+    ap (λ (b : Bool). b && list_all f (range_with_len (a + 1) n)) (each a (omega arith) (omega arith))
+    ∙ all-true f (a + 1) n (λ d low high. each d (omega (arith, low)) (omega (arith, high)))
 
 this-or-later : (a d : ℕ) → a ≤ d → (d ≡ a) ⊎ (a + 1 ≤ d)
 this-or-later a d low = by (nat_lt a d) refl where
@@ -93,7 +96,9 @@ too-long w s d long =
     one-false (λ x. nat_le (bytes_in w x) (space_of s)) 0 w.shape.k d (omega arith) (omega (arith, there)) (above (bytes_in w d) (space_of s) long.long)
 
 -- what came of a carry, by the clauses of it
-pub from-carry : (e f : Eras) (s : Dimensions) (r : Result ℕ CarryFault) → OnOk r (f ≡ carried e s) → IfOk r (λ n. n ≡ many_carried e) → OnOk r (CanCarry e.world s) → IfErr r (IsRefused e.world s) → IfErr r (IsLeft e f)
+pub from-carry : (e f : Eras) (s : Dimensions) (r : Result ℕ CarryFault) → OnOk r (f ≡ carried e s)
+    → IfOk r (λ n. n ≡ many_carried e) → OnOk r (CanCarry e.world s) → IfErr r (IsRefused e.world s)
+    → IfErr r (IsLeft e f)
     → HasCarriedOn e f s r
 from-carry e f s (Ok n) eras many can fault left = (can, eras, many)
 from-carry e f s (Err Down) eras many can fault left = (fault, left)
@@ -108,11 +113,15 @@ era-low e f s n era (can, is, many) same = let later = ap (λ (g : Eras). g.era)
 module _ (p : EraPlay) (s : Dimensions) where
   -- what the line does, by its three questions
   abbrev asks : Bool → Bool → Bool → EraNext
-  asks down waits space = if down then refuses p (codes "down") else (if waits then refuses p (codes "not_drained") else (if space then by_carry p s else refuses p (codes "no_space")))
+  asks down waits space = if down then refuses p (codes "down") else
+      (if waits then refuses p (codes "not_drained") else
+      (if space then by_carry p s else refuses p (codes "no_space")))
 
-  asked : (down waits space : Bool) → is_down p.eras.world ≡ down → is_some (next_delivery p.eras.world) ≡ waits → has_space p.eras.world s ≡ space → by_regroup p s ≡ asks down waits space
+  asked : (down waits space : Bool) → is_down p.eras.world ≡ down → is_some (next_delivery p.eras.world) ≡ waits
+      → has_space p.eras.world s ≡ space → by_regroup p s ≡ asks down waits space
   asked down waits space isdown iswaits isspace =
-      ap (λ (b : Bool). asks b (is_some (next_delivery p.eras.world)) (has_space p.eras.world s)) isdown ∙ ap (λ (b : Bool). asks down b (has_space p.eras.world s)) iswaits
+      ap (λ (b : Bool). asks b (is_some (next_delivery p.eras.world)) (has_space p.eras.world s)) isdown
+      ∙ ap (λ (b : Bool). asks down b (has_space p.eras.world s)) iswaits
       ∙ ap (asks down waits) isspace
 
   -- after want of memory anything goes
@@ -121,7 +130,9 @@ module _ (p : EraPlay) (s : Dimensions) where
   want-done Ends now = tt
   want-done (Refused fault) now = tt
 
-  written-done : (next : EraNext) (now : EraPlay) (turns : List Deed) (text wanted : List ℕ) (r : Result (Option (List ℕ)) LineFault) → next ≡ Goes (Some now) turns text → wanted ≡ text → IsWrittenAs wanted r
+  written-done : (next : EraNext) (now : EraPlay) (turns : List Deed) (text wanted : List ℕ)
+      (r : Result (Option (List ℕ)) LineFault) → next ≡ Goes (Some now) turns text → wanted ≡ text
+      → IsWrittenAs wanted r
       → HasDone (Some p) next (Some now) r
   written-done next now turns text wanted r is same written = subst (λ (x : EraNext). HasDone (Some p) x (Some now) r) (sym is) (by r written) where
     by : (r : Result (Option (List ℕ)) LineFault) → IsWrittenAs wanted r → HasDone (Some p) (Goes (Some now) turns text) (Some now) r
@@ -131,7 +142,8 @@ module _ (p : EraPlay) (s : Dimensions) where
     by (Err line.BadLine) written = absurd written
     by (Err (line.BadShape field)) written = absurd written
 
-  pub carry-done : (f : Eras) (n era from : ℕ) (r : Result (Option (List ℕ)) LineFault) → IsLed p.eras → HasCarriedOn p.eras f s (Ok n) → era ≡ p.eras.era → from ≡ length p.eras.world.log
+  pub carry-done : (f : Eras) (n era from : ℕ) (r : Result (Option (List ℕ)) LineFault) → IsLed p.eras
+      → HasCarriedOn p.eras f s (Ok n) → era ≡ p.eras.era → from ≡ length p.eras.world.log
       → IsWrittenAs (carried_text f era from n) r → HasDone (Some p) (by_regroup p s) (Some (record { eras = f; moment = p.moment })) r
   carry-done f n era from r led (can, is, many) era_is from_is written =
       written-done (by_regroup p s) (record { eras = f; moment = p.moment }) (Carries s ∷ []) wanted (carried_text f era from n) r
@@ -140,20 +152,27 @@ module _ (p : EraPlay) (s : Dimensions) where
         wanted : List ℕ
         wanted = codes "regrouped " ++ (decimal (many_carried p.eras) ++ 10 ∷ era_entries_text (logged_since p.eras.log (carried p.eras s).log))
 
-        text-is : carried_text f era from n ≡ codes "regrouped " ++ (decimal (many_carried p.eras) ++ 10 ∷ era_entries_text (logged_since p.eras.log (carried p.eras s).log))
+        text-is : carried_text f era from n ≡ codes "regrouped "
+            ++ (decimal (many_carried p.eras) ++ 10 ∷ era_entries_text (logged_since p.eras.log (carried p.eras s).log))
         text-is = ap (λ (g : Eras). carried_text g era from n) is ∙ ap (λ (k : ℕ). carried_text (carried p.eras s) era from k) many
-            ∙ ap (λ (xs : List ℕ). codes "regrouped " ++ (decimal (many_carried p.eras) ++ 10 ∷ xs)) (carry-written p.eras s era from (carried p.eras s).era led era_is from_is refl)
+            ∙ ap (λ (xs : List ℕ). codes "regrouped " ++ (decimal (many_carried p.eras) ++ 10 ∷ xs))
+            (carry-written p.eras s era from (carried p.eras s).era led era_is from_is refl)
 
-  refusal-at : (text : List ℕ) (f : Eras) (wanted : List ℕ) (r : Result (Option (List ℕ)) LineFault) → by_regroup p s ≡ refuses p text → f ≡ p.eras → wanted ≡ text ++ 10 ∷ [] → IsWrittenAs wanted r
+  refusal-at : (text : List ℕ) (f : Eras) (wanted : List ℕ) (r : Result (Option (List ℕ)) LineFault)
+      → by_regroup p s ≡ refuses p text → f ≡ p.eras → wanted ≡ text ++ 10 ∷ [] → IsWrittenAs wanted r
       → HasDone (Some p) (by_regroup p s) (Some (record { eras = f; moment = p.moment })) r
   refusal-at text f wanted r next same is written =
-      subst (λ (g : Eras). HasDone (Some p) (by_regroup p s) (Some (record { eras = g; moment = p.moment })) r) (sym same) (written-done (by_regroup p s) p [] (text ++ 10 ∷ []) wanted r next is written)
+      subst (λ (g : Eras). HasDone (Some p) (by_regroup p s) (Some (record { eras = g; moment = p.moment })) r)
+      (sym same) (written-done (by_regroup p s) p [] (text ++ 10 ∷ []) wanted r next is written)
 
-  pub refusal-done : (f : Eras) (fault : CarryFault) (r : Result (Option (List ℕ)) LineFault) → IsLed p.eras → HasCarriedOn p.eras f s (Err fault) → HasToldRefusal fault r
+  pub refusal-done : (f : Eras) (fault : CarryFault) (r : Result (Option (List ℕ)) LineFault) → IsLed p.eras
+      → HasCarriedOn p.eras f s (Err fault) → HasToldRefusal fault r
       → HasDone (Some p) (by_regroup p s) (Some (record { eras = f; moment = p.moment })) r
-  refusal-done f Down r led (down, same) told = refusal-at (codes "down") f (codes "down\n") r (asked true _ _ (is-down p.eras.world down) refl refl) same refl told
+  refusal-done f Down r led (down, same) told = refusal-at (codes "down") f (codes "down\n") r
+      (asked true _ _ (is-down p.eras.world down) refl refl) same refl told
   refusal-done f NotDrained r led (moving, same) told =
-      refusal-at (codes "not_drained") f (codes "not_drained\n") r (asked false true _ (not-down p.eras.world moving.0) (waiting p.eras led moving.1) refl) same refl told
+      refusal-at (codes "not_drained") f (codes "not_drained\n") r
+      (asked false true _ (not-down p.eras.world moving.0) (waiting p.eras led moving.1) refl) same refl told
   refusal-done f (NoSpace d) r led (long, same) told =
       refusal-at (codes "no_space") f (codes "no_space\n") r
       (asked false false false (not-down p.eras.world long.0.up) (at-rest p.eras led long.0.drained) (too-long p.eras.world s d.0 long.1)) same refl told

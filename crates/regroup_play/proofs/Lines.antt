@@ -34,8 +34,13 @@ record Went (before now : Option EraPlay) (bytes text : List ℕ) : Type 0 where
   deeds : List Deed
   next : next_of before bytes ≡ Goes now deeds text
 
-went_by : (before : Option EraPlay) (next : EraNext) (now : Option EraPlay) (text : List ℕ) → HasDone before next now (Ok (Some text)) → (deeds : List Deed) × (next ≡ Goes now deeds text)
-went_by before (Goes play deeds written) now text done = (deeds, ap (λ (p : Option EraPlay). Goes p deeds written) (sym done.0) ∙ ap (λ (xs : List ℕ). Goes now deeds xs) (sym done.1))
+went_by : (before : Option EraPlay) (next : EraNext) (now : Option EraPlay) (text : List ℕ)
+    → HasDone before next now (Ok (Some text)) → (deeds : List Deed) × (next ≡ Goes now deeds text)
+went_by before (Goes play deeds written) now text done = (
+  deeds,
+  ap (λ (p : Option EraPlay). Goes p deeds written) (sym done.0) ∙ ap (λ (xs : List ℕ). Goes now deeds xs)
+      (sym done.1),
+)
 went_by before Ends now text done = absurd done
 went_by before (Refused fault) now text done = absurd done
 
@@ -47,7 +52,8 @@ ended before (Goes play deeds text) now done = absurd done
 ended before Ends now done = (refl, done)
 ended before (Refused fault) now done = absurd done
 
-refused : (before : Option EraPlay) (next : EraNext) (now : Option EraPlay) (cause : LineFault) → HasDone before next now (Err cause) → (cause ≡ Want) ⊎ (next ≡ Refused cause)
+refused : (before : Option EraPlay) (next : EraNext) (now : Option EraPlay) (cause : LineFault)
+    → HasDone before next now (Err cause) → (cause ≡ Want) ⊎ (next ≡ Refused cause)
 refused before next now Want done = inl refl
 refused before (Refused fault) now BadLine done = inr (ap Refused (sym done))
 refused before (Refused fault) now (BadShape bad) done = inr (ap Refused (sym done))
@@ -61,11 +67,20 @@ opens-ready : (now : Option EraPlay) (deeds : List Deed) (text : List ℕ) → r
 opens-ready now deeds text opens = by opens.is where
   by : (now ≡ None) ⊎ ((s : Dimensions) × IsShape s × (now ≡ Some (record { eras = first_era (opening s); moment = 0 }))) → ErasGoOn now
   by (inl none) = subst ErasGoOn (sym none) tt
-  by (inr (s, limits, some)) = subst ErasGoOn (sym some) (record { led = leading.is-led s (first_era (opening s)) (leading.opened s limits); moment = omega arith })
+  by (inr (s, limits, some)) =
+      subst ErasGoOn (sym some) (record {
+        led = leading.is-led s (first_era (opening s)) (leading.opened s limits);
+        moment = omega arith;
+      })
 
 goes-ready : (p : EraPlay) (now : Option EraPlay) (deeds : List Deed) → IsReadyFor p → running.GoesOn p now deeds → ErasGoOn now
 goes-ready p now deeds ready on =
-    subst ErasGoOn (sym on.is) (record { led = leading.is-led ready.led.s on.play.eras (leading.led-on ready.led.s p.eras on.play.eras deeds (led-to p.eras ready.led) on.leads); moment = on.moment })
+    subst ErasGoOn (sym on.is)
+    (record {
+      led = leading.is-led ready.led.s on.play.eras
+          (leading.led-on ready.led.s p.eras on.play.eras deeds (led-to p.eras ready.led) on.leads);
+      moment = on.moment;
+    })
 
 ready-on : (before now : Option EraPlay) (bytes text : List ℕ) → ErasGoOn before → Went before now bytes text → ErasGoOn now
 ready-on None now bytes text ready w = opens-ready now w.deeds text (running.line-opens bytes now w.deeds text w.next)
@@ -73,7 +88,9 @@ ready-on (Some p) now bytes text ready w = goes-ready p now w.deeds ready (runni
 
 -- what a player over eras tells
 abbrev pub tells : Telling (Option EraPlay)
-tells = telling (λ play lines. text_in next_of play lines) (λ n play lines. told_of told_at (fault_in next_of BadLine n play lines)) (λ play lines. log_len (end_in play lines)) (λ n play. ErasGoOn play)
+tells = telling (λ play lines. text_in next_of play lines)
+    (λ n play lines. told_of told_at (fault_in next_of BadLine n play lines))
+    (λ play lines. log_len (end_in play lines)) (λ n play. ErasGoOn play)
 
 -- the same without its entries
 abbrev bare : Telling (Option EraPlay)
@@ -84,10 +101,12 @@ end-on : (before : Option EraPlay) (line : List ℕ) (lines : List (List ℕ)) (
 end-on before line lines next is = ap (λ (x : EraNext). elim x [ Goes play deeds text ↦ end_in play lines | Ends ↦ before | Refused fault ↦ before ]) is
 
 module _ (n : ℕ) (before now : Option EraPlay) (bytes : List ℕ) where
-  pub treated-on : (text : List ℕ) → ErasGoOn before → HasDone before (next_of before bytes) now (Ok (Some text)) → HasTreatedLine tells n before now bytes (Ok (Some text))
+  pub treated-on : (text : List ℕ) → ErasGoOn before → HasDone before (next_of before bytes) now (Ok (Some text))
+      → HasTreatedLine tells n before now bytes (Ok (Some text))
   treated-on text ready done =
       let on : Went before now bytes text = went before now bytes text done in
-      let goes : GoesOn bare n before now bytes text = treating.goes-on next_of BadLine told_at (λ play. 0) (λ deeds. 0) (λ n play. ErasGoOn play) n before now bytes on.deeds text on.next (λ more. refl) refl
+      let goes : GoesOn bare n before now bytes text = treating.goes-on next_of BadLine told_at (λ play. 0) (λ deeds. 0)
+      (λ n play. ErasGoOn play) n before now bytes on.deeds text on.next (λ more. refl) refl
       (ready-on before now bytes text ready on) in
       record {
         text = goes.text;
@@ -107,9 +126,12 @@ module _ (n : ℕ) (before now : Option EraPlay) (bytes : List ℕ) where
       )
 
   refuses : (cause : LineFault) → next_of before bytes ≡ Refused cause → EndsAt tells n before bytes (told_at n cause)
-  refuses cause next = ends-here (told_at n cause) (treating.refused-at next_of BadLine told_at (λ play. 0) (λ deeds. 0) (λ n play. ErasGoOn play) n before bytes cause next)
+  refuses cause next =
+      ends-here (told_at n cause) (treating.refused-at next_of BadLine told_at (λ play. 0) (λ deeds. 0)
+      (λ n play. ErasGoOn play) n before bytes cause next)
 
-  pub treated-refused : (cause : LineFault) → HasDone before (next_of before bytes) now (Err cause) → HasTreatedLine tells n before now bytes (Err (told_at n cause))
+  pub treated-refused : (cause : LineFault) → HasDone before (next_of before bytes) now (Err cause)
+      → HasTreatedLine tells n before now bytes (Err (told_at n cause))
   treated-refused Want done = inl refl
   treated-refused BadLine done = which (refused before (next_of before bytes) now BadLine done) where
     which : (BadLine ≡ Want) ⊎ (next_of before bytes ≡ Refused BadLine) → HasTreatedLine tells n before now bytes (Err (told_at n BadLine))

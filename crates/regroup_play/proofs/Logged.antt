@@ -1,5 +1,6 @@
 -- What was logged since stands last among the entries of its era.
-use Rattle.std.proofs.Common.{ℕ, suc, ◌≡◌, ◌≢◌, ◌<◌, ◌==◌, Bool, true, false, List, [], ◌∷◌, ◌++◌, length, drop, map, if◌then◌else◌, refl, sym, ap, subst, ◌∙◌, append_assoc, append-nil, arith}
+use Rattle.std.proofs.Common.{ℕ, suc, ◌≡◌, ◌≢◌, ◌<◌, ◌==◌, Bool, true, false, List, [], ◌∷◌, ◌++◌, length, drop, map}
+use Rattle.std.proofs.Common.{if◌then◌else◌, refl, sym, ap, subst, ◌∙◌, append_assoc, append-nil, arith}
 use Rattle.std.proofs.Math.Seq.{drop-append_seam}
 use Rattle.std.proofs.lemmas.Bool.Decides.{nat_tests}
 use Rattle.group_types.specs.Dimensions.{Dimensions}
@@ -44,27 +45,32 @@ other-number n m is = grind (arith, nat_tests)
 own-entries : (era : ℕ) (xs : List EraEntry) → AllOf era xs → entries_of era xs ≡ plain xs
 own-entries era [] own = refl
 own-entries era (x ∷ xs) own =
-    ap (λ (t : Bool). if t then x.1 ∷ entries_of era xs else entries_of era xs) (same-number x.0 era own.0) ∙ ap (λ (ys : List Entry). x.1 ∷ ys) (own-entries era xs own.1)
+    ap (λ (t : Bool). if t then x.1 ∷ entries_of era xs else entries_of era xs) (same-number x.0 era own.0)
+    ∙ ap (λ (ys : List Entry). x.1 ∷ ys) (own-entries era xs own.1)
 
 no-entries : (era : ℕ) (xs : List EraEntry) → NoneOf era xs → entries_of era xs ≡ []
 no-entries era [] none = refl
-no-entries era (x ∷ xs) none = ap (λ (t : Bool). if t then x.1 ∷ entries_of era xs else entries_of era xs) (other-number x.0 era none.0) ∙ no-entries era xs none.1
+no-entries era (x ∷ xs) none = ap (λ (t : Bool). if t then x.1 ∷ entries_of era xs else entries_of era xs)
+    (other-number x.0 era none.0) ∙ no-entries era xs none.1
 
 own-text : (era : ℕ) (xs : List EraEntry) → AllOf era xs → marked_entries (era_mark era) (plain xs) ≡ era_entries_text xs
 own-text era [] own = refl
 own-text era (x ∷ xs) own =
-    ap (λ (n : ℕ). marked (era_mark n) x.1 ++ 10 ∷ marked_entries (era_mark era) (plain xs)) (sym own.0) ∙ ap (λ (ys : List ℕ). marked (era_mark x.0) x.1 ++ 10 ∷ ys) (own-text era xs own.1)
+    ap (λ (n : ℕ). marked (era_mark n) x.1 ++ 10 ∷ marked_entries (era_mark era) (plain xs)) (sym own.0)
+    ∙ ap (λ (ys : List ℕ). marked (era_mark x.0) x.1 ++ 10 ∷ ys) (own-text era xs own.1)
 
 text-append : (a b : List EraEntry) → era_entries_text (a ++ b) ≡ era_entries_text a ++ era_entries_text b
 text-append [] b = refl
-text-append (x ∷ a) b = ap (λ (ys : List ℕ). marked (era_mark x.0) x.1 ++ 10 ∷ ys) (text-append a b) ∙ sym (append_assoc (marked (era_mark x.0) x.1) (10 ∷ era_entries_text a) (era_entries_text b))
+text-append (x ∷ a) b = ap (λ (ys : List ℕ). marked (era_mark x.0) x.1 ++ 10 ∷ ys) (text-append a b)
+    ∙ sym (append_assoc (marked (era_mark x.0) x.1) (10 ∷ era_entries_text a) (era_entries_text b))
 
 each-append : (P : EraEntry → Type 0) (a b : List EraEntry) → Each P a → Each P b → Each P (a ++ b)
 each-append P [] b all more = more
 each-append P (x ∷ a) b all more = (all.0, each-append P a b all.1 more)
 
 -- entries of the current era's log are told one by one
-told-own : (bases : Bases) (k : ℕ) (asked : List Event) (era : ℕ) (xs : List Entry) (ys : List EraEntry) → AreTold bases k asked era xs ys → AllOf era ys × (length ys ≡ length xs)
+told-own : (bases : Bases) (k : ℕ) (asked : List Event) (era : ℕ) (xs : List Entry) (ys : List EraEntry)
+    → AreTold bases k asked era xs ys → AllOf era ys × (length ys ≡ length xs)
 told-own bases k asked era [] [] told = (tt, refl)
 told-own bases k asked era (x ∷ xs) (y ∷ ys) told = let rest = told-own bases k asked era xs ys told.2 in ((told.0, rest.0), ap suc rest.1)
 told-own bases k asked era [] (y ∷ ys) told = absurd told
@@ -98,9 +104,13 @@ pub record Standing (e : Eras) : Type 0 where
 pub standing : (e : Eras) → IsLed e → Standing e
 standing e led = record {
   many = ap (λ (xs : List EraEntry). length (entries_of e.era xs)) era.log ∙ ap length (entries-append e.era era.before era.own)
-      ∙ ap (λ (xs : List Entry). length (xs ++ entries_of e.era era.own)) (no-entries e.era era.before (earlier-none e.era era.before era.earlier)) ∙ ap length (own-entries e.era era.own own.0)
+      ∙ ap (λ (xs : List Entry). length (xs ++ entries_of e.era era.own))
+      (no-entries e.era era.before (earlier-none e.era era.before era.earlier))
+      ∙ ap length (own-entries e.era era.own own.0)
       ∙ plain-many era.own ∙ own.1;
-  none = subst (NoneOf (suc e.era)) (sym era.log) (each-append (λ x. x.0 ≢ suc e.era) era.before era.own (earlier-next e.era era.before era.earlier) (own-next e.era era.own own.0));
+  none = subst (NoneOf (suc e.era)) (sym era.log)
+      (each-append (λ x. x.0 ≢ suc e.era) era.before era.own (earlier-next e.era era.before era.earlier)
+      (own-next e.era era.own own.0));
 } where
   era : IsEra e
   era = (eras_are_runs e led).era
@@ -134,16 +144,19 @@ grown e (x ∷ xs) =
 behind : (a b : List EraEntry) → logged_since a (a ++ b) ≡ b
 behind a b = drop-append_seam a b
 
-last-entries : (e : Eras) (more log : List EraEntry) → Standing e → log ≡ e.log ++ more → drop (length e.world.log) (entries_of e.era log) ≡ entries_of e.era more
+last-entries : (e : Eras) (more log : List EraEntry) → Standing e → log ≡ e.log ++ more
+    → drop (length e.world.log) (entries_of e.era log) ≡ entries_of e.era more
 last-entries e more log stands is =
-    ap (λ (n : ℕ). drop n (entries_of e.era log)) (sym stands.many) ∙ ap (λ (xs : List EraEntry). drop (length (entries_of e.era e.log)) (entries_of e.era xs)) is
+    ap (λ (n : ℕ). drop n (entries_of e.era log)) (sym stands.many)
+    ∙ ap (λ (xs : List EraEntry). drop (length (entries_of e.era e.log)) (entries_of e.era xs)) is
     ∙ ap (drop (length (entries_of e.era e.log))) (entries-append e.era e.log more) ∙ drop-append_seam (entries_of e.era e.log) (entries_of e.era more)
 
 -- the text of what was logged since
 pub since-written : (e f : Eras) (era from : ℕ) → IsLed e → Grown e f → era ≡ f.era → from ≡ length e.world.log
     → marked_entries (era_mark era) (drop from (entries_of era f.log)) ≡ era_entries_text (logged_since e.log f.log)
 since-written e f era from led g is at =
-    ap (λ (n : ℕ). marked_entries (era_mark n) (drop from (entries_of n f.log))) (is ∙ g.era) ∙ ap (λ (n : ℕ). marked_entries (era_mark e.era) (drop n (entries_of e.era f.log))) at
+    ap (λ (n : ℕ). marked_entries (era_mark n) (drop from (entries_of n f.log))) (is ∙ g.era)
+    ∙ ap (λ (n : ℕ). marked_entries (era_mark e.era) (drop n (entries_of e.era f.log))) at
     ∙ ap (marked_entries (era_mark e.era)) (last-entries e g.more f.log (standing e led) g.log ∙ own-entries e.era g.more g.own) ∙ own-text e.era g.more g.own
     ∙ sym (ap era_entries_text (ap (logged_since e.log) g.log ∙ behind e.log g.more))
 
@@ -168,27 +181,34 @@ module _ (e : Eras) (s : Dimensions) where
   set-own : AllOf (suc e.era) set.more
   set-own = subst (λ (n : ℕ). AllOf n set.more) (ap suc read.era) set.own
 
-  old-text : (from : ℕ) → IsLed e → from ≡ length e.world.log → marked_entries (era_mark e.era) (drop from (entries_of e.era (carried e s).log)) ≡ era_entries_text read.more
+  old-text : (from : ℕ) → IsLed e → from ≡ length e.world.log
+      → marked_entries (era_mark e.era) (drop from (entries_of e.era (carried e s).log)) ≡ era_entries_text read.more
   old-text from led at =
       ap (λ (n : ℕ). marked_entries (era_mark e.era) (drop n (entries_of e.era (carried e s).log))) at
-      ∙ ap (marked_entries (era_mark e.era)) (last-entries e (read.more ++ set.more) (carried e s).log (standing e led) whole ∙ entries-append e.era read.more set.more
-      ∙ ap (λ (xs : List Entry). entries_of e.era read.more ++ xs) (no-entries e.era set.more (next-own e.era set.more set-own)) ∙ append-nil (entries_of e.era read.more)
+      ∙ ap (marked_entries (era_mark e.era)) (last-entries e (read.more ++ set.more) (carried e s).log (standing e led)
+      whole ∙ entries-append e.era read.more set.more
+      ∙ ap (λ (xs : List Entry). entries_of e.era read.more ++ xs)
+      (no-entries e.era set.more (next-own e.era set.more set-own)) ∙ append-nil (entries_of e.era read.more)
       ∙ own-entries e.era read.more read.own) ∙ own-text e.era read.more read.own
 
   new-text : IsLed e → marked_entries (era_mark (suc e.era)) (entries_of (suc e.era) (carried e s).log) ≡ era_entries_text set.more
   new-text led =
-      ap (λ (xs : List EraEntry). marked_entries (era_mark (suc e.era)) (entries_of (suc e.era) xs)) (set.log ∙ ap (λ (xs : List EraEntry). xs ++ set.more) read.log)
+      ap (λ (xs : List EraEntry). marked_entries (era_mark (suc e.era)) (entries_of (suc e.era) xs))
+      (set.log ∙ ap (λ (xs : List EraEntry). xs ++ set.more) read.log)
       ∙ ap (marked_entries (era_mark (suc e.era))) (entries-append (suc e.era) (e.log ++ read.more) set.more
       ∙ ap (λ (xs : List Entry). xs ++ entries_of (suc e.era) set.more) (no-entries (suc e.era) (e.log ++ read.more)
       (each-append (λ x. x.0 ≢ suc e.era) e.log read.more (standing e led).none (own-next e.era read.more read.own)))
       ∙ own-entries (suc e.era) set.more set-own) ∙ own-text (suc e.era) set.more set-own
 
   pub carry-written : (era from now : ℕ) → IsLed e → era ≡ e.era → from ≡ length e.world.log → now ≡ (carried e s).era
-      → marked_entries (era_mark era) (drop from (entries_of era (carried e s).log)) ++ marked_entries (era_mark now) (drop 0 (entries_of now (carried e s).log))
+      → marked_entries (era_mark era) (drop from (entries_of era (carried e s).log))
+      ++ marked_entries (era_mark now) (drop 0 (entries_of now (carried e s).log))
       ≡ era_entries_text (logged_since e.log (carried e s).log)
   carry-written era from now led is at later =
-      ap (λ (n : ℕ). marked_entries (era_mark n) (drop from (entries_of n (carried e s).log)) ++ marked_entries (era_mark now) (entries_of now (carried e s).log)) is
-      ∙ ap (λ (n : ℕ). marked_entries (era_mark e.era) (drop from (entries_of e.era (carried e s).log)) ++ marked_entries (era_mark n) (entries_of n (carried e s).log)) (later ∙ carried-era)
+      ap (λ (n : ℕ). marked_entries (era_mark n) (drop from (entries_of n (carried e s).log))
+      ++ marked_entries (era_mark now) (entries_of now (carried e s).log)) is
+      ∙ ap (λ (n : ℕ). marked_entries (era_mark e.era) (drop from (entries_of e.era (carried e s).log))
+      ++ marked_entries (era_mark n) (entries_of n (carried e s).log)) (later ∙ carried-era)
       ∙ ap (λ (xs : List ℕ). xs ++ marked_entries (era_mark (suc e.era)) (entries_of (suc e.era) (carried e s).log)) (old-text from led at)
       ∙ ap (λ (xs : List ℕ). era_entries_text read.more ++ xs) (new-text led) ∙ sym (text-append read.more set.more)
       ∙ sym (ap era_entries_text (ap (logged_since e.log) whole ∙ behind e.log (read.more ++ set.more)))

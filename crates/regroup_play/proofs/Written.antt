@@ -19,8 +19,10 @@ abbrev pub since : Eras → ℕ → ℕ → List ℕ
 since f era from = marked_entries (era_mark era) (drop from (entries_of era f.log))
 
 module _ (p : EraPlay) (f : Eras) (era from : ℕ) (led : IsLed p.eras) where
-  pub event-done : (x : Event) (answer : Answer) (line text : List ℕ) → f ≡ (era_step p.eras x).eras → answer ≡ (era_step p.eras x).answer → line ≡ answer_text answer ++ 10 ∷ [] → era ≡ f.era
-      → from ≡ length p.eras.world.log → text ≡ line ++ since f era from → HasDone (Some p) (by_event p x) (Some (record { eras = f; moment = p.moment })) (Ok (Some text))
+  pub event-done : (x : Event) (answer : Answer) (line text : List ℕ) → f ≡ (era_step p.eras x).eras
+      → answer ≡ (era_step p.eras x).answer → line ≡ answer_text answer ++ 10 ∷ [] → era ≡ f.era
+      → from ≡ length p.eras.world.log → text ≡ line ++ since f era from
+      → HasDone (Some p) (by_event p x) (Some (record { eras = f; moment = p.moment })) (Ok (Some text))
   event-done x answer line text is told line_is era_is from_is text_is = (
     ap (λ (g : Eras). Some (record { eras = g; moment = p.moment })) is,
     text_is ∙ ap (λ (xs : List ℕ). xs ++ since f era from) line_is ∙ append_assoc (answer_text answer) (10 ∷ []) (since f era from)
@@ -30,14 +32,19 @@ module _ (p : EraPlay) (f : Eras) (era from : ℕ) (led : IsLed p.eras) where
     behind = rw is (grown p.eras (x ∷ []))
 
     logged : since f era from ≡ era_entries_text (era_step p.eras x).logged
-    logged = since-written p.eras f era from led behind era_is from_is ∙ ap (λ (g : Eras). era_entries_text (logged_since p.eras.log g.log)) is ∙ ap era_entries_text (since-event p.eras x)
+    logged = since-written p.eras f era from led behind era_is from_is
+        ∙ ap (λ (g : Eras). era_entries_text (logged_since p.eras.log g.log)) is
+        ∙ ap era_entries_text (since-event p.eras x)
 
-  pub drain-done : (count : ℕ) (start middle text : List ℕ) → f ≡ eras_after p.eras (draining p.eras.world) → count ≡ length (draining p.eras.world) → era ≡ f.era → from ≡ length p.eras.world.log → start ≡ []
+  pub drain-done : (count : ℕ) (start middle text : List ℕ) → f ≡ eras_after p.eras (draining p.eras.world)
+      → count ≡ length (draining p.eras.world) → era ≡ f.era → from ≡ length p.eras.world.log → start ≡ []
       → middle ≡ start ++ since f era from → text ≡ middle ++ (codes "drained " ++ (decimal count ++ codes "\n"))
       → HasDone (Some p) (by_drain p (draining p.eras.world)) (Some (record { eras = f; moment = p.moment })) (Ok (Some text))
   drain-done count start middle text is many era_is from_is none middle_is text_is = (
     ap (λ (g : Eras). Some (record { eras = g; moment = p.moment })) is,
-    text_is ∙ ap (λ (xs : List ℕ). xs ++ end count) (middle_is ∙ ap (λ (xs : List ℕ). xs ++ since f era from) none ∙ logged) ∙ ap (λ (n : ℕ). era_entries_text (logged_since p.eras.log (eras_after p.eras events).log) ++ end n) many,
+    text_is ∙ ap (λ (xs : List ℕ). xs ++ end count) (middle_is ∙ ap (λ (xs : List ℕ). xs ++ since f era from) none
+        ∙ logged) ∙ ap (λ (n : ℕ). era_entries_text (logged_since p.eras.log (eras_after p.eras events).log) ++ end n)
+        many,
   ) where
     events : List Event
     events = draining p.eras.world

@@ -34,7 +34,9 @@ module _ (s : Dimensions) where
   drained-by : (n : ℕ) (e : Eras) (w : World) → e.world ≡ w → IsLedTo s w → ¬ (IsDown w) → MayAllMake e (drain_events n w)
   drained-by zero e w same led up = tt
   drained-by (suc n) e w same led up = by (next_delivery w) refl (λ f v. drained-by n f v) where
-    by : (next : Option Event) → next_delivery w ≡ next → ((f : Eras) (v : World) → f.world ≡ v → IsLedTo s v → ¬ (IsDown v) → MayAllMake f (drain_events n v)) → MayAllMake e (behind n w next)
+    by : (next : Option Event) → next_delivery w ≡ next
+        → ((f : Eras) (v : World) → f.world ≡ v → IsLedTo s v → ¬ (IsDown v) → MayAllMake f (drain_events n v))
+        → MayAllMake e (behind n w next)
     by None is later = tt
     by (Some x) is later =
         let one : Lightens w x = lightens s w x led up is in

@@ -1,5 +1,6 @@
 -- Every script's eras keep the promises of eras.
-use Rattle.std.proofs.Common.{ℕ, ◌≡◌, ◌+◌, ◌⊎◌, inl, inr, Bool, true, false, List, [], ◌∷◌, ◌++◌, codes, Option, Some, None, Result, Ok, Err, if◌then◌else◌, refl, sym, ap, subst, ◌∙◌, arith}
+use Rattle.std.proofs.Common.{ℕ, ◌≡◌, ◌+◌, ◌⊎◌, inl, inr, Bool, true, false, List, [], ◌∷◌, ◌++◌, codes, Option, Some}
+use Rattle.std.proofs.Common.{None, Result, Ok, Err, if◌then◌else◌, refl, sym, ap, subst, ◌∙◌, arith}
 use Rattle.group_types.specs.Dimensions.{Dimensions}
 use Rattle.group_types.specs.Names.{IsProcess}
 use Rattle.group_types.specs.Shape.{IsShape}
@@ -56,14 +57,16 @@ ready-on s p next deeds ready on = record { led = led-on s p.eras on.play.eras d
 truth : (s : Dimensions) (e : Eras) → IsLedTo s e → HoldsTruth e.world
 truth s e led = let run = world-led s e led in subst HoldsTruth (sym run.is) (truth_always e.world.shape run.events run.run)
 
-shows-truth : (e : Eras) (p : ProcessId) (run : Run) → IsProcess e.world.shape p → HoldsTruth e.world → ShowsTruth e p run (look e p (held e.world p run) ++ 10 ∷ [])
+shows-truth : (e : Eras) (p : ProcessId) (run : Run) → IsProcess e.world.shape p → HoldsTruth e.world
+    → ShowsTruth e p run (look e p (held e.world p run) ++ 10 ∷ [])
 shows-truth e p run pin truth = ap (λ (text : List ℕ). text ++ 10 ∷ []) (by (is_down e.world) (is_dead e.world p) refl refl) where
   by : (down dead : Bool) → is_down e.world ≡ down → is_dead e.world p ≡ dead → look e p (held e.world p run) ≡ look e p (told_bytes e.world p run)
   by true dead isdown isdead = rw isdown refl
   by false true isdown isdead =
       ap (λ (b : Bool). if b then codes "down" else (if is_dead e.world p then codes "lost" else shown_text (stamp_in e p) (held e.world p run))) isdown
       ∙ ap (λ (b : Bool). if b then codes "lost" else shown_text (stamp_in e p) (held e.world p run)) isdead
-      ∙ sym (ap (λ (b : Bool). if b then codes "down" else (if is_dead e.world p then codes "lost" else shown_text (stamp_in e p) (told_bytes e.world p run))) isdown
+      ∙ sym (ap (λ (b : Bool). if b then codes "down" else
+      (if is_dead e.world p then codes "lost" else shown_text (stamp_in e p) (told_bytes e.world p run))) isdown
       ∙ ap (λ (b : Bool). if b then codes "lost" else shown_text (stamp_in e p) (told_bytes e.world p run)) isdead)
   by false false isdown isdead = ap (look e p) (truth (up e.world isdown) p run (pin, isdead))
 
@@ -71,7 +74,9 @@ module _ (s : Dimensions) where
   runs : (p : EraPlay) (lines : List (List ℕ)) → IsReady s p → Runs p.eras (turns_in next_of (Some p) lines)
   runs p [] ready = none p.eras
   runs p (line ∷ lines) ready = by (next_of (Some p) line) refl (λ q. runs q lines) where
-    by : (next : EraNext) → next_of (Some p) line ≡ next → ((q : EraPlay) → IsReady s q → Runs q.eras (turns_in next_of (Some q) lines)) → Runs p.eras (turns_after next_of next lines)
+    by : (next : EraNext) → next_of (Some p) line ≡ next
+        → ((q : EraPlay) → IsReady s q → Runs q.eras (turns_in next_of (Some q) lines))
+        → Runs p.eras (turns_after next_of next lines)
     by Ends is later = none p.eras
     by (Refused fault) is later = none p.eras
     by (Goes next turns text) is later =
@@ -83,11 +88,13 @@ module _ (s : Dimensions) where
               (subst (λ (q : Option EraPlay). Leads on.play.eras rest.f (turns_in next_of q lines)) (sym on.is) rest.leads);
         }
 
-  true-read : (p : EraPlay) (l : Result Line LineFault) (next : Option EraPlay) (turns : List Deed) (text : List ℕ) → IsLedTo s p.eras → ((l' : Line) → l ≡ Ok l' → IsLineOf (Some p.eras.world.shape) l')
+  true-read : (p : EraPlay) (l : Result Line LineFault) (next : Option EraPlay) (turns : List Deed) (text : List ℕ)
+      → IsLedTo s p.eras → ((l' : Line) → l ≡ Ok l' → IsLineOf (Some p.eras.world.shape) l')
       → next_by (Some p) l ≡ Goes next turns text → IsTrueLine (Some p) l text
   true-read p (Err fault) next turns text led within is = tt
   true-read p (Ok (Show from run)) next turns text led within is =
-      (parts (Some p) next [] turns (look p.eras from (held p.eras.world from run) ++ 10 ∷ []) text is).2 ∙ shows-truth p.eras from run (within (Show from run) refl).0 (truth s p.eras led)
+      (parts (Some p) next [] turns (look p.eras from (held p.eras.world from run) ++ 10 ∷ []) text is).2
+      ∙ shows-truth p.eras from run (within (Show from run) refl).0 (truth s p.eras led)
   true-read p (Ok Skipped) next turns text led within is = tt
   true-read p (Ok (Group shape)) next turns text led within is = tt
   true-read p (Ok (Ask caller from act)) next turns text led within is = tt
@@ -102,17 +109,21 @@ module _ (s : Dimensions) where
   true-read p (Ok Stop) next turns text led within is = tt
 
   -- a line `regroup` is none that shows bytes
-  true-line : (p : EraPlay) (line : List ℕ) (next : Option EraPlay) (turns : List Deed) (text : List ℕ) → IsLedTo s p.eras → next_of (Some p) line ≡ Goes next turns text
+  true-line : (p : EraPlay) (line : List ℕ) (next : Option EraPlay) (turns : List Deed) (text : List ℕ)
+      → IsLedTo s p.eras → next_of (Some p) line ≡ Goes next turns text
       → IsTrueLine (Some p) (line_of (Some p.eras.world.shape) line) text
   true-line p line next turns text led is = by (regroups line) refl is where
     refused : (l : Result Line LineFault) → line_of (Some p.eras.world.shape) line ≡ l → regroups line ≡ true → IsTrueLine (Some p) l text
     refused (Err fault) reads names = tt
     refused (Ok l) reads names = absurd (reads-no-regroup p.eras.world.shape line l names reads)
 
-    by : (b : Bool) → regroups line ≡ b → (if b then regroup_by p (regroup_line p.eras.world.shape.k (words_of line)) else next_by (Some p) (line_of (Some p.eras.world.shape) line)) ≡ Goes next turns text
+    by : (b : Bool) → regroups line ≡ b
+        → (if b then regroup_by p (regroup_line p.eras.world.shape.k (words_of line)) else next_by (Some p)
+        (line_of (Some p.eras.world.shape) line)) ≡ Goes next turns text
         → IsTrueLine (Some p) (line_of (Some p.eras.world.shape) line) text
     by true names goes = refused (line_of (Some p.eras.world.shape) line) refl names
-    by false names goes = true-read p (line_of (Some p.eras.world.shape) line) next turns text led (λ l reads. line_of-within (Some p.eras.world.shape) line l reads) goes
+    by false names goes = true-read p (line_of (Some p.eras.world.shape) line) next turns text led
+        (λ l reads. line_of-within (Some p.eras.world.shape) line l reads) goes
 
   true-lines : (p : EraPlay) (lines : List (List ℕ)) → IsReady s p → AreTrueLines (Some p) lines
   true-lines p [] ready = tt
@@ -121,8 +132,11 @@ module _ (s : Dimensions) where
     by Ends is later = tt
     by (Refused fault) is later = tt
     by (Goes next turns text) is later =
-        let on : GoesOn p next turns = line-leads s p line next turns text ready is in
-        (true-line p line next turns text ready.led is, subst (λ (q : Option EraPlay). AreTrueLines q lines) (sym on.is) (later on.play (ready-on s p next turns ready on)))
+        let on : GoesOn p next turns = line-leads s p line next turns text ready is in (
+          true-line p line next turns text ready.led is,
+          subst (λ (q : Option EraPlay). AreTrueLines q lines) (sym on.is)
+              (later on.play (ready-on s p next turns ready on)),
+        )
 
   -- the promise is kept before and after each deed
   keeps : (e : Eras) (deed : Deed) → IsLedTo s e → MayAllBeDone e (deed ∷ []) → Keeps e deed
@@ -132,8 +146,12 @@ module _ (s : Dimensions) where
 
   keep-all : (e : Eras) (deeds : List Deed) → IsLedTo s e → MayAllBeDone e deeds → KeepAll e deeds
   keep-all e [] led may = promised s e led
-  keep-all e (deed ∷ deeds) led may =
-      (promised s e led, keeps e deed led (may.0, tt), keep-all (done e deed) deeds (led-on s e (done e deed) (deed ∷ []) led (record { may = (may.0, tt); to = refl })) may.1)
+  keep-all e (deed ∷ deeds) led may = (
+    promised s e led,
+    keeps e deed led (may.0, tt),
+    keep-all (done e deed) deeds
+        (led-on s e (done e deed) (deed ∷ []) led (record { may = (may.0, tt); to = refl })) may.1,
+  )
 
 -- a script with a group line
 record Named (lines : List (List ℕ)) : Type 0 where
@@ -149,17 +167,21 @@ begun-ready s limits = record { led = opened s limits; moment = omega arith }
 begins : (n : ℕ) (lines : List (List ℕ)) → fault_in next_of BadLine n None lines ≡ None → Named lines
 begins n [] ends = absurd (cc ends)
 begins n (line ∷ lines) ends = by (next_of None line) refl ends (begins (n + 1) lines) where
-  begun : (next : Option EraPlay) (turns : List Deed) (text : List ℕ) → next_of None line ≡ Goes next turns text → Opens next turns text → fault_in next_of BadLine (n + 1) next lines ≡ None
+  begun : (next : Option EraPlay) (turns : List Deed) (text : List ℕ) → next_of None line ≡ Goes next turns text
+      → Opens next turns text → fault_in next_of BadLine (n + 1) next lines ≡ None
       → (fault_in next_of BadLine (n + 1) None lines ≡ None → Named lines) → Named (line ∷ lines)
   begun next turns text is opens rest later = either opens.is where
     turns_are : (q : Option EraPlay) → next ≡ q → turns_in next_of None (line ∷ lines) ≡ turns_in next_of q lines
-    turns_are q same = ap (λ (x : EraNext). turns_after next_of x lines) is ∙ ap (λ (ts : List Deed). ts ++ turns_in next_of next lines) opens.quiet ∙ ap (λ (x : Option EraPlay). turns_in next_of x lines) same
+    turns_are q same = ap (λ (x : EraNext). turns_after next_of x lines) is
+        ∙ ap (λ (ts : List Deed). ts ++ turns_in next_of next lines) opens.quiet
+        ∙ ap (λ (x : Option EraPlay). turns_in next_of x lines) same
 
     shape_is : (q : Option EraPlay) → next ≡ q → shape_in (named_in next_of None (line ∷ lines)) ≡ shape_in (named_in next_of q lines)
     shape_is q same = ap shape_in (named-line next_of line lines (Goes next turns text) is ∙ ap (λ (x : Option EraPlay). named_in next_of x lines) same)
 
     true_then : (q : Option EraPlay) → next ≡ q → AreTrueLines q lines → AreTrueLines None (line ∷ lines)
-    true_then q same truth = subst (λ (x : EraNext). TrueAfter None line x lines) (sym is) (tt, subst (λ (x : Option EraPlay). AreTrueLines x lines) (sym same) truth)
+    true_then q same truth = subst (λ (x : EraNext). TrueAfter None line x lines) (sym is)
+        (tt, subst (λ (x : Option EraPlay). AreTrueLines x lines) (sym same) truth)
 
     either : (next ≡ None) ⊎ ((s : Dimensions) × IsShape s × (next ≡ Some (record { eras = first_era (opening s); moment = 0 }))) → Named (line ∷ lines)
     either (inl nothing) =
@@ -181,10 +203,12 @@ begins n (line ∷ lines) ends = by (next_of None line) refl ends (begins (n + 1
           true_lines = true_then (Some p) some (true-lines s p lines (begun-ready s limits));
         }
 
-  by : (next : EraNext) → next_of None line ≡ next → fault_in next_of BadLine n None (line ∷ lines) ≡ None → (fault_in next_of BadLine (n + 1) None lines ≡ None → Named lines) → Named (line ∷ lines)
+  by : (next : EraNext) → next_of None line ≡ next → fault_in next_of BadLine n None (line ∷ lines) ≡ None
+      → (fault_in next_of BadLine (n + 1) None lines ≡ None → Named lines) → Named (line ∷ lines)
   by Ends is ends later = absurd (never-ends line is)
   by (Refused fault) is ends later = absurd (cc (sym (ap (λ (x : EraNext). fault_after next_of BadLine n x lines) is) ∙ ends))
-  by (Goes next turns text) is ends later = begun next turns text is (line-opens line next turns text is) (sym (ap (λ (x : EraNext). fault_after next_of BadLine n x lines) is) ∙ ends) later
+  by (Goes next turns text) is ends later = begun next turns text is (line-opens line next turns text is)
+      (sym (ap (λ (x : EraNext). fault_after next_of BadLine n x lines) is) ∙ ends) later
 
 pub scripts_keep_promises : ScriptsKeepPromises
 scripts_keep_promises text whole = record {

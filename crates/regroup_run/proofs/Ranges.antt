@@ -1,5 +1,6 @@
 -- Ops that are read bring exptimes of 64 bits.
-use Rattle.std.proofs.Common.{◌≡◌, inl, inr, ◌+◌, ◌^◌, ◌==◌, ℕ, ℤ, pos, neg_ℤ, zero, suc, Bool, true, false, nat_lt, nat_le, List, [], ◌∷◌, Option, Some, None, Ok, if◌then◌else◌, subst, ap, arith}
+use Rattle.std.proofs.Common.{◌≡◌, inl, inr, ◌+◌, ◌^◌, ◌==◌, ℕ, ℤ, pos, neg_ℤ, zero, suc, Bool, true, false, nat_lt}
+use Rattle.std.proofs.Common.{nat_le, List, [], ◌∷◌, Option, Some, None, Ok, if◌then◌else◌, subst, ap, arith}
 use Rattle.std.proofs.lemmas.Bool.Decides.{nat_tests}
 use Rattle.group_types.specs.Dimensions.{Dimensions, callers, space_of}
 use Rattle.group_types.specs.Names.{same_process}
@@ -31,7 +32,8 @@ negative-low (suc n) = tt
 
 negative-is : (n : Option ℕ) (e : ℤ) → negative n ≡ Some e → IsLow e
 negative-is None e is = cc is
-negative-is (Some n) e is = let p = passed (nat_le n (2 ^ 63)) (Some (neg_ℤ (pos n))) e is in let same : neg_ℤ (pos n) ≡ e = cc (p.1) in subst IsLow same (negative-low n)
+negative-is (Some n) e is = let p = passed (nat_le n (2 ^ 63)) (Some (neg_ℤ (pos n))) e is in
+    let same : neg_ℤ (pos n) ≡ e = cc (p.1) in subst IsLow same (negative-low n)
 
 positive-is : (n : Option ℕ) (e : ℤ) → positive n ≡ Some e → IsLow e
 positive-is None e is = cc is

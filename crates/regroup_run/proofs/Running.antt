@@ -1,5 +1,7 @@
 -- The deeds of a script may be done.
-use Rattle.std.proofs.Common.{ℕ, ◌≡◌, ◌≤◌, ◌<◌, ◌+◌, ◌^◌, ◌⊎◌, inl, inr, Bool, true, false, ◌&&◌, zero, suc, nat_lt, nat_le, List, [], ◌∷◌, map, codes, Option, Some, None, Result, Ok, Err, if◌then◌else◌, refl, sym, ap, subst, ◌∙◌, arith}
+use Rattle.std.proofs.Common.{ℕ, ◌≡◌, ◌≤◌, ◌<◌, ◌+◌, ◌^◌, ◌⊎◌, inl, inr, Bool, true, false, ◌&&◌, zero, suc, nat_lt}
+use Rattle.std.proofs.Common.{nat_le, List, [], ◌∷◌, map, codes, Option, Some, None, Result, Ok, Err, if◌then◌else◌}
+use Rattle.std.proofs.Common.{refl, sym, ap, subst, ◌∙◌, arith}
 use Rattle.std.proofs.lemmas.Bool.Decides.{nat_tests}
 use Rattle.std.specs.List.{list_all, range_with_len}
 use Rattle.std.specs.Option.{is_some}
@@ -35,7 +37,8 @@ use Rattle.group_eras.specs.Promise.{Deed, Carries, IsLed, Makes}
 use Rattle.group_eras.specs.Refusal.{CanCarry}
 use Rattle.group_eras.proofs.Promises.{eras_are_runs}
 use Rattle.regroup_run.specs.Meaning.{IsLowLine, regroup_line, shape_of_numbers, shape_unless, shape_within}
-use Rattle.regroup_run.specs.Playing.{EraNext, EraPlay, by_call, by_carry, by_event, by_regroup, by_trace, first_by, has_space, next_by, next_of, refuses, regroup_by, regroups, then_by}
+use Rattle.regroup_run.specs.Playing.{EraNext, EraPlay, by_call, by_carry, by_event, by_regroup, by_trace, first_by}
+use Rattle.regroup_run.specs.Playing.{has_space, next_by, next_of, refuses, regroup_by, regroups, then_by}
 use Rattle.regroup_run.proofs.Draining.{drains}
 use Rattle.regroup_run.proofs.Leading.{IsLedTo, Leads, is-led, makes-lead, world-led}
 use Rattle.regroup_run.proofs.Ranges.{line_of-low}
@@ -60,20 +63,29 @@ abbrev idly : EraPlay → List ℕ → EraNext
 idly q wrote = Goes (Some q) [] wrote
 
 -- nothing is done
-stays : (p q : EraPlay) (next : Option EraPlay) (deeds : List Deed) (wrote text : List ℕ) → p.eras ≡ q.eras → q.moment ≤ 2 ^ 62 → idly q wrote ≡ Goes next deeds text → GoesOn p next deeds
+stays : (p q : EraPlay) (next : Option EraPlay) (deeds : List Deed) (wrote text : List ℕ) → p.eras ≡ q.eras
+    → q.moment ≤ 2 ^ 62 → idly q wrote ≡ Goes next deeds text → GoesOn p next deeds
 stays p q next deeds wrote text same low is =
     let both = parts (Some q) next [] deeds wrote text is in
-    record { play = q; is = both.0; leads = subst (Leads p.eras q.eras) (sym both.1) (subst (λ (f : Eras). Leads p.eras f []) same (none-leads p.eras)); moment = low }
+    record {
+      play = q;
+      is = both.0;
+      leads = subst (Leads p.eras q.eras) (sym both.1)
+          (subst (λ (f : Eras). Leads p.eras f []) same (none-leads p.eras));
+      moment = low;
+    }
 
 -- an event that may be made leads on
-comes : (s : Dimensions) (p : EraPlay) (e : Event) (next : Option EraPlay) (deeds : List Deed) (text : List ℕ) → IsReady s p → MayMake p.eras e → by_event p e ≡ Goes next deeds text → GoesOn p next deeds
+comes : (s : Dimensions) (p : EraPlay) (e : Event) (next : Option EraPlay) (deeds : List Deed) (text : List ℕ)
+    → IsReady s p → MayMake p.eras e → by_event p e ≡ Goes next deeds text → GoesOn p next deeds
 comes s p e next deeds text ready may is =
     let q : EraPlay = record { eras = (era_step p.eras e).eras; moment = p.moment } in
     let both = parts (Some q) next (Makes e ∷ []) deeds _ text is in
     record { play = q; is = both.0; leads = subst (Leads p.eras q.eras) (sym both.1) (record { may = (may, tt); to = refl }); moment = ready.moment }
 
 -- a call of a caller that doesn't carry
-calls : (s : Dimensions) (p : EraPlay) (caller : ℕ) (e : Event) (next : Option EraPlay) (deeds : List Deed) (text : List ℕ) → IsReady s p → (caller < carrier → MayMake p.eras e)
+calls : (s : Dimensions) (p : EraPlay) (caller : ℕ) (e : Event) (next : Option EraPlay) (deeds : List Deed)
+    (text : List ℕ) → IsReady s p → (caller < carrier → MayMake p.eras e)
     → by_call p caller e ≡ Goes next deeds text → GoesOn p next deeds
 calls s p caller e next deeds text ready may is = by (nat_lt caller carrier) refl is where
   by : (b : Bool) → nat_lt caller carrier ≡ b → (if b then by_event p e else Refused BadLine) ≡ Goes next deeds text → GoesOn p next deeds
@@ -84,30 +96,44 @@ calls s p caller e next deeds text ready may is = by (nat_lt caller carrier) ref
 traces : (s : Dimensions) (p : EraPlay) (caller call : ℕ) (e : Event) (next : Option EraPlay) (deeds : List Deed) (text : List ℕ) → IsReady s p
     → (call < at 0 p.eras.world.asked caller → caller < carrier → MayMake p.eras e) → by_trace p caller call e ≡ Goes next deeds text → GoesOn p next deeds
 traces s p caller call e next deeds text ready may is = by (nat_lt call (at 0 p.eras.world.asked caller)) refl is where
-  by : (b : Bool) → nat_lt call (at 0 p.eras.world.asked caller) ≡ b → (if b then by_call p caller e else Refused BadLine) ≡ Goes next deeds text → GoesOn p next deeds
+  by : (b : Bool) → nat_lt call (at 0 p.eras.world.asked caller) ≡ b
+      → (if b then by_call p caller e else Refused BadLine) ≡ Goes next deeds text → GoesOn p next deeds
   by true less goes = calls s p caller e next deeds text ready (may (grind (arith, nat_tests))) goes
   by false less goes = absurd (cc goes)
 
 -- what a line behind the group line does
-then-leads : (s : Dimensions) (p : EraPlay) (l : Line) (next : Option EraPlay) (deeds : List Deed) (text : List ℕ) → IsReady s p → IsLineOf (Some p.eras.world.shape) l → IsLowLine l
+then-leads : (s : Dimensions) (p : EraPlay) (l : Line) (next : Option EraPlay) (deeds : List Deed) (text : List ℕ)
+    → IsReady s p → IsLineOf (Some p.eras.world.shape) l → IsLowLine l
     → then_by p l ≡ Goes next deeds text → GoesOn p next deeds
 then-leads s p Skipped next deeds text ready within low is = stays p p next deeds [] text refl ready.moment is
 then-leads s p (Group shape) next deeds text ready within low is = absurd within
 then-leads s p (Ask caller from act) next deeds text ready within low is =
     let op : Asked = record { moment = p.moment; act = act } in
-    calls s p caller (happens.Ask caller op from) next deeds text ready (λ less. record { may = within; others = less; range = record { moment = ready.moment; expiry = low } }) is
+    calls s p caller (happens.Ask caller op from) next deeds text ready
+    (λ less. record { may = within; others = less; range = record { moment = ready.moment; expiry = low } }) is
 then-leads s p (Collect caller call from) next deeds text ready within low is =
     calls s p caller (happens.Collect caller call from) next deeds text ready (λ less. record { may = within; others = less; range = tt }) is
-then-leads s p (Deliver from to) next deeds text ready within low is = comes s p (happens.Deliver from to) next deeds text ready (record { may = within; others = tt; range = tt }) is
-then-leads s p (Fail from keep) next deeds text ready within low is = comes s p (happens.Fail from keep) next deeds text ready (record { may = within; others = tt; range = tt }) is
-then-leads s p (Flush from) next deeds text ready within low is = comes s p (happens.Flush from) next deeds text ready (record { may = within; others = tt; range = tt }) is
+then-leads s p (Deliver from to) next deeds text ready within low is = comes s p (happens.Deliver from to) next deeds
+    text ready (record { may = within; others = tt; range = tt }) is
+then-leads s p (Fail from keep) next deeds text ready within low is = comes s p (happens.Fail from keep) next deeds text
+    ready (record { may = within; others = tt; range = tt }) is
+then-leads s p (Flush from) next deeds text ready within low is = comes s p (happens.Flush from) next deeds text ready
+    (record { may = within; others = tt; range = tt }) is
 then-leads s p (Trace caller call d from) next deeds text ready within low is =
-    traces s p caller call (happens.Trace caller call d from) next deeds text ready (λ asked less. record { may = (within.0, asked, within.1, within.2); others = less; range = tt }) is
+    traces s p caller call (happens.Trace caller call d from) next deeds text ready
+    (λ asked less. record { may = (within.0, asked, within.1, within.2); others = less; range = tt }) is
 then-leads s p Drain next deeds text ready within low is =
     let es : List Event = draining p.eras.world in
     let q : EraPlay = record { eras = eras_after p.eras es; moment = p.moment } in
     let both = parts (Some q) next (map Makes es) deeds _ text is in
-    record { play = q; is = both.0; leads = subst (Leads p.eras q.eras) (sym both.1) (makes-lead p.eras es (drains p.eras.world.shape p.eras (world-led s p.eras ready.led))); moment = ready.moment }
+    record {
+      play = q;
+      is = both.0;
+      leads = subst (Leads p.eras q.eras) (sym both.1)
+          (makes-lead p.eras es (drains p.eras.world.shape p.eras (world-led s p.eras ready.led)));
+      moment =
+          ready.moment;
+    }
 then-leads s p (Show from run) next deeds text ready within low is = stays p p next deeds _ text refl ready.moment is
 then-leads s p Places next deeds text ready within low is = stays p p next deeds _ text refl ready.moment is
 then-leads s p (Time moment) next deeds text ready within low is = stays p (record { eras = p.eras; moment = moment }) next deeds [] text refl within is
@@ -142,7 +168,8 @@ all-hold f a (suc n) d all low high = by (this-or-later a d low) (λ later. all-
 -- the group is at rest and there is space
 pub all-fit : (w : World) (s : Dimensions) (d : ℕ) → has_space w s ≡ true → d < w.shape.k → bytes_in w d ≤ space_of s
 all-fit w s d all below =
-    let fits : nat_le (bytes_in w d) (space_of s) ≡ true = all-hold (λ x. nat_le (bytes_in w x) (space_of s)) 0 w.shape.k d all (omega arith) (omega (arith, below)) in
+    let fits : nat_le (bytes_in w d) (space_of s) ≡ true = all-hold (λ x. nat_le (bytes_in w x) (space_of s)) 0
+    w.shape.k d all (omega arith) (omega (arith, below)) in
     at_most (bytes_in w d) (space_of s) fits
   where
     at_most : (a b : ℕ) → nat_le a b ≡ true → a ≤ b
@@ -152,7 +179,8 @@ all-fit w s d all below =
 pub next-tells : (e : Eras) → IsLed e → NextTellsDrained e.world
 next-tells e led = let era = (eras_are_runs e led).era in subst NextTellsDrained (sym era.stands) (next_always e.world.shape era.events era.run)
 
-can-carry : (s : Dimensions) (p : EraPlay) (t : Dimensions) → IsReady s p → is_down p.eras.world ≡ false → is_some (next_delivery p.eras.world) ≡ false → has_space p.eras.world t ≡ true → CanCarry p.eras.world t
+can-carry : (s : Dimensions) (p : EraPlay) (t : Dimensions) → IsReady s p → is_down p.eras.world ≡ false
+    → is_some (next_delivery p.eras.world) ≡ false → has_space p.eras.world t ≡ true → CanCarry p.eras.world t
 can-carry s p t ready down waits space = record {
   rest = record { up = up p.eras.world down; drained = drained };
   space = λ d below. all-fit p.eras.world t d space below;
@@ -164,12 +192,16 @@ can-carry s p t ready down waits space = record {
   drained : IsDrained p.eras.world
   drained = (next-tells p.eras (is-led s p.eras ready.led)).0 (none (next_delivery p.eras.world) waits)
 
-carries : (s : Dimensions) (p : EraPlay) (t : Dimensions) (next : Option EraPlay) (deeds : List Deed) (text : List ℕ) → IsReady s p → IsShape t → t.k ≡ p.eras.world.shape.k
+carries : (s : Dimensions) (p : EraPlay) (t : Dimensions) (next : Option EraPlay) (deeds : List Deed) (text : List ℕ)
+    → IsReady s p → IsShape t → t.k ≡ p.eras.world.shape.k
     → by_regroup p t ≡ Goes next deeds text → GoesOn p next deeds
 carries s p t next deeds text ready shaped same is =
     by (is_down p.eras.world) (is_some (next_delivery p.eras.world)) (has_space p.eras.world t) refl refl refl is where
       by : (down waits space : Bool) → is_down p.eras.world ≡ down → is_some (next_delivery p.eras.world) ≡ waits → has_space p.eras.world t ≡ space
-          → (if down then refuses p (codes "down") else (if waits then refuses p (codes "not_drained") else (if space then by_carry p t else refuses p (codes "no_space")))) ≡ Goes next deeds text → GoesOn p next deeds
+          → (if down then refuses p (codes "down") else
+          (if waits then refuses p (codes "not_drained") else
+          (if space then by_carry p t else refuses p (codes "no_space")))) ≡ Goes next deeds text
+          → GoesOn p next deeds
       by true waits space isdown iswaits isspace goes = stays p p next deeds _ text refl ready.moment goes
       by false true space isdown iswaits isspace goes = stays p p next deeds _ text refl ready.moment goes
       by false false false isdown iswaits isspace goes = stays p p next deeds _ text refl ready.moment goes
@@ -179,7 +211,18 @@ carries s p t next deeds text ready shaped same is =
           record {
             play = q;
             is = both.0;
-            leads = subst (Leads p.eras q.eras) (sym both.1) (record { may = ((record { shape = shaped; partitions = same }, can-carry s p t ready isdown iswaits isspace), tt); to = refl });
+            leads = subst (Leads p.eras q.eras) (sym both.1)
+                (record {
+                  may = (
+                    (
+                      record { shape = shaped; partitions = same },
+                      can-carry s p t ready isdown iswaits
+                          isspace,
+                    ),
+                    tt,
+                  );
+                  to = refl;
+                });
             moment = ready.moment;
           }
 
@@ -220,8 +263,11 @@ regroup-leads s p (Ok t) next deeds text ready named is = let n = named t refl i
 pub line-leads : (s : Dimensions) (p : EraPlay) (line : List ℕ) (next : Option EraPlay) (deeds : List Deed) (text : List ℕ) → IsReady s p
     → next_of (Some p) line ≡ Goes next deeds text → GoesOn p next deeds
 line-leads s p line next deeds text ready is = by (regroups line) is where
-  by : (b : Bool) → (if b then regroup_by p (regroup_line p.eras.world.shape.k (words_of line)) else next_by (Some p) (line_of (Some p.eras.world.shape) line)) ≡ Goes next deeds text → GoesOn p next deeds
-  by true goes = regroup-leads s p (regroup_line p.eras.world.shape.k (words_of line)) next deeds text ready (line-named p.eras.world.shape.k (words_of line)) goes
+  by : (b : Bool)
+      → (if b then regroup_by p (regroup_line p.eras.world.shape.k (words_of line)) else next_by (Some p)
+      (line_of (Some p.eras.world.shape) line)) ≡ Goes next deeds text → GoesOn p next deeds
+  by true goes = regroup-leads s p (regroup_line p.eras.world.shape.k (words_of line)) next deeds text ready
+      (line-named p.eras.world.shape.k (words_of line)) goes
   by false goes = next-leads s p (line_of (Some p.eras.world.shape) line) next deeds text ready
       (λ l reads. (line_of-within (Some p.eras.world.shape) line l reads, line_of-low p.eras.world.shape line l reads)) goes
 
@@ -231,10 +277,12 @@ pub record Opens (next : Option EraPlay) (deeds : List Deed) (text : List ℕ) :
   pub silent : text ≡ []
   pub is : (next ≡ None) ⊎ ((s : Dimensions) × IsShape s × (next ≡ Some (record { eras = first_era (opening s); moment = 0 })))
 
-first-opens : (l : Line) (next : Option EraPlay) (deeds : List Deed) (text : List ℕ) → IsLineOf None l → first_by l ≡ Goes next deeds text → Opens next deeds text
+first-opens : (l : Line) (next : Option EraPlay) (deeds : List Deed) (text : List ℕ) → IsLineOf None l
+    → first_by l ≡ Goes next deeds text → Opens next deeds text
 first-opens Skipped next deeds text within is = let both = parts None next [] deeds [] text is in record { quiet = both.1; silent = both.2; is = inl both.0 }
 first-opens (Group s) next deeds text within is =
-    let both = parts (Some (record { eras = first_era (opening s); moment = 0 })) next [] deeds [] text is in record { quiet = both.1; silent = both.2; is = inr (s, within, both.0) }
+    let both = parts (Some (record { eras = first_era (opening s); moment = 0 })) next [] deeds [] text is in
+    record { quiet = both.1; silent = both.2; is = inr (s, within, both.0) }
 first-opens (Ask caller from act) next deeds text within is = absurd within
 first-opens (Collect caller call from) next deeds text within is = absurd within
 first-opens (Deliver from to) next deeds text within is = absurd within
@@ -247,7 +295,8 @@ first-opens Places next deeds text within is = absurd within
 first-opens (Time moment) next deeds text within is = absurd within
 first-opens Stop next deeds text within is = absurd within
 
-next-opens : (l : Result Line LineFault) (next : Option EraPlay) (deeds : List Deed) (text : List ℕ) → ((l' : Line) → l ≡ Ok l' → IsLineOf None l') → next_by None l ≡ Goes next deeds text → Opens next deeds text
+next-opens : (l : Result Line LineFault) (next : Option EraPlay) (deeds : List Deed) (text : List ℕ)
+    → ((l' : Line) → l ≡ Ok l' → IsLineOf None l') → next_by None l ≡ Goes next deeds text → Opens next deeds text
 next-opens (Err fault) next deeds text within is = absurd (cc is)
 next-opens (Ok l) next deeds text within is = first-opens l next deeds text (within l refl) is
 

@@ -1,5 +1,7 @@
 -- Lists of updates with consecutive numbers.
-use Rattle.std.proofs.Common.{◌≡◌, ℕ, zero, suc, ◌+◌, ◌-◌, ◌<◌, ◌≤◌, ◌==◌, Bool, true, false, List, [], ◌∷◌, ◌++◌, length, get_or, drop, take, Option, Some, None, find, refl, sym, ◌∙◌, arith, add-zero, subst, Bor, IsSome, IfSome, option_copied, ◌↔◌, inl, inr}
+use Rattle.std.proofs.Common.{◌≡◌, ℕ, zero, suc, ◌+◌, ◌-◌, ◌<◌, ◌≤◌, ◌==◌, Bool, true, false, List, [], ◌∷◌, ◌++◌}
+use Rattle.std.proofs.Common.{length, get_or, drop, take, Option, Some, None, find, refl, sym, ◌∙◌, arith, add-zero}
+use Rattle.std.proofs.Common.{subst, Bor, IsSome, IfSome, option_copied, ◌↔◌, inl, inr}
 use Rattle.std.specs.List.{slice_get}
 use Rattle.std.proofs.lemmas.Bool.Decides.{nat_tests}
 use Rattle.std.proofs.lemmas.Bool.{cases_lt}
@@ -10,7 +12,8 @@ use mathlib.Core.Bool.{false≢true}
 use Rattle.request_log.specs.Logged.{IsNumbered, find_last}
 
 module _ {U : Type 0} (number : U → ℕ) where
-  pub numbered_push : (updates : List U) (base : ℕ) (update : U) → IsNumbered number base updates → number update ≡ base + length updates + 1 → IsNumbered number base (updates ++ update ∷ [])
+  pub numbered_push : (updates : List U) (base : ℕ) (update : U) → IsNumbered number base updates
+      → number update ≡ base + length updates + 1 → IsNumbered number base (updates ++ update ∷ [])
   numbered_push [] base update numbered next = (omega arith, tt)
   numbered_push (first ∷ rest) base update numbered next = (numbered.0, numbered_push rest (base + 1) update numbered.1 (omega arith))
 
@@ -32,7 +35,8 @@ module _ {U : Type 0} (number : U → ℕ) where
   find_below (first ∷ rest) base n numbered le = grind (arith, nat_tests, numbered.0, find_below rest (base + 1) n numbered.1 (omega arith))
 
   -- another number is that of the update at its place
-  pub find_numbered : (updates : List U) (base i n : ℕ) → IsNumbered number base updates → n ≡ base + i + 1 → find (λ update. number update == n) updates ≡ slice_get updates i
+  pub find_numbered : (updates : List U) (base i n : ℕ) → IsNumbered number base updates → n ≡ base + i + 1
+      → find (λ update. number update == n) updates ≡ slice_get updates i
   find_numbered [] base i n numbered is = refl
   find_numbered (first ∷ rest) base zero n numbered is = grind (arith, nat_tests, numbered.0)
   find_numbered (first ∷ rest) base (suc i) n numbered is = grind (arith, nat_tests, numbered.0, find_numbered rest (base + 1) i n numbered.1 (omega arith))
@@ -51,7 +55,9 @@ module _ {U : Type 0} (test : U → Bool) where
   last_before update later none here = rw (none, here) refl
 
   -- an update that passes, with none behind it that does
-  pub last_found : (updates : List U) (i : ℕ) (update : U) → 0 < i → i ≤ length updates → update ≡ get_or updates (i - 1) update → find_last test (drop i updates) ≡ None → test update ≡ true → find_last test updates ≡ Some update
+  pub last_found : (updates : List U) (i : ℕ) (update : U) → 0 < i → i ≤ length updates
+      → update ≡ get_or updates (i - 1) update → find_last test (drop i updates) ≡ None → test update ≡ true
+      → find_last test updates ≡ Some update
   last_found updates i update some le is none here =
       let up : suc (i - 1) ≡ i = omega arith in
       let behind : drop (i - 1) updates ≡ update ∷ drop i updates = drop-cons updates (i - 1) update (omega arith) ∙ rw (← is, up) refl in
@@ -59,6 +65,10 @@ module _ {U : Type 0} (test : U → Bool) where
       (last_later (take (i - 1) updates) (drop (i - 1) updates) update (rw behind (last_here update (drop i updates) none here)))
 
 -- what a look-up lends is the item at the place
-pub copied_item : {U : Type 0} (items : List U) (i n : ℕ) (found : Option (Bor U)) → n ≡ length items → (IsSome found ↔ (i < n)) → IfSome found (λ x. x.now ≡ get_or items i x.now) → option_copied found ≡ slice_get items i
-copied_item items i n None long variant lookup = elim (cases_lt i n) [ inl lt ↦ absurd (false≢true (variant.1 lt)) | inr ge ↦ sym (slice_get_past items i (omega arith)) ]
+pub copied_item : {U : Type 0} (items : List U) (i n : ℕ) (found : Option (Bor U)) → n ≡ length items
+    → (IsSome found ↔ (i < n)) → IfSome found (λ x. x.now ≡ get_or items i x.now)
+    → option_copied found ≡ slice_get items i
+copied_item items i n None long variant lookup =
+    elim (cases_lt i n)
+    [ inl lt ↦ absurd (false≢true (variant.1 lt)) | inr ge ↦ sym (slice_get_past items i (omega arith)) ]
 copied_item items i n (Some x) long variant lookup = sym (slice_get_read items n i x.now long (variant.0 refl) lookup)

@@ -1,5 +1,6 @@
 -- What an update, and marks, make of a copy, and lists that are made index by index.
-use Rattle.std.proofs.Common.{◌≡◌, ℕ, zero, suc, ◌+◌, ◌-◌, ◌<◌, Bool, true, false, ◌&&◌, if◌then◌else◌, List, [], ◌∷◌, ◌++◌, length, get_or, set, map, replicate, is_some, None, refl, sym, ap, ap₂, ◌∙◌, arith}
+use Rattle.std.proofs.Common.{◌≡◌, ℕ, zero, suc, ◌+◌, ◌-◌, ◌<◌, Bool, true, false, ◌&&◌, if◌then◌else◌, List, [], ◌∷◌}
+use Rattle.std.proofs.Common.{◌++◌, length, get_or, set, map, replicate, is_some, None, refl, sym, ap, ap₂, ◌∙◌, arith}
 use Rattle.std.specs.List.{list_all, range_with_len}
 use Rattle.group_types.specs.Dimensions.{Dimensions}
 use Rattle.group_types.specs.Lists.{at}
@@ -18,7 +19,8 @@ module _ (s : Dimensions) (number d : ℕ) (u : Update) (c : Copy) where
       ap (λ (bs : List ℕ). record c { bytes = bs }) sum
       ∙ ap (λ (b : Bool). if b then c else record c { bytes = block_added s (ParityNode number) d c.block u.body c.bytes }) (sym is)
 
-  chosen : (b : Bool) (bytes : List ℕ) → ((if b then c else record c { bytes = bytes }).leader ≡ c.leader) × ((if b then c else record c { bytes = bytes }).number ≡ c.number)
+  chosen : (b : Bool) (bytes : List ℕ) → ((if b then c else record c { bytes = bytes }).leader ≡ c.leader)
+      × ((if b then c else record c { bytes = bytes }).number ≡ c.number)
   chosen true bytes = (refl, refl)
   chosen false bytes = (refl, refl)
 
@@ -31,11 +33,13 @@ pub all_from : (test : ℕ → Bool) (d k : ℕ) → d < k → list_all test (ra
 all_from test d k below = let more : k - d ≡ suc (k - (d + 1)) = omega arith in ap (λ (n : ℕ). list_all test (range_with_len d n)) more
 
 -- one number more is written over the zeros
-pub one_more : (f : ℕ → ℕ) (a d r : ℕ) → set (map f (range_with_len a d) ++ replicate (suc r) 0) d (f (a + d)) ≡ map f (range_with_len a (suc d)) ++ replicate r 0
+pub one_more : (f : ℕ → ℕ) (a d r : ℕ) → set (map f (range_with_len a d) ++ replicate (suc r) 0) d (f (a + d))
+    ≡ map f (range_with_len a (suc d)) ++ replicate r 0
 one_more f a zero r = let here : a + 0 ≡ a = omega arith in ap (λ (x : ℕ). f x ∷ replicate r 0) here
 one_more f a (suc d) r =
     let there : a + suc d ≡ a + 1 + d = omega arith in
-    ap (λ (x : ℕ). f a ∷ set (map f (range_with_len (a + 1) d) ++ replicate (suc r) 0) d (f x)) there ∙ ap (λ (rest : List ℕ). f a ∷ rest) (one_more f (a + 1) d r)
+    ap (λ (x : ℕ). f a ∷ set (map f (range_with_len (a + 1) d) ++ replicate (suc r) 0) d (f x)) there
+    ∙ ap (λ (rest : List ℕ). f a ∷ rest) (one_more f (a + 1) d r)
 
 pub still_zero : (f : ℕ → ℕ) (a d r : ℕ) → get_or (map f (range_with_len a d) ++ replicate r 0) d 0 ≡ 0
 still_zero f a zero zero = refl

@@ -16,7 +16,8 @@ module _ (coef : ℕ) (delta area : List ℕ) (n : ℕ) (is : n ≡ min (length 
   unfolding scale add_bytes
   front_none none = ap (λ (ds : List ℕ). added_at 0 ds area) (sym (as_much ∙ ap (λ (k : ℕ). scale coef (take k delta)) none))
 
-  pub front_added : (into : List ℕ) → into ≡ add_bytes (take n area) (scale coef (take n delta)) → into ++ drop n area ≡ added_at 0 (take (length area) (scale coef delta)) area
+  pub front_added : (into : List ℕ) → into ≡ add_bytes (take n area) (scale coef (take n delta))
+      → into ++ drop n area ≡ added_at 0 (take (length area) (scale coef delta)) area
   front_added into sum =
       let ds : List ℕ = scale coef (take n delta) in
       let short = length-take n delta in
@@ -28,7 +29,8 @@ module _ (coef : ℕ) (delta area : List ℕ) (n : ℕ) (is : n ≡ min (length 
 
 module _ (coef from at before : ℕ) (delta area : List ℕ) where
   pub met_behind : nat_le at from ≡ true → before ≡ min (from - at) (length delta) → (now : List ℕ)
-      → now ≡ added_at 0 (take (length area) (scale coef (take (length delta - before) (drop before delta)))) area → now ≡ area_added from at (scale coef delta) area
+      → now ≡ added_at 0 (take (length area) (scale coef (take (length delta - before) (drop before delta)))) area
+      → now ≡ area_added from at (scale coef delta) area
   unfolding scale
   met_behind test is now sum =
       let long = length-drop before delta in
@@ -37,9 +39,12 @@ module _ (coef from at before : ℕ) (delta area : List ℕ) where
       ∙ (ap (λ (k : ℕ). scale coef (drop k delta)) is ∙ (ap (scale coef) (drop_min (from - at) delta) ∙ sym (drop-map (product coef) (from - at) delta))) in
       sum
       ∙ (ap (λ (ds : List ℕ). added_at 0 (take (length area) ds) area) rest
-      ∙ ap (λ (b : Bool). if b then added_at 0 (take (length area) (drop (from - at) (scale coef delta))) area else added_at (at - from) (take (length area - (at - from)) (scale coef delta)) area) (sym test))
+      ∙ ap (λ (b : Bool). if b then added_at 0 (take (length area) (drop (from - at) (scale coef delta))) area else
+      added_at (at - from) (take (length area - (at - from)) (scale coef delta)) area) (sym test))
 
-  pub met_before : nat_le at from ≡ false → before ≡ min (at - from) (length area) → (now part : List ℕ) → part ≡ take (length area - before) (drop before area) → now ≡ added_at 0 (take (length part) (scale coef delta)) part
+  pub met_before : nat_le at from ≡ false → before ≡ min (at - from) (length area) → (now part : List ℕ)
+      → part ≡ take (length area - before) (drop before area) → now ≡ added_at 0 (take (length part) (scale coef delta))
+      part
       → take before area ++ (now ++ drop (length area - before) (drop before area)) ≡ area_added from at (scale coef delta) area
   met_before test is now part here sum =
       let n : ℕ = at - from in
@@ -47,7 +52,8 @@ module _ (coef from at before : ℕ) (delta area : List ℕ) where
       let sums : List ℕ = add_bytes (take (length ds) (drop n area)) ds in
       let front : take before area ≡ take n area = ap (λ (k : ℕ). take k area) is ∙ take_min n area in
       let long = length-drop before area in
-      let back : part ≡ drop n area = here ∙ (take_all (length area - before) (drop before area) (omega (arith, long)) ∙ (ap (λ (k : ℕ). drop k area) is ∙ drop_min n area)) in
+      let back : part ≡ drop n area = here ∙ (take_all (length area - before) (drop before area) (omega (arith, long))
+      ∙ (ap (λ (k : ℕ). drop k area) is ∙ drop_min n area)) in
       let met : now ≡ sums ++ drop (0 + length ds) (drop n area) =
       sum ∙ (ap (λ (rest : List ℕ). added_at 0 (take (length rest) (scale coef delta)) rest) back
       ∙ ap (λ (k : ℕ). added_at 0 (take k (scale coef delta)) (drop n area)) (length-drop n area)) in

@@ -11,7 +11,8 @@ module _ (l upto : ℕ) where
   left copies = filter (λ c. not (c.leader == l && nat_le c.number upto)) copies
 
   pub state_ceased : (copies now : List Copy) (ceased : List ℕ) (last : ℕ) → now ≡ left copies → l < length ceased → last ≡ max (at 0 ceased l) upto
-      → (p : Process) → p.as_row ≡ record { copies = copies; ceased = ceased } → record { copies = now; ceased = set ceased l last } ≡ (copies_ceased l upto p).as_row
+      → (p : Process) → p.as_row ≡ record { copies = copies; ceased = ceased }
+      → record { copies = now; ceased = set ceased l last } ≡ (copies_ceased l upto p).as_row
   state_ceased copies now ceased last is within most p row =
       let numbers : set ceased l last ≡ put 0 ceased l (max (at 0 ceased l) upto) = set_put 0 ceased l last within ∙ ap (put 0 ceased l) most in
       ap₂ (λ (cs : List Copy) (ns : List ℕ). record { copies = cs; ceased = ns }) is numbers

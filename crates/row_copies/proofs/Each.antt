@@ -1,5 +1,7 @@
 -- Copies of which no two are for one session.
-use Rattle.std.proofs.Common.{◌≡◌, ℕ, zero, suc, ◌<◌, ◌==◌, Bool, true, false, not, ◌&&◌, cond, if◌then◌else◌, List, [], ◌∷◌, ◌++◌, length, get_or, set, map, filter, is_some, Option, Some, None, refl, sym, ap, ap₂, ◌∙◌, arith}
+use Rattle.std.proofs.Common.{◌≡◌, ℕ, zero, suc, ◌<◌, ◌==◌, Bool, true, false, not, ◌&&◌, cond, if◌then◌else◌, List, []}
+use Rattle.std.proofs.Common.{◌∷◌, ◌++◌, length, get_or, set, map, filter, is_some, Option, Some, None, refl, sym, ap}
+use Rattle.std.proofs.Common.{ap₂, ◌∙◌, arith}
 use Rattle.std.specs.List.{remove}
 use Rattle.std.proofs.lemmas.Bool.{eqb-true, eq-eqb, true≢false}
 use Rattle.group_run.specs.Process.{Copy}
@@ -78,10 +80,14 @@ pub each-filter : (p : Copy → Bool) (cs : List Copy) → HaveOneEach cs → Ha
 each-filter p [] each = each
 each-filter p (c ∷ cs) each = each_filtered (p c) c (filter p cs) (none-filter c.leader c.number p cs each.0) (each-filter p cs each.1)
 
-pub each-map : (f : Copy → Copy) (leader : (c : Copy) → (f c).leader ≡ c.leader) (number : (c : Copy) → (f c).number ≡ c.number) (cs : List Copy) → HaveOneEach cs → HaveOneEach (map f cs)
+pub each-map : (f : Copy → Copy) (leader : (c : Copy) → (f c).leader ≡ c.leader)
+    (number : (c : Copy) → (f c).number ≡ c.number) (cs : List Copy) → HaveOneEach cs → HaveOneEach (map f cs)
 each-map f leader number [] each = each
-each-map f leader number (c ∷ cs) each =
-    (ap₂ (λ (l n : ℕ). is_some (copy_in (map f cs) l n)) (leader c) (number c) ∙ (is_some-map c.leader c.number f leader number cs ∙ each.0), each-map f leader number cs each.1)
+each-map f leader number (c ∷ cs) each = (
+  ap₂ (λ (l n : ℕ). is_some (copy_in (map f cs) l n)) (leader c) (number c)
+      ∙ (is_some-map c.leader c.number f leader number cs ∙ each.0),
+  each-map f leader number cs each.1,
+)
 
 other_session : (c x : Copy) → is_copy x.leader x.number c ≡ false → is_copy c.leader c.number x ≡ false
 other_session c x other = flipped (is_copy c.leader c.number x) refl
@@ -109,12 +115,14 @@ module _ (y : Copy) where
   left_others [] none = refl
   left_others (c ∷ cs) none =
       let parts = none_split (is_copy y.leader y.number c) c (copy_in cs y.leader y.number) none in
-      ap (λ (b : Bool). cond (not b) (c ∷ without_copy y.leader y.number cs) (without_copy y.leader y.number cs)) parts.0 ∙ ap (λ (rest : List Copy). c ∷ rest) (left_others cs parts.1)
+      ap (λ (b : Bool). cond (not b) (c ∷ without_copy y.leader y.number cs) (without_copy y.leader y.number cs))
+      parts.0 ∙ ap (λ (rest : List Copy). c ∷ rest) (left_others cs parts.1)
 
   same_none : (c : Copy) (cs : List Copy) → is_copy y.leader y.number c ≡ true → IsNone c.leader c.number cs → IsNone y.leader y.number cs
   same_none c cs is none = let same = same_session y.leader y.number c is in ap₂ (λ (l n : ℕ). is_some (copy_in cs l n)) (sym same.0) (sym same.1) ∙ none
 
-  not_first : (c : Copy) (cs : List Copy) (i : ℕ) (d : Copy) → IsNone c.leader c.number cs → i < length cs → is_copy y.leader y.number (get_or cs i d) ≡ true → is_copy y.leader y.number c ≡ false
+  not_first : (c : Copy) (cs : List Copy) (i : ℕ) (d : Copy) → IsNone c.leader c.number cs → i < length cs
+      → is_copy y.leader y.number (get_or cs i d) ≡ true → is_copy y.leader y.number c ≡ false
   not_first c cs i d none lt is = other (is_copy y.leader y.number c) refl
     where
       other : (b : Bool) → is_copy y.leader y.number c ≡ b → b ≡ false
@@ -122,7 +130,8 @@ module _ (y : Copy) where
       other true e = absurd (true≢false (sym is ∙ none_at y.leader y.number cs (same_none c cs e none) i d lt))
 
   -- written over the copy of its session, which is the only one
-  pub set_with : (cs : List Copy) (i : ℕ) (d : Copy) → HaveOneEach cs → i < length cs → is_copy y.leader y.number (get_or cs i d) ≡ true → set cs i y ≡ with_copy y cs
+  pub set_with : (cs : List Copy) (i : ℕ) (d : Copy) → HaveOneEach cs → i < length cs
+      → is_copy y.leader y.number (get_or cs i d) ≡ true → set cs i y ≡ with_copy y cs
   set_with [] i d each lt is = absurd (omega arith)
   set_with (c ∷ cs) zero d each lt is =
       sym (ap₂ (λ (a : Copy) (rest : List Copy). a ∷ rest) (ap (λ (b : Bool). if b then y else c) is) (kept_others cs (same_none c cs is each.0)))
@@ -131,16 +140,19 @@ module _ (y : Copy) where
       ap₂ (λ (a : Copy) (rest : List Copy). a ∷ rest) (ap (λ (b : Bool). if b then y else c) (sym other)) (set_with cs i d each.1 (omega arith) is)
 
   -- and taken out then
-  pub remove_without : (cs : List Copy) (i : ℕ) (d : Copy) → HaveOneEach cs → i < length cs → is_copy y.leader y.number (get_or cs i d) ≡ true → remove (set cs i y) i ≡ without_copy y.leader y.number cs
+  pub remove_without : (cs : List Copy) (i : ℕ) (d : Copy) → HaveOneEach cs → i < length cs
+      → is_copy y.leader y.number (get_or cs i d) ≡ true → remove (set cs i y) i ≡ without_copy y.leader y.number cs
   remove_without [] i d each lt is = absurd (omega arith)
   remove_without (c ∷ cs) zero d each lt is =
-      sym (ap (λ (b : Bool). cond (not b) (c ∷ without_copy y.leader y.number cs) (without_copy y.leader y.number cs)) is ∙ left_others cs (same_none c cs is each.0))
+      sym (ap (λ (b : Bool). cond (not b) (c ∷ without_copy y.leader y.number cs) (without_copy y.leader y.number cs))
+      is ∙ left_others cs (same_none c cs is each.0))
   remove_without (c ∷ cs) (suc i) d each lt is =
       let other = not_first c cs i d each.0 (omega arith) is in
       ap (λ (rest : List Copy). c ∷ rest) (remove_without cs i d each.1 (omega arith) is)
       ∙ ap (λ (b : Bool). cond (not b) (c ∷ without_copy y.leader y.number cs) (without_copy y.leader y.number cs)) (sym other)
 
-  with_same : (c : Copy) → ((if is_copy y.leader y.number c then y else c).leader ≡ c.leader) × ((if is_copy y.leader y.number c then y else c).number ≡ c.number)
+  with_same : (c : Copy) → ((if is_copy y.leader y.number c then y else c).leader ≡ c.leader)
+      × ((if is_copy y.leader y.number c then y else c).number ≡ c.number)
   with_same c = by (is_copy y.leader y.number c) refl
     where
       by : (b : Bool) → is_copy y.leader y.number c ≡ b → ((if b then y else c).leader ≡ c.leader) × ((if b then y else c).number ≡ c.number)

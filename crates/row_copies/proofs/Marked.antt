@@ -1,5 +1,6 @@
 -- What a mark makes of the copies.
-use Rattle.std.proofs.Common.{◌≡◌, ℕ, ◌<◌, Bool, true, false, not, cond, if◌then◌else◌, List, [], ◌∷◌, find, get_or, set, All, IfSome, IfNone, is_some, Option, Some, None, sym, ap, ◌∙◌, arith}
+use Rattle.std.proofs.Common.{◌≡◌, ℕ, ◌<◌, Bool, true, false, not, cond, if◌then◌else◌, List, [], ◌∷◌, find, get_or}
+use Rattle.std.proofs.Common.{set, All, IfSome, IfNone, is_some, Option, Some, None, sym, ap, ◌∙◌, arith}
 use Rattle.std.specs.List.{remove}
 use Rattle.std.proofs.lemmas.List.Elements.{All-filter, All-map, All-head, All-tail}
 use Rattle.group_types.specs.Dimensions.{Dimensions}
@@ -67,8 +68,11 @@ module _ (s : Dimensions) (d n : ℕ) where
       pub waits : is_marked s (marked d n x) ≡ false → record { copies = set cs i (marked d n x); done = None } ≡ marking s d n (copy_in cs l k) cs
       waits test = ap (λ (left : List Copy). record { copies = left; done = None }) (set_with (marked d n x) cs i x each at_place.within own) ∙ told false test
 
-      pub is_done : is_marked s (marked d n x) ≡ true → record { copies = remove (set cs i (marked d n x)) i; done = Some (marked d n x) } ≡ marking s d n (copy_in cs l k) cs
-      is_done test = ap (λ (left : List Copy). record { copies = left; done = Some (marked d n x) }) (remove_without (marked d n x) cs i x each at_place.within own) ∙ told true test
+      pub is_done : is_marked s (marked d n x) ≡ true
+          → record { copies = remove (set cs i (marked d n x)) i; done = Some (marked d n x) }
+          ≡ marking s d n (copy_in cs l k) cs
+      is_done test = ap (λ (left : List Copy). record { copies = left; done = Some (marked d n x) })
+          (remove_without (marked d n x) cs i x each at_place.within own) ∙ told true test
 
 -- the copy for a session is there where its place is found
 pub found_is : (l n : ℕ) (cs : List Copy) (r : Option ℕ) → IfSome r (StandsAt l n cs) → IfNone r (copy_in cs l n ≡ None) → is_some r ≡ is_some (copy_in cs l n)

@@ -1,9 +1,11 @@
 -- Spread runs of which one is taken out or put in.
-use Rattle.std.proofs.Common.{◌≡◌, ℕ, ◌+◌, ◌<◌, ◌≤◌, ◌^◌, ◌⊎◌, Bool, true, false, ◌||◌, ◌&&◌, not, List, [], ◌∷◌, ◌++◌, length, refl, sym, ap, subst, ◌∙◌, inl, inr, arith, length-append}
+use Rattle.std.proofs.Common.{◌≡◌, ℕ, ◌+◌, ◌<◌, ◌≤◌, ◌^◌, ◌⊎◌, Bool, true, false, ◌||◌, ◌&&◌, not, List, [], ◌∷◌, ◌++◌}
+use Rattle.std.proofs.Common.{length, refl, sym, ap, subst, ◌∙◌, inl, inr, arith, length-append}
 use mathlib.Core.Bool.{true≢false}
 use Rattle.std.specs.List.{All, Contains}
 use Rattle.std.proofs.lemmas.Bool.Decides.{nat_tests}
-use Rattle.std.proofs.lemmas.List.Elements.{All-nil, All-cons, All-head, All-tail, All-append, All-contains, All-weaker, Contains-append_cases, Contains-append_left, Contains-append_right}
+use Rattle.std.proofs.lemmas.List.Elements.{All-nil, All-cons, All-head, All-tail, All-append, All-contains, All-weaker}
+use Rattle.std.proofs.lemmas.List.Elements.{Contains-append_cases, Contains-append_left, Contains-append_right}
 use Rattle.run_alloc.specs.declared.order.Run.{Run}
 use Rattle.run_alloc.specs.Free.{in_run}
 use Rattle.run_alloc.specs.Runs.{in_runs, IsSpread, IsApart, IsCut, IsJoined, IsSame}
@@ -40,7 +42,11 @@ spread-between [] [] run low high spread below above some from to = (from, (some
 spread-between [] (y ∷ ys) run low high spread below above some from to = (from, (some, (omega (arith, above 0 y (omega arith)), spread.1)))
 spread-between (x ∷ xs) ys run low high spread below above some from to = (
   spread.0,
-  (spread.1.0, spread-between xs ys run _ high spread.1.1 (All-tail (λ (r : Run). r.at + r.len < run.at) x xs below) above some (omega (arith, below 0 x (omega arith))) to),
+  (
+    spread.1.0,
+    spread-between xs ys run _ high spread.1.1 (All-tail (λ (r : Run). r.at + r.len < run.at) x xs below)
+        above some (omega (arith, below 0 x (omega arith))) to,
+  ),
 )
 
 -- the others end below a run among them, or begin above it
@@ -77,7 +83,11 @@ clear_of [] run a apart inside = refl
 clear_of (x ∷ runs) run a apart inside =
     let rest = clear_of runs run a (All-tail (IsApart run) x runs apart) inside in
     let within = in_run-true run.at run.len a inside in
-    elim (All-head (IsApart run) x runs apart) [ inl lt ↦ grind (arith, nat_tests, rest, within.0, within.1) | inr lt ↦ grind (arith, nat_tests, rest, within.0, within.1) ]
+    elim (All-head (IsApart run) x runs apart) [
+      | inl lt ↦ grind (arith, nat_tests, rest, within.0, within.1)
+      | inr lt ↦
+          grind (arith, nat_tests, rest, within.0, within.1)
+    ]
 
 module _ (old new : List Run) (run : Run) (adds : Adds new old run) (high : ℕ) (spread : IsSpread 0 old high) where
   spread_parts : IsSpread 0 (adds.before ++ run ∷ adds.after) high
@@ -94,10 +104,14 @@ module _ (old new : List Run) (run : Run) (adds : Adds new old run) (high : ℕ)
       ∙ ap (λ (b : Bool). b && not (in_run run.at run.len a)) (sym (adds_in_runs new old run adds a))
 
 pub removed_cut : (old new : List Run) (run : Run) → Adds new old run → IsSpread 0 old (2 ^ 32) → IsCut old new run.at run.len
-removed_cut old new run adds spread = record { spread = λ high s. removed_spread old new run adds high s; taken = removed_taken old new run adds (2 ^ 32) spread }
+removed_cut old new run adds spread = record {
+  spread = λ high s. removed_spread old new run adds high s;
+  taken = removed_taken old new run adds (2 ^ 32) spread;
+}
 
 -- a run apart from all is put in
-pub added_spread : (old new : List Run) (run : Run) (top high : ℕ) → Adds old new run → IsSpread 0 old high → All (IsApart run) old → Rises (λ (r : Run). r.at) 0 new top
+pub added_spread : (old new : List Run) (run : Run) (top high : ℕ) → Adds old new run → IsSpread 0 old high
+    → All (IsApart run) old → Rises (λ (r : Run). r.at) 0 new top
     → 0 < run.len → run.at + run.len < high → IsSpread 0 new high
 added_spread old new run top high adds spread apart rises some inside =
     let parts = subst (λ (l : List Run). Rises (λ (r : Run). r.at) 0 l top) adds.is rises in
@@ -110,13 +124,15 @@ added_spread old new run top high adds spread apart rises some inside =
     (λ k d lt. elim (All-behind (IsApart run) adds.before adds.after all k d lt) [ inl below ↦ absurd (omega (arith, back k d lt)) | inr above ↦ above ])
     some (omega arith) inside)
 
-pub added_joined : (old new : List Run) (run : Run) (top : ℕ) → Adds old new run → All (IsApart run) old → Rises (λ (r : Run). r.at) 0 new top → 0 < run.len → IsJoined old new run.at run.len
+pub added_joined : (old new : List Run) (run : Run) (top : ℕ) → Adds old new run → All (IsApart run) old
+    → Rises (λ (r : Run). r.at) 0 new top → 0 < run.len → IsJoined old new run.at run.len
 added_joined old new run top adds apart rises some =
     record { spread = λ high inside spread. added_spread old new run top high adds spread apart rises some inside; given = adds_in_runs old new run adds }
 
 -- what is among the runs when one is added
 pub adds_has : (old new : List Run) (run : Run) → Adds old new run → Contains new run
-adds_has old new run adds = subst (λ (l : List Run). Contains l run) (sym adds.is) (Contains-append_right adds.before (run ∷ adds.after) run (0, (omega arith), refl))
+adds_has old new run adds = subst (λ (l : List Run). Contains l run) (sym adds.is)
+    (Contains-append_right adds.before (run ∷ adds.after) run (0, (omega arith), refl))
 
 pub adds_keeps : (old new : List Run) (run other : Run) → Adds old new run → Contains old other → Contains new other
 adds_keeps old new run other adds is =
@@ -140,13 +156,15 @@ pub All-adds : (P : Run → Type 0) (old new : List Run) (run : Run) → Adds ol
 All-adds P old new run adds all here =
     let parts = subst (λ (l : List Run). All P l) adds.was all in
     subst (λ (l : List Run). All P l) (sym adds.is)
-    (All-append P adds.before (run ∷ adds.after) (All-front P adds.before adds.after parts) (All-cons P run adds.after here (All-behind P adds.before adds.after parts)))
+    (All-append P adds.before (run ∷ adds.after) (All-front P adds.before adds.after parts)
+    (All-cons P run adds.after here (All-behind P adds.before adds.after parts)))
 
 pub All-removed : (P : Run → Type 0) (old new : List Run) (run : Run) → Adds new old run → All P old → All P new
 All-removed P old new run adds all =
     let parts = subst (λ (l : List Run). All P l) adds.is all in
     subst (λ (l : List Run). All P l) (sym adds.was)
-    (All-append P adds.before adds.after (All-front P adds.before (run ∷ adds.after) parts) (All-tail P run adds.after (All-behind P adds.before (run ∷ adds.after) parts)))
+    (All-append P adds.before adds.after (All-front P adds.before (run ∷ adds.after) parts)
+    (All-tail P run adds.after (All-behind P adds.before (run ∷ adds.after) parts)))
 
 pub length-adds : (old new : List Run) (run : Run) → Adds old new run → length new ≡ length old + 1
 length-adds old new run adds =
@@ -157,11 +175,21 @@ gone : (rank : Run → ℕ) (old new : List Run) (run : Run) (top : ℕ) → Ris
 gone rank old new run top rises adds is =
     let parts = subst (λ (l : List Run). Rises rank 0 l top) adds.is rises in
     elim (Contains-append_cases adds.before adds.after run (subst (λ (l : List Run). Contains l run) adds.was is)) [
-      | inl before ↦ omega (arith, All-contains (λ (r : Run). rank r < rank run) adds.before run (rises-below rank adds.before 0 (rank run) (rises-front rank adds.before adds.after run 0 top parts)) before)
-      | inr after ↦ omega (arith, All-contains (λ (r : Run). rank run + 1 ≤ rank r) adds.after run (rises-above rank adds.after (rank run + 1) top (rises-behind rank adds.before (run ∷ adds.after) 0 top parts).1) after)
+      | inl before ↦ omega (
+        arith,
+        All-contains (λ (r : Run). rank r < rank run) adds.before run
+            (rises-below rank adds.before 0 (rank run) (rises-front rank adds.before adds.after run 0 top parts)) before,
+      )
+      | inr after ↦ omega (
+        arith,
+        All-contains (λ (r : Run). rank run + 1 ≤ rank r) adds.after run
+            (rises-above rank adds.after (rank run + 1) top
+            (rises-behind rank adds.before (run ∷ adds.after) 0 top parts).1) after,
+      )
     ]
 
-there_added : (xs xs' ys ys' : List Run) (run : Run) → Adds xs xs' run → Adds ys ys' run → ((r : Run) → Contains xs r → Contains ys r) → (r : Run) → Contains xs' r → Contains ys' r
+there_added : (xs xs' ys ys' : List Run) (run : Run) → Adds xs xs' run → Adds ys ys' run
+    → ((r : Run) → Contains xs r → Contains ys r) → (r : Run) → Contains xs' r → Contains ys' r
 there_added xs xs' ys ys' run first second there r is =
     elim (adds_cases xs xs' run r first is) [
       | inl old ↦ adds_keeps ys ys' run r second (there r old)
@@ -183,7 +211,8 @@ same_added xs xs' ys ys' run same first second = record {
   back = there_added ys ys' xs xs' run second first same.back;
 }
 
-pub same_removed : (rank other : Run → ℕ) (top : ℕ) (xs xs' ys ys' : List Run) (run : Run) → IsSame xs ys → Adds xs' xs run → Adds ys' ys run → Rises rank 0 xs top → Rises other 0 ys top → IsSame xs' ys'
+pub same_removed : (rank other : Run → ℕ) (top : ℕ) (xs xs' ys ys' : List Run) (run : Run) → IsSame xs ys
+    → Adds xs' xs run → Adds ys' ys run → Rises rank 0 xs top → Rises other 0 ys top → IsSame xs' ys'
 same_removed rank other top xs xs' ys ys' run same first second rises other_rises = record {
   long = omega (arith, same.long, length-adds xs' xs run first, length-adds ys' ys run second);
   there = there_removed rank top xs xs' ys ys' run first second rises same.there;

@@ -61,7 +61,8 @@ module _ {X : Type 0} where
   pub set_at : (xs front back : List X) (x z : X) (place : ℕ) → xs ≡ front ++ x ∷ back → length front ≡ place → set xs place z ≡ front ++ z ∷ back
   set_at xs front back x z place parts at = rw (parts, ← at) (set-around front back x z)
 
-  pub remove_next : (xs front back : List X) (x y : X) (place : ℕ) → xs ≡ front ++ x ∷ y ∷ back → length front ≡ place → remove xs (place + 1) ≡ front ++ x ∷ back
+  pub remove_next : (xs front back : List X) (x y : X) (place : ℕ) → xs ≡ front ++ x ∷ y ∷ back → length front ≡ place
+      → remove xs (place + 1) ≡ front ++ x ∷ back
   remove_next xs front back x y place parts at = rw (add-one, parts, ← at) (remove-behind front back x y)
 
   -- a list that ends with what stands at its last place
@@ -70,7 +71,8 @@ module _ {X : Type 0} where
   ends (y ∷ []) x some is = ([], ap (λ (z : X). z ∷ []) (sym is))
   ends (y ∷ z ∷ xs) x some is =
       let same : suc (length xs) ≡ suc (length (z ∷ xs)) - 1 = omega arith in
-      let rest = ends (z ∷ xs) x (omega arith) (is ∙ ap (λ (k : ℕ). get_or (y ∷ z ∷ xs) k x) (sym same) ∙ ap (λ (k : ℕ). get_or (z ∷ xs) k x) (last_place (length xs))) in
+      let rest = ends (z ∷ xs) x (omega arith) (is ∙ ap (λ (k : ℕ). get_or (y ∷ z ∷ xs) k x) (sym same)
+      ∙ ap (λ (k : ℕ). get_or (z ∷ xs) k x) (last_place (length xs))) in
       (y ∷ rest.0, ap (λ (l : List X). y ∷ l) rest.1)
     where
       last_place : (n : ℕ) → n ≡ suc n - 1

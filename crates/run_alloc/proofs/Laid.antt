@@ -1,5 +1,7 @@
 -- Chunks that are laid out in order, and even.
-use Rattle.std.proofs.Common.{◌≡◌, ℕ, zero, suc, ◌+◌, ◌-◌, ◌*◌, ◌<◌, ◌≤◌, ◌^◌, true, false, List, [], ◌∷◌, ◌++◌, length, take, drop, get_or, refl, sym, ap, subst, ◌∙◌, inl, inr, arith, append_assoc, length-append}
+use Rattle.std.proofs.Common.{◌≡◌, ℕ, zero, suc, ◌+◌, ◌-◌, ◌*◌, ◌<◌, ◌≤◌, ◌^◌, true, false, List, [], ◌∷◌, ◌++◌, length}
+use Rattle.std.proofs.Common.{take, drop, get_or, refl, sym, ap, subst, ◌∙◌, inl, inr, arith, append_assoc}
+use Rattle.std.proofs.Common.{length-append}
 use Rattle.std.specs.List.{All}
 use Rattle.std.specs.List.Sorted.{IsNonDecreasingBy, IsPartitionPoint}
 use Rattle.std.proofs.Math.Dec.{leb}
@@ -50,7 +52,11 @@ module _ (rank : Run → ℕ) where
   low-above : (xs : List Chunk) (high j : ℕ) (d : Chunk) → IsLaid rank xs high → j < length xs → fence xs high ≤ (get_or xs j d).low
   low-above [] high j d laid lt = absurd (omega arith)
   low-above (x ∷ xs) high zero d laid lt = omega arith
-  low-above (x ∷ xs) high (suc j) d laid lt = omega (arith, rises-bounds rank x.runs.items x.low (fence xs high) laid.0, low-above xs high j d laid.1 (omega arith))
+  low-above (x ∷ xs) high (suc j) d laid lt = omega (
+    arith,
+    rises-bounds rank x.runs.items x.low (fence xs high) laid.0,
+    low-above xs high j d laid.1 (omega arith),
+  )
 
   pub laid-steady : (xs : List Chunk) (high : ℕ) → IsLaid rank xs high → IsNonDecreasingBy (λ (c : Chunk). c.low) xs
   laid-steady [] high laid i j d le lt = absurd (omega arith)
@@ -115,7 +121,8 @@ found xs rank place d fits lt parted = record {
   ];
 }
 
-pub is_chunk_of : (xs : List Chunk) (rank place : ℕ) → rank < 2 ^ 64 → fence xs 1 ≡ 0 → place ≤ length xs → PartsAt xs rank place → IsChunkOf xs rank (place - 1)
+pub is_chunk_of : (xs : List Chunk) (rank place : ℕ) → rank < 2 ^ 64 → fence xs 1 ≡ 0 → place ≤ length xs
+    → PartsAt xs rank place → IsChunkOf xs rank (place - 1)
 is_chunk_of [] rank place fits starts in_range parted = absurd (omega arith)
 is_chunk_of (x ∷ xs) rank zero fits starts in_range parted = absurd (omega (arith, is_some (x ∷ xs) rank zero starts parted))
 is_chunk_of (x ∷ xs) rank (suc place) fits starts in_range parted =

@@ -1,5 +1,6 @@
 -- A run that is put into its chunk or taken out, chunks that are joined and halved.
-use Rattle.std.proofs.Common.{◌≡◌, ◌≢◌, ℕ, ◌<◌, ◌≤◌, ◌^◌, List, [], ◌∷◌, ◌++◌, length, set, get_or, vec_capacity, sym, ap, subst, ◌∙◌, inl, inr, arith, append_assoc}
+use Rattle.std.proofs.Common.{◌≡◌, ◌≢◌, ℕ, ◌<◌, ◌≤◌, ◌^◌, List, [], ◌∷◌, ◌++◌, length, set, get_or, vec_capacity, sym}
+use Rattle.std.proofs.Common.{ap, subst, ◌∙◌, inl, inr, arith, append_assoc}
 use Rattle.std.specs.List.{All, Contains}
 use Rattle.std.proofs.lemmas.List.Elements.{All-tail, All-contains, Contains-append_cases}
 use Rattle.run_alloc.specs.declared.order.Run.{Run}
@@ -14,7 +15,8 @@ pub runs_around : (front back : List Chunk) (chunk : Chunk) → runs_in (front +
 runs_around front back chunk = runs_in-append front (chunk ∷ back)
 
 -- what is added to a chunk is added to all
-pub adds_around : (front back : List Chunk) (old new : Chunk) (run : Run) → Adds old.runs.items new.runs.items run → Adds (runs_in (front ++ old ∷ back)) (runs_in (front ++ new ∷ back)) run
+pub adds_around : (front back : List Chunk) (old new : Chunk) (run : Run) → Adds old.runs.items new.runs.items run
+    → Adds (runs_in (front ++ old ∷ back)) (runs_in (front ++ new ∷ back)) run
 adds_around front back old new run adds = record {
   before = runs_in front ++ adds.before;
   after = adds.after ++ runs_in back;
@@ -37,27 +39,42 @@ module _ (rank : Run → ℕ) where
       (subst (λ (n : ℕ). IsLaid rank front n) (sym low) (laid-front rank front (old ∷ back) high laid))
       (subst (λ (n : ℕ). Rises rank n new.runs.items (fence back high)) (sym low) rises, (laid-behind rank front (old ∷ back) high laid).1)
 
-  pub chunk_rises : (front back : List Chunk) (chunk : Chunk) (high : ℕ) → IsLaid rank (front ++ chunk ∷ back) high → Rises rank chunk.low chunk.runs.items (fence back high)
+  pub chunk_rises : (front back : List Chunk) (chunk : Chunk) (high : ℕ) → IsLaid rank (front ++ chunk ∷ back) high
+      → Rises rank chunk.low chunk.runs.items (fence back high)
   chunk_rises front back chunk high laid = (laid-behind rank front (chunk ∷ back) high laid).0
 
   -- all runs in front are below the chunk, and those behind are above
-  pub front_below : (front back : List Chunk) (chunk : Chunk) (high : ℕ) → IsLaid rank (front ++ chunk ∷ back) high → All (λ (r : Run). rank r < chunk.low) (runs_in front)
+  pub front_below : (front back : List Chunk) (chunk : Chunk) (high : ℕ) → IsLaid rank (front ++ chunk ∷ back) high
+      → All (λ (r : Run). rank r < chunk.low) (runs_in front)
   front_below front back chunk high laid =
       rises-below rank (runs_in front) (fence front chunk.low) chunk.low (laid-rises rank front chunk.low (laid-front rank front (chunk ∷ back) high laid))
 
-  pub back_above : (front back : List Chunk) (chunk : Chunk) (high : ℕ) → IsLaid rank (front ++ chunk ∷ back) high → All (λ (r : Run). fence back high ≤ rank r) (runs_in back)
+  pub back_above : (front back : List Chunk) (chunk : Chunk) (high : ℕ) → IsLaid rank (front ++ chunk ∷ back) high
+      → All (λ (r : Run). fence back high ≤ rank r) (runs_in back)
   back_above front back chunk high laid =
       rises-above rank (runs_in back) (fence back high) high (laid-rises rank back high (laid-behind rank front (chunk ∷ back) high laid).1)
 
   -- a run lies in the chunk of its rank
-  pub kept_in : (front back : List Chunk) (chunk : Chunk) (run : Run) (high : ℕ) → IsLaid rank (front ++ chunk ∷ back) high → chunk.low ≤ rank run → rank run < fence back high
+  pub kept_in : (front back : List Chunk) (chunk : Chunk) (run : Run) (high : ℕ)
+      → IsLaid rank (front ++ chunk ∷ back) high → chunk.low ≤ rank run → rank run < fence back high
       → Contains (runs_in (front ++ chunk ∷ back)) run → Contains chunk.runs.items run
   kept_in front back chunk run high laid from to kept =
-      elim (Contains-append_cases (runs_in front) (chunk.runs.items ++ runs_in back) run (subst (λ (l : List Run). Contains l run) (runs_around front back chunk) kept)) [
-        | inl before ↦ absurd (omega (arith, All-contains (λ (r : Run). rank r < chunk.low) (runs_in front) run (front_below front back chunk high laid) before))
+      elim (Contains-append_cases (runs_in front) (chunk.runs.items ++ runs_in back) run
+      (subst (λ (l : List Run). Contains l run) (runs_around front back chunk) kept)) [
+        | inl before ↦ absurd
+            (omega (
+              arith,
+              All-contains (λ (r : Run). rank r < chunk.low) (runs_in front) run
+                  (front_below front back chunk high laid) before,
+            ))
         | inr rest ↦ elim (Contains-append_cases chunk.runs.items (runs_in back) run rest) [
           | inl here ↦ here
-          | inr behind ↦ absurd (omega (arith, All-contains (λ (r : Run). fence back high ≤ rank r) (runs_in back) run (back_above front back chunk high laid) behind))
+          | inr behind ↦ absurd
+              (omega (
+                arith,
+                All-contains (λ (r : Run). fence back high ≤ rank r) (runs_in back) run
+                    (back_above front back chunk high laid) behind,
+              ))
         ]
       ]
 
@@ -103,7 +120,8 @@ module _ (rank : Run → ℕ) (xs : List Chunk) (run : Run) (place : ℕ) (is : 
 
   pub found_rises_all : Rises rank 0 c.runs.items (2 ^ 64)
   found_rises_all = rises-lower rank c.runs.items 0 c.low (2 ^ 64) (omega arith)
-      (rises-higher rank c.runs.items c.low (fence is.back (2 ^ 64)) (2 ^ 64) (laid-bounds rank is.back (2 ^ 64) (laid-behind rank is.front (c ∷ is.back) (2 ^ 64) laid_whole).1) found_rises)
+      (rises-higher rank c.runs.items c.low (fence is.back (2 ^ 64)) (2 ^ 64)
+      (laid-bounds rank is.back (2 ^ 64) (laid-behind rank is.front (c ∷ is.back) (2 ^ 64) laid_whole).1) found_rises)
 
   pub found_light : IsLight c
   found_light = (even-behind is.front (c ∷ is.back) even_whole).0
@@ -142,7 +160,9 @@ module _ (rank : Run → ℕ) (xs : List Chunk) (run : Run) (place : ℕ) (is : 
     set_laid rises = subst (λ (l : List Chunk). IsLaid rank l (2 ^ 64)) (sym written) (laid_around rank is.front is.back c new (2 ^ 64) laid_whole low rises)
 
     pub put_laid : Puts rank c.runs.items new.runs.items run → All (λ (r : Run). rank r ≢ rank run) (runs_in xs) → IsLaid rank (set xs place new) (2 ^ 64)
-    put_laid puts fresh = set_laid (put_rises rank c.runs.items new.runs.items run c.low (fence is.back (2 ^ 64)) found_rises puts (fresh_here fresh) from is.to)
+    put_laid puts fresh =
+        set_laid (put_rises rank c.runs.items new.runs.items run c.low (fence is.back (2 ^ 64)) found_rises puts
+        (fresh_here fresh) from is.to)
 
     pub pull_laid : Adds new.runs.items c.runs.items run → IsLaid rank (set xs place new) (2 ^ 64)
     pull_laid adds = set_laid (pull_rises rank c.runs.items new.runs.items run c.low (fence is.back (2 ^ 64)) found_rises adds)

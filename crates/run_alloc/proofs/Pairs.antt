@@ -1,5 +1,6 @@
 -- The runs in both orders.
-use Rattle.std.proofs.Common.{◌≡◌, ◌≢◌, ℕ, ◌+◌, ◌*◌, ◌<◌, ◌≤◌, ◌^◌, ◌⊎◌, List, Option, None, Some, MatchOption, get_or, [], ◌∷◌, ◌++◌, length, refl, sym, ap, subst, ◌∙◌, inl, inr, arith}
+use Rattle.std.proofs.Common.{◌≡◌, ◌≢◌, ℕ, ◌+◌, ◌*◌, ◌<◌, ◌≤◌, ◌^◌, ◌⊎◌, List, Option, None, Some, MatchOption, get_or}
+use Rattle.std.proofs.Common.{[], ◌∷◌, ◌++◌, length, refl, sym, ap, subst, ◌∙◌, inl, inr, arith}
 use Rattle.std.specs.List.{All, Contains}
 use Rattle.std.proofs.lemmas.Bool.{cases_lt}
 use Rattle.std.proofs.lemmas.List.Elements.{All-append, All-cons, All-weaker, All-contains, Contains-get_or, Contains-append_cases}
@@ -30,30 +31,38 @@ module _ (a l : Shelved) (spare : ℕ) (paired : IsPaired a l spare) where
       let all = subst (λ (o : Order). All (λ (r : Run). rank_of o r < want * 2 ^ 32) l.runs) paired.by_length none in
       omega (arith, All-contains (λ (r : Run). rank_of Length r < want * 2 ^ 32) l.runs _ all (paired.same.there _ (Contains-get_or a.runs k d lt)))
 
-  pub first_is_shortest : (want : ℕ) (run : Run) → IsFirstFrom (rank_of l.order) l.runs (want * 2 ^ 32) run → Rises (rank_of l.order) 0 l.runs (2 ^ 64) → IsShortest a.runs want run
+  pub first_is_shortest : (want : ℕ) (run : Run) → IsFirstFrom (rank_of l.order) l.runs (want * 2 ^ 32) run
+      → Rises (rank_of l.order) 0 l.runs (2 ^ 64) → IsShortest a.runs want run
   first_is_shortest want run found rises =
       let first = subst (λ (o : Order). IsFirstFrom (rank_of o) l.runs (want * 2 ^ 32) run) paired.by_length found in
       let in_order = subst (λ (o : Order). Rises (rank_of o) 0 l.runs (2 ^ 64)) paired.by_length rises in
       let adds : Adds (first.before ++ first.after) l.runs run = record { before = first.before; after = first.after; was = refl; is = first.parts } in
       let kept = paired.same.back run (adds_has (first.before ++ first.after) l.runs run adds) in
       let behind = rises-above (rank_of Length) first.after (rank_of Length run + 1) (2 ^ 64)
-      (rises-behind (rank_of Length) first.before (run ∷ first.after) 0 (2 ^ 64) (subst (λ (x : List Run). Rises (rank_of Length) 0 x (2 ^ 64)) first.parts in_order)).1 in
+      (rises-behind (rank_of Length) first.before (run ∷ first.after) 0 (2 ^ 64)
+      (subst (λ (x : List Run). Rises (rank_of Length) 0 x (2 ^ 64)) first.parts in_order)).1 in
       record {
         kept = kept;
         fits = omega (arith, first.reached, low run kept);
-        least = λ other is enough. elim (Contains-append_cases first.before (run ∷ first.after) other (subst (λ (x : List Run). Contains x other) first.parts (paired.same.there other is))) [
-          | inl before ↦ absurd (omega (arith, All-contains (λ (r : Run). rank_of Length r < want * 2 ^ 32) first.before other first.below before))
-          | inr rest ↦ elim (Contains-append_cases (run ∷ []) first.after other rest) [
-            | inl here ↦ let same = only run other here in inr (ap (λ (r : Run). r.len) same, omega (arith, ap (λ (r : Run). r.at) same))
-            | inr after ↦ longer run other (low other is) (All-contains (λ (r : Run). rank_of Length run + 1 ≤ rank_of Length r) first.after other behind after)
-          ]
-        ];
+        least = λ other is enough.
+            elim (Contains-append_cases first.before (run ∷ first.after) other
+            (subst (λ (x : List Run). Contains x other) first.parts (paired.same.there other is))) [
+              | inl before ↦ absurd (omega (arith, All-contains (λ (r : Run). rank_of Length r < want * 2 ^ 32) first.before other first.below before))
+              | inr rest ↦ elim (Contains-append_cases (run ∷ []) first.after other rest) [
+                | inl here ↦ let same = only run other here in inr (ap (λ (r : Run). r.len) same, omega (arith, ap (λ (r : Run). r.at) same))
+                | inr after ↦ longer run other (low other is)
+                    (All-contains (λ (r : Run). rank_of Length run + 1 ≤ rank_of Length r) first.after other behind
+                    after)
+              ]
+            ];
       }
     where
       longer : (x y : Run) → y.at + y.len < 2 ^ 32 → rank_of Length x + 1 ≤ rank_of Length y → (x.len < y.len) ⊎ ((x.len ≡ y.len) × (x.at ≤ y.at))
       longer x y fits le = elim (cases_lt x.len y.len) [ inl lt ↦ inl lt | inr ge ↦ inr (omega arith, omega arith) ]
 
-  pub shortest_of : (want : ℕ) (result : Option Run) → MatchOption result (All (λ (r : Run). rank_of l.order r < want * 2 ^ 32) l.runs) (IsFirstFrom (rank_of l.order) l.runs (want * 2 ^ 32))
+  pub shortest_of : (want : ℕ) (result : Option Run)
+      → MatchOption result (All (λ (r : Run). rank_of l.order r < want * 2 ^ 32) l.runs)
+      (IsFirstFrom (rank_of l.order) l.runs (want * 2 ^ 32))
       → Rises (rank_of l.order) 0 l.runs (2 ^ 64) → MatchOption result (All (λ (r : Run). r.len < want) a.runs) (IsShortest a.runs want)
   shortest_of want None found rises = none_long want found
   shortest_of want (Some run) found rises = first_is_shortest want run found rises
@@ -67,7 +76,8 @@ module _ (a l : Shelved) (spare : ℕ) (paired : IsPaired a l spare) where
         clash : (r : Run) → rank_of Length r ≡ rank_of Length run → r.at + r.len < 2 ^ 32 → IsApart run r → ⊥
         clash r same fits apart_r = elim apart_r [ inl below ↦ omega arith | inr above ↦ omega arith ]
 
-    pub paired_added : (a' l' : Shelved) (n : ℕ) → a'.order ≡ a.order → l'.order ≡ l.order → Adds a.runs a'.runs run → Adds l.runs l'.runs run → IsSpread 0 a'.runs (2 ^ 32)
+    pub paired_added : (a' l' : Shelved) (n : ℕ) → a'.order ≡ a.order → l'.order ≡ l.order → Adds a.runs a'.runs run
+        → Adds l.runs l'.runs run → IsSpread 0 a'.runs (2 ^ 32)
         → a'.spare + 1 ≡ a.spare → l'.spare + 1 ≡ l.spare → n + 1 ≡ spare → IsPaired a' l' n
     paired_added a' l' n same_a same_l first second spread room_a room_l room = record {
       by_address = same_a ∙ paired.by_address;
@@ -125,7 +135,8 @@ module _ (runs : List Run) (at high : ℕ) (last : Run) (is : IsLastBelow (λ (r
   last_inside = All-contains (λ (r : Run). r.at + r.len < high) runs last (spread-ends runs 0 high spread) last_kept
 
   all_others : (P : Run → Type 0) → All P is.before → P last → All P is.after → All P runs
-  all_others P before here after = subst (λ (l : List Run). All P l) (sym is.parts) (All-append P is.before (last ∷ is.after) before (All-cons P last is.after here after))
+  all_others P before here after = subst (λ (l : List Run). All P l) (sym is.parts)
+      (All-append P is.before (last ∷ is.after) before (All-cons P last is.after here after))
 
   pub none_begins : last.at ≢ at → All (λ (r : Run). r.at ≢ at) runs
   none_begins wrong = all_others (λ (r : Run). r.at ≢ at)

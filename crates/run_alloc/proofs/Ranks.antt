@@ -1,5 +1,6 @@
 -- Runs whose ranks rise.
-use Rattle.std.proofs.Common.{◌≡◌, ℕ, zero, suc, ◌+◌, ◌<◌, ◌≤◌, true, false, List, [], ◌∷◌, ◌++◌, length, take, drop, get_or, sym, ap, subst, ◌∙◌, inl, inr, arith}
+use Rattle.std.proofs.Common.{◌≡◌, ℕ, zero, suc, ◌+◌, ◌<◌, ◌≤◌, true, false, List, [], ◌∷◌, ◌++◌, length, take, drop}
+use Rattle.std.proofs.Common.{get_or, sym, ap, subst, ◌∙◌, inl, inr, arith}
 use Rattle.std.specs.List.{All, Contains}
 use Rattle.std.specs.List.Sorted.{IsNonDecreasingBy, IsPartitionPoint}
 use Rattle.std.proofs.Math.Dec.{ltb}
@@ -70,7 +71,9 @@ module _ (rank : Run → ℕ) where
   rises-steady (run ∷ runs) low high rises (suc i) (suc j) d le lt = rises-steady runs _ high rises.1 i j d (omega arith) (omega arith)
 
   -- from what a search by halves answers
-  pub is_place_of : (runs : List Run) (to place : ℕ) → place ≤ length runs → IsPartitionPoint (λ run. ltb (rank run) to ≡ true) (λ run. ltb (rank run) to ≡ false) runs place → IsPlaceOf rank runs to place
+  pub is_place_of : (runs : List Run) (to place : ℕ) → place ≤ length runs
+      → IsPartitionPoint (λ run. ltb (rank run) to ≡ true) (λ run. ltb (rank run) to ≡ false) runs place
+      → IsPlaceOf rank runs to place
   is_place_of runs to place le parted = record {
     before = take place runs;
     after = drop place runs;
@@ -121,7 +124,8 @@ module _ (rank : Run → ℕ) where
   pub pulled : (runs : List Run) (run : Run) (place high : ℕ) → Rises rank 0 runs high → Contains runs run → IsPlaceOf rank runs (rank run) place
       → (place < length runs) × Adds (remove runs place) runs run
   pulled runs run place high rises kept is =
-      let first = first_is is.before is.after run high (subst (λ (l : List Run). Rises rank 0 l high) is.parts rises) (subst (λ (l : List Run). Contains l run) is.parts kept) is.below is.above in
+      let first = first_is is.before is.after run high (subst (λ (l : List Run). Rises rank 0 l high) is.parts rises)
+      (subst (λ (l : List Run). Contains l run) is.parts kept) is.below is.above in
       let parts : runs ≡ is.before ++ run ∷ first.0 = is.parts ∙ ap (λ (l : List Run). is.before ++ l) first.1 in (
         rw (parts, ← is.at) (length-around is.before first.0 run),
         record { before = is.before; after = first.0; was = rw (parts, ← is.at) (remove-around is.before first.0 run); is = parts },

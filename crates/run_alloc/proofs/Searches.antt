@@ -1,5 +1,6 @@
 -- What the search of one chunk finds among all runs.
-use Rattle.std.proofs.Common.{◌≡◌, ◌≢◌, ℕ, suc, ◌+◌, ◌-◌, ◌<◌, ◌≤◌, ◌^◌, List, [], ◌∷◌, ◌++◌, length, get_or, refl, sym, ap, subst, ◌∙◌, inl, inr, arith, append_assoc, length-append, add-one}
+use Rattle.std.proofs.Common.{◌≡◌, ◌≢◌, ℕ, suc, ◌+◌, ◌-◌, ◌<◌, ◌≤◌, ◌^◌, List, [], ◌∷◌, ◌++◌, length, get_or, refl, sym}
+use Rattle.std.proofs.Common.{ap, subst, ◌∙◌, inl, inr, arith, append_assoc, length-append, add-one}
 use Rattle.std.specs.List.{All, HoldsAt}
 use Rattle.std.specs.List.Sorted.{IsNonDecreasingBy}
 use Rattle.std.proofs.lemmas.Bool.{cases_lt}
@@ -37,17 +38,22 @@ last_of_all {X} (x ∷ y ∷ xs) some =
     (rest.0, (x ∷ rest.1.0, (ap (λ (l : List X). x ∷ l) rest.1.1.0, rest.1.1.1 ∙ later x (y ∷ xs) rest.0 (omega arith))))
 
 -- the runs that are read are those of the chunk that was found
-pub found : (xs : List Chunk) (r place : ℕ) (is : IsChunkOf xs r place) (rs : List Run) → HoldsAt (λ (c : Chunk). rs ≡ c.runs.items) xs place → is.chunk.runs.items ≡ rs
+pub found : (xs : List Chunk) (r place : ℕ) (is : IsChunkOf xs r place) (rs : List Run)
+    → HoldsAt (λ (c : Chunk). rs ≡ c.runs.items) xs place → is.chunk.runs.items ≡ rs
 found xs r place is rs read =
     let same : get_or xs place is.chunk ≡ is.chunk = rw (is.parts, ← is.at) (get-around is.front is.back is.chunk is.chunk) in
     sym (read is.chunk ∙ ap (λ (c : Chunk). c.runs.items) same)
 
-pub found_steady : (rank : Run → ℕ) (xs : List Chunk) (r place : ℕ) (is : IsChunkOf xs r place) (rs : List Run) → HoldsAt (λ (c : Chunk). rs ≡ c.runs.items) xs place → IsLaid rank xs (2 ^ 64) → IsNonDecreasingBy rank rs
+pub found_steady : (rank : Run → ℕ) (xs : List Chunk) (r place : ℕ) (is : IsChunkOf xs r place) (rs : List Run)
+    → HoldsAt (λ (c : Chunk). rs ≡ c.runs.items) xs place → IsLaid rank xs (2 ^ 64) → IsNonDecreasingBy rank rs
 found_steady rank xs r place is rs read laid =
     subst (λ (l : List Run). IsNonDecreasingBy rank l) (found xs r place is rs read)
-    (rises-steady rank is.chunk.runs.items is.chunk.low (fence is.back (2 ^ 64)) (chunk_rises rank is.front is.back is.chunk (2 ^ 64) (subst (λ (l : List Chunk). IsLaid rank l (2 ^ 64)) is.parts laid)))
+    (rises-steady rank is.chunk.runs.items is.chunk.low (fence is.back (2 ^ 64))
+    (chunk_rises rank is.front is.back is.chunk (2 ^ 64)
+    (subst (λ (l : List Chunk). IsLaid rank l (2 ^ 64)) is.parts laid)))
 
-module _ (rank : Run → ℕ) (xs : List Chunk) (r place : ℕ) (is : IsChunkOf xs r place) (rs : List Run) (read : HoldsAt (λ (c : Chunk). rs ≡ c.runs.items) xs place)
+module _ (rank : Run → ℕ) (xs : List Chunk) (r place : ℕ) (is : IsChunkOf xs r place) (rs : List Run)
+    (read : HoldsAt (λ (c : Chunk). rs ≡ c.runs.items) xs place)
     (laid : IsLaid rank xs (2 ^ 64)) (even : IsEven xs) (within : ℕ) (p : IsPlaceOf rank rs r within) where
   laid_whole : IsLaid rank (is.front ++ is.chunk ∷ is.back) (2 ^ 64)
   laid_whole = subst (λ (l : List Chunk). IsLaid rank l (2 ^ 64)) is.parts laid
@@ -56,17 +62,20 @@ module _ (rank : Run → ℕ) (xs : List Chunk) (r place : ℕ) (is : IsChunkOf 
   even_whole = subst (λ (l : List Chunk). IsEven l) is.parts even
 
   flat : runs_in xs ≡ runs_in is.front ++ (rs ++ runs_in is.back)
-  flat = ap runs_in is.parts ∙ runs_around is.front is.back is.chunk ∙ ap (λ (l : List Run). runs_in is.front ++ (l ++ runs_in is.back)) (found xs r place is rs read)
+  flat = ap runs_in is.parts ∙ runs_around is.front is.back is.chunk
+      ∙ ap (λ (l : List Run). runs_in is.front ++ (l ++ runs_in is.back)) (found xs r place is rs read)
 
   below : All (λ (x : Run). rank x < r) (runs_in is.front)
   below =
       let from = is.from in
-      All-weaker (λ (x : Run). rank x < is.chunk.low) (λ (x : Run). rank x < r) (λ x lt. omega arith) (runs_in is.front) (front_below rank is.front is.back is.chunk (2 ^ 64) laid_whole)
+      All-weaker (λ (x : Run). rank x < is.chunk.low) (λ (x : Run). rank x < r) (λ x lt. omega arith) (runs_in is.front)
+      (front_below rank is.front is.back is.chunk (2 ^ 64) laid_whole)
 
   above : All (λ (x : Run). r ≤ rank x) (runs_in is.back)
   above =
       let to = is.to in
-      All-weaker (λ (x : Run). fence is.back (2 ^ 64) ≤ rank x) (λ (x : Run). r ≤ rank x) (λ x le. omega arith) (runs_in is.back) (back_above rank is.front is.back is.chunk (2 ^ 64) laid_whole)
+      All-weaker (λ (x : Run). fence is.back (2 ^ 64) ≤ rank x) (λ (x : Run). r ≤ rank x) (λ x le. omega arith)
+      (runs_in is.back) (back_above rank is.front is.back is.chunk (2 ^ 64) laid_whole)
 
   first_run : (run : Run) → within < length rs → run ≡ get_or rs within run → IsFirstFrom rank (runs_in xs) r run
   first_run run lt is_run =
@@ -97,10 +106,12 @@ module _ (rank : Run → ℕ) (xs : List Chunk) (r place : ℕ) (is : IsChunkOf 
       let long = ap length p.parts ∙ length-append p.before p.after in
       let only = p.parts ∙ ap (λ (l : List Run). p.before ++ l) (none p.after (omega (arith, p.at))) in
       All-append (λ (x : Run). rank x < r) (runs_in is.front) rs below
-      (subst (λ (l : List Run). All (λ (x : Run). rank x < r) l) (sym only) (All-append (λ (x : Run). rank x < r) p.before [] p.below (All-nil (λ (x : Run). rank x < r))))
+      (subst (λ (l : List Run). All (λ (x : Run). rank x < r) l) (sym only)
+      (All-append (λ (x : Run). rank x < r) p.before [] p.below (All-nil (λ (x : Run). rank x < r))))
 
   flat_rest : (back : List Chunk) → is.back ≡ back → runs_in xs ≡ (runs_in is.front ++ rs) ++ runs_in back
-  flat_rest back same_back = flat ∙ sym (append_assoc (runs_in is.front) rs (runs_in is.back)) ∙ ap (λ (l : List Chunk). (runs_in is.front ++ rs) ++ runs_in l) same_back
+  flat_rest back same_back = flat ∙ sym (append_assoc (runs_in is.front) rs (runs_in is.back))
+      ∙ ap (λ (l : List Chunk). (runs_in is.front ++ rs) ++ runs_in l) same_back
 
   last_chunk : length xs ≤ place + 1 → is.back ≡ []
   last_chunk last = none is.back (omega (arith, ap length is.parts, length-append is.front (is.chunk ∷ is.back), is.at))
@@ -115,8 +126,17 @@ module _ (rank : Run → ℕ) (xs : List Chunk) (r place : ℕ) (is : IsChunkOf 
 
     behind : (next : Chunk) × ((rest : List Chunk) × ((is.back ≡ next ∷ rest) × (ns ≡ next.runs.items)))
     behind =
-        let head = first_of_all is.back (omega (arith, ap length is.parts, length-append is.front (is.chunk ∷ is.back), is.at)) in
-        (head.0, (head.1.0, (head.1.1, read_next head.0 ∙ ap (λ (c : Chunk). c.runs.items) (next_at head.0 ∙ ap (λ (l : List Chunk). get_or l 0 head.0) head.1.1))))
+        let head = first_of_all is.back (omega (arith, ap length is.parts, length-append is.front (is.chunk ∷ is.back), is.at)) in (
+          head.0,
+          (
+            head.1.0,
+            (
+              head.1.1,
+              read_next head.0
+                  ∙ ap (λ (c : Chunk). c.runs.items) (next_at head.0 ∙ ap (λ (l : List Chunk). get_or l 0 head.0) head.1.1),
+            ),
+          ),
+        )
 
     rest_flat : runs_in is.back ≡ ns ++ runs_in behind.1.0
     rest_flat = ap runs_in behind.1.1.0 ∙ ap (λ (l : List Run). l ++ runs_in behind.1.0) (sym behind.1.1.1)
@@ -129,7 +149,8 @@ module _ (rank : Run → ℕ) (xs : List Chunk) (r place : ℕ) (is : IsChunkOf 
         record {
           before = runs_in is.front ++ rs;
           after = head.0 ++ runs_in behind.1.0;
-          parts = flat_rest is.back refl ∙ ap (λ (l : List Run). (runs_in is.front ++ rs) ++ l) (rest_flat ∙ ap (λ (l : List Run). l ++ runs_in behind.1.0) head.1);
+          parts = flat_rest is.back refl ∙ ap (λ (l : List Run). (runs_in is.front ++ rs) ++ l)
+              (rest_flat ∙ ap (λ (l : List Run). l ++ runs_in behind.1.0) head.1);
           below = all_here le;
           reached = All-head (λ (x : Run). r ≤ rank x) run (head.0 ++ runs_in behind.1.0)
               (subst (λ (l : List Run). All (λ (x : Run). r ≤ rank x) l) (rest_flat ∙ ap (λ (l : List Run). l ++ runs_in behind.1.0) head.1) above);
@@ -145,20 +166,26 @@ module _ (rank : Run → ℕ) (xs : List Chunk) (r place : ℕ) (is : IsChunkOf 
         (All-append (λ (x : Run). rank x < r) (runs_in is.front ++ rs) [] (all_here le) (All-nil (λ (x : Run). rank x < r)))
       where
         last_is : IsEven (behind.0 ∷ behind.1.0) → length ns ≤ 0 → length behind.1.0 ≤ 0
-        last_is rest_even empty = elim (cases_lt 0 (length behind.1.0)) [ inl lt ↦ absurd (omega (arith, rest_even.1.0 lt, ap length behind.1.1.1)) | inr le ↦ le ]
+        last_is rest_even empty =
+            elim (cases_lt 0 (length behind.1.0))
+            [ inl lt ↦ absurd (omega (arith, rest_even.1.0 lt, ap length behind.1.1.1)) | inr le ↦ le ]
 
   last_run : (run : Run) → 0 < within → run ≡ get_or rs (within - 1) run → IsLastBelow rank (runs_in xs) r run
   last_run run some is_run =
       let tail = ends p.before run (omega (arith, p.at))
-      (is_run ∙ rw p.parts (get_or_append_left p.before p.after run (within - 1) (omega (arith, p.at))) ∙ ap (λ (k : ℕ). get_or p.before (k - 1) run) (sym p.at)) in
+      (is_run ∙ rw p.parts (get_or_append_left p.before p.after run (within - 1) (omega (arith, p.at)))
+      ∙ ap (λ (k : ℕ). get_or p.before (k - 1) run) (sym p.at)) in
       record {
         before = runs_in is.front ++ tail.0;
         after = p.after ++ runs_in is.back;
         parts = flat
             ∙ ap (λ (l : List Run). runs_in is.front ++ (l ++ runs_in is.back)) (p.parts ∙ ap (λ (l : List Run). l ++ p.after) tail.1)
-            ∙ ap (λ (l : List Run). runs_in is.front ++ l) (append_assoc (tail.0 ++ run ∷ []) p.after (runs_in is.back) ∙ append_assoc tail.0 (run ∷ []) (p.after ++ runs_in is.back))
+            ∙ ap (λ (l : List Run). runs_in is.front ++ l) (append_assoc (tail.0 ++ run ∷ []) p.after (runs_in is.back)
+            ∙ append_assoc tail.0 (run ∷ []) (p.after ++ runs_in is.back))
             ∙ sym (append_assoc (runs_in is.front) tail.0 (run ∷ p.after ++ runs_in is.back));
-        below = All-head (λ (x : Run). rank x < r) run [] (All-behind (λ (x : Run). rank x < r) tail.0 (run ∷ []) (subst (λ (l : List Run). All (λ (x : Run). rank x < r) l) tail.1 p.below));
+        below = All-head (λ (x : Run). rank x < r) run []
+            (All-behind (λ (x : Run). rank x < r) tail.0 (run ∷ [])
+            (subst (λ (l : List Run). All (λ (x : Run). rank x < r) l) tail.1 p.below));
         above = All-append (λ (x : Run). r ≤ rank x) p.after (runs_in is.back) p.above above;
       }
 
@@ -195,7 +222,10 @@ module _ (rank : Run → ℕ) (xs : List Chunk) (r place : ℕ) (is : IsChunkOf 
 
     pub last_big : 128 ≤ length ls
     last_big = subst (λ (l : List Run). 128 ≤ length l) (sym ahead.1.1.1)
-        (All-head IsBig ahead.0 [] (All-behind IsBig ahead.1.0 (ahead.0 ∷ []) (subst (λ (l : List Chunk). All IsBig l) ahead.1.1.0 (even-front is.front (is.chunk ∷ is.back) even_whole (omega arith))))).1
+        (All-head IsBig ahead.0 []
+        (All-behind IsBig ahead.1.0 (ahead.0 ∷ [])
+        (subst (λ (l : List Chunk). All IsBig l) ahead.1.1.0
+        (even-front is.front (is.chunk ∷ is.back) even_whole (omega arith))))).1
 
     pub last_ahead : (d : Run) → within ≤ 0 → IsLastBelow rank (runs_in xs) r (get_or ls (length ls - 1) d)
     last_ahead d le =
@@ -204,12 +234,16 @@ module _ (rank : Run → ℕ) (xs : List Chunk) (r place : ℕ) (is : IsChunkOf 
         = get_or_default ls (length ls - 1) d (get_or ls (length ls - 1) d) (omega (arith, last_big)) in
         let tail = ends ls run (omega (arith, last_big)) is_run in
         let front_is : runs_in is.front ≡ (runs_in ahead.1.0 ++ tail.0) ++ run ∷ [] = ap runs_in ahead.1.1.0 ∙ runs_in-append ahead.1.0 (ahead.0 ∷ [])
-        ∙ ap (λ (l : List Run). runs_in ahead.1.0 ++ (l ++ [])) (sym ahead.1.1.1 ∙ tail.1) ∙ ap (λ (l : List Run). runs_in ahead.1.0 ++ l) (append_assoc tail.0 (run ∷ []) []) ∙ sym (append_assoc (runs_in ahead.1.0) tail.0 (run ∷ [])) in
+        ∙ ap (λ (l : List Run). runs_in ahead.1.0 ++ (l ++ [])) (sym ahead.1.1.1 ∙ tail.1)
+        ∙ ap (λ (l : List Run). runs_in ahead.1.0 ++ l) (append_assoc tail.0 (run ∷ []) [])
+        ∙ sym (append_assoc (runs_in ahead.1.0) tail.0 (run ∷ [])) in
         record {
           before = runs_in ahead.1.0 ++ tail.0;
           after = rs ++ runs_in is.back;
-          parts = flat ∙ ap (λ (l : List Run). l ++ (rs ++ runs_in is.back)) front_is ∙ append_assoc (runs_in ahead.1.0 ++ tail.0) (run ∷ []) (rs ++ runs_in is.back);
+          parts = flat ∙ ap (λ (l : List Run). l ++ (rs ++ runs_in is.back)) front_is
+              ∙ append_assoc (runs_in ahead.1.0 ++ tail.0) (run ∷ []) (rs ++ runs_in is.back);
           below = All-head (λ (x : Run). rank x < r) run []
-              (All-behind (λ (x : Run). rank x < r) (runs_in ahead.1.0 ++ tail.0) (run ∷ []) (subst (λ (l : List Run). All (λ (x : Run). rank x < r) l) front_is below));
+              (All-behind (λ (x : Run). rank x < r) (runs_in ahead.1.0 ++ tail.0) (run ∷ [])
+              (subst (λ (l : List Run). All (λ (x : Run). rank x < r) l) front_is below));
           above = all_behind le;
         }

@@ -1,5 +1,6 @@
 -- Chunks that are halved, and chunks that are joined.
-use Rattle.std.proofs.Common.{◌≡◌, ℕ, suc, ◌+◌, ◌-◌, ◌<◌, ◌≤◌, ◌^◌, List, ◌∷◌, ◌++◌, length, set, take, drop, get_or, vec_capacity, sym, ap, subst, ◌∙◌, arith, append_assoc, length-append, add-one}
+use Rattle.std.proofs.Common.{◌≡◌, ℕ, suc, ◌+◌, ◌-◌, ◌<◌, ◌≤◌, ◌^◌, List, ◌∷◌, ◌++◌, length, set, take, drop, get_or}
+use Rattle.std.proofs.Common.{vec_capacity, sym, ap, subst, ◌∙◌, arith, append_assoc, length-append, add-one}
 use Rattle.std.specs.List.{insert, remove}
 use Rattle.std.proofs.lemmas.List.{take_all, take-append-drop, length-take-le, length-drop}
 use Rattle.run_alloc.specs.declared.order.Run.{Run}
@@ -15,11 +16,13 @@ pub halved : (rank : Run → ℕ) (old new upper : Chunk) (run : Run) → 512 �
     → new.low ≡ old.low → upper.low ≡ rank run → run ≡ get_or upper.runs.items 0 run
     → 640 ≤ vec_capacity new.runs → 640 ≤ vec_capacity upper.runs → IsHalved rank old new upper
 halved rank old new upper run full lower_is upper_is low upper_low read room upper_room =
-    let all : upper.runs.items ≡ drop 256 old.runs.items = upper_is ∙ take_all (length old.runs.items - 256) (drop 256 old.runs.items) (omega (arith, length-drop 256 old.runs.items)) in
+    let all : upper.runs.items ≡ drop 256 old.runs.items = upper_is ∙ take_all (length old.runs.items - 256)
+    (drop 256 old.runs.items) (omega (arith, length-drop 256 old.runs.items)) in
     let long : length upper.runs.items ≡ length old.runs.items - 256 = ap length all ∙ length-drop 256 old.runs.items in
     let head = begins upper.runs.items run (omega arith) read in
     record {
-      parts = sym (ap (λ (l : List Run). l ++ upper.runs.items) lower_is ∙ ap (λ (l : List Run). take 256 old.runs.items ++ l) all ∙ take-append-drop 256 old.runs.items);
+      parts = sym (ap (λ (l : List Run). l ++ upper.runs.items) lower_is
+          ∙ ap (λ (l : List Run). take 256 old.runs.items ++ l) all ∙ take-append-drop 256 old.runs.items);
       low = low;
       first = run;
       rest = head.0;
@@ -65,7 +68,9 @@ module _ (rank : Run → ℕ) (xs : List Chunk) (place : ℕ) (is : IsRich xs pl
 
   module _ (lower upper : Chunk) (half : IsHalved rank c lower upper) where
     cut : insert (set xs place lower) (place + 1) upper ≡ is.amid.front ++ lower ∷ upper ∷ is.amid.back
-    cut = rw (add-one, is.amid.parts, ← is.amid.at) (ap (λ (l : List Chunk). insert l (suc (length is.amid.front)) upper) (set-around is.amid.front is.amid.back is.amid.chunk lower)
+    cut = rw (add-one, is.amid.parts, ← is.amid.at)
+        (ap (λ (l : List Chunk). insert l (suc (length is.amid.front)) upper)
+        (set-around is.amid.front is.amid.back is.amid.chunk lower)
         ∙ insert-behind is.amid.front is.amid.back lower upper)
 
     pub halved_runs : runs_in (insert (set xs place lower) (place + 1) upper) ≡ runs_in xs
@@ -93,7 +98,8 @@ module _ (rank : Run → ℕ) (xs : List Chunk) (place : ℕ) (is : IsRich xs pl
         (lower_rises, (upper_rises, (laid-behind rank is.amid.front (c ∷ is.amid.back) (2 ^ 64) laid_whole).1)))
 
     pub halved_starts : fence (insert (set xs place lower) (place + 1) upper) 1 ≡ fence xs 1
-    halved_starts = ap (λ (l : List Chunk). fence l 1) cut ∙ fence-append is.amid.front (lower ∷ upper ∷ is.amid.back) 1 ∙ ap (λ (n : ℕ). fence is.amid.front n) half.low
+    halved_starts = ap (λ (l : List Chunk). fence l 1) cut ∙ fence-append is.amid.front (lower ∷ upper ∷ is.amid.back) 1
+        ∙ ap (λ (n : ℕ). fence is.amid.front n) half.low
         ∙ sym (ap (λ (l : List Chunk). fence l 1) whole ∙ fence-append is.amid.front (c ∷ is.amid.back) 1)
 
     upper_light : length upper.runs.items < 512
@@ -103,7 +109,13 @@ module _ (rank : Run → ℕ) (xs : List Chunk) (place : ℕ) (is : IsRich xs pl
     halved_even = subst (λ (l : List Chunk). IsEven l) (sym cut)
         (even-append is.amid.front (lower ∷ upper ∷ is.amid.back) is.amid.before (
           record { light = omega (arith, half.lower_len); room = half.room },
-          ((λ _. omega (arith, half.lower_len)), (record { light = upper_light; room = half.upper_room }, ((λ _. omega (arith, half.upper_len)), is.amid.after))),
+          (
+            (λ _. omega (arith, half.lower_len)),
+            (
+              record { light = upper_light; room = half.upper_room },
+              ((λ _. omega (arith, half.upper_len)), is.amid.after),
+            ),
+          ),
         ))
 
 -- the chunk at the place takes in the next
@@ -176,4 +188,9 @@ rich_still xs place is last =
     record { amid = is; rich = λ some. absurd (omega (arith, ap length is.parts, length-append is.front (is.chunk ∷ is.back), is.at)) }
 
 pub rich_enough : (xs : List Chunk) (place : ℕ) (is : IsAmid xs place) (c : Chunk) → c ≡ get_or xs place c → 128 ≤ length c.runs.items → IsRich xs place
-rich_enough xs place is c read many = record { amid = is; rich = λ _. subst (λ (x : Chunk). 128 ≤ length x.runs.items) (sym (amid_same xs place is c read)) many }
+rich_enough xs place is c read many =
+    record {
+      amid = is;
+      rich = λ _. subst (λ (x : Chunk). 128 ≤ length x.runs.items)
+          (sym (amid_same xs place is c read)) many;
+    }

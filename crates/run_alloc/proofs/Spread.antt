@@ -74,7 +74,8 @@ listed-from at (suc len) a = grind (arith, nat_tests, listed-from (suc at) len a
 
 listed : (runs : List Run) (a : ℕ) → list_any (λ y. y == a) (addresses runs) ≡ in_runs runs a
 listed [] a = refl
-listed (run ∷ runs) a = list_any-append (λ y. y == a) (addresses_from run.at run.len) (addresses runs) ∙ grind (arith, listed-from run.at run.len a, listed runs a)
+listed (run ∷ runs) a = list_any-append (λ y. y == a) (addresses_from run.at run.len) (addresses runs)
+    ∙ grind (arith, listed-from run.at run.len a, listed runs a)
 
 -- the set of the runs' addresses has those that a run has
 pub contains-free_set : (runs : List Run) (a : ℕ) → set.contains (free_set runs) a ≡ in_runs runs a

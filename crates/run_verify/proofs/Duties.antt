@@ -19,14 +19,18 @@ due-else d before Removes more is = refl
 due-else d before Keeps more is = refl
 
 -- partition by partition
-pub part_begins : (changes : List (List Change)) (d passed : ℕ) (own : List Change) → d < length changes → own ≡ at [] changes d → dues_left changes passed ≡ dues_on changes d → IsAt changes d own 0 passed
+pub part_begins : (changes : List (List Change)) (d passed : ℕ) (own : List Change) → d < length changes
+    → own ≡ at [] changes d → dues_left changes passed ≡ dues_on changes d → IsAt changes d own 0 passed
 part_begins changes d passed own below same is =
-    is ∙ ap (dues_in changes d) (let e : length changes - d ≡ suc (length changes - (d + 1)) = omega (arith, below) in e) ∙ ap (λ (cs : List Change). dues_of d [] cs ++ dues_on changes (d + 1)) (sym same)
+    is ∙ ap (dues_in changes d) (let e : length changes - d ≡ suc (length changes - (d + 1)) = omega (arith, below) in
+    e) ∙ ap (λ (cs : List Change). dues_of d [] cs ++ dues_on changes (d + 1)) (sym same)
 
-pub part_ends : (changes : List (List Change)) (d : ℕ) (own : List Change) (place passed : ℕ) → IsAt changes d own place passed → length own ≤ place → dues_left changes passed ≡ dues_on changes (d + 1)
+pub part_ends : (changes : List (List Change)) (d : ℕ) (own : List Change) (place passed : ℕ)
+    → IsAt changes d own place passed → length own ≤ place → dues_left changes passed ≡ dues_on changes (d + 1)
 part_ends changes d own place passed is end = is ∙ ap (λ (cs : List Change). dues_of d (take place own) cs ++ dues_on changes (d + 1)) (drop_all place own end)
 
-pub none_left : (changes : List (List Change)) (d passed : ℕ) → length changes ≤ d → dues_left changes passed ≡ dues_on changes d → dues_left changes passed ≡ []
+pub none_left : (changes : List (List Change)) (d passed : ℕ) → length changes ≤ d → dues_left changes passed
+    ≡ dues_on changes d → dues_left changes passed ≡ []
 none_left changes d passed end is = is ∙ ap (dues_in changes d) (let e : length changes - d ≡ 0 = omega (arith, end) in e)
 
 next-dropped : {X : Type 0} (n : ℕ) (xs : List X) (y : X) (ys : List X) → drop n xs ≡ y ∷ ys → drop (suc n) xs ≡ ys
@@ -35,7 +39,8 @@ next-dropped zero (x ∷ xs) y ys is = ap (drop 1) is
 next-dropped (suc n) (x ∷ xs) y ys is = next-dropped n xs y ys is
 
 -- change by change
-module _ (changes : List (List Change)) (d : ℕ) (own : List Change) (place passed : ℕ) (c : Change) (is : IsAt changes d own place passed) (below : place < length own) (here : c ≡ get_or own place c) where
+module _ (changes : List (List Change)) (d : ℕ) (own : List Change) (place passed : ℕ) (c : Change)
+    (is : IsAt changes d own place passed) (below : place < length own) (here : c ≡ get_or own place c) where
   before : List Change
   before = take place own
 
@@ -60,7 +65,8 @@ module _ (changes : List (List Change)) (d : ℕ) (own : List Change) (place pas
   pub at_due : (value : List ℕ) (run : Option Run) → c.effect ≡ Writes value run
       → dues_left changes passed ≡ due_at d (take place own) value run ∷ (dues_of d (take (place + 1) own) (drop (place + 1) own) ++ dues_on changes (d + 1))
   unfolding more
-  at_due value run writes = is ∙ ap (λ (ds : List Due). ds ++ dues_on changes (d + 1)) (unfolded ∙ ap (λ (e : Effect). due_for d (take place own) e more) writes)
+  at_due value run writes = is ∙ ap (λ (ds : List Due). ds ++ dues_on changes (d + 1))
+      (unfolded ∙ ap (λ (e : Effect). due_for d (take place own) e more) writes)
 
   pub at_next : (value : List ℕ) (run : Option Run) → c.effect ≡ Writes value run → IsAt changes d own (place + 1) (passed + 1)
   at_next value run writes =

@@ -20,7 +20,8 @@ given x (Some y) = y
 given x None = x
 
 abbrev OneCall : Asked → Bool → Option Reply → Asked → Type 0
-OneCall x taken reply op = let a : Call = record { op = x; taken = taken; reply = reply } in let b : Call = record { op = op; taken = true; reply = None } in a ≡ b
+OneCall x taken reply op = let a : Call = record { op = x; taken = taken; reply = reply } in let b : Call =
+    record { op = op; taken = true; reply = None } in a ≡ b
 
 -- an open call is one that may take effect and isn't logged
 open-by : (taken : Bool) (reply : Option Reply) (x op : Asked) → open_if taken reply x ≡ Some op → OneCall x taken reply op
@@ -33,13 +34,16 @@ open-is None op is = absurd (cc is)
 open-is (Some call) op is = ap Some (open-by call.taken call.reply call.op op is)
 
 -- a line without a name tells no entry
-pub unnamed : (a : Account) (line : List ℕ) → ((name : Name) (rest : List ℕ) → FitsName name → text_of_name name ++ rest ≢ line) → (e : Entry) → ¬ (TellsEntry a line e)
+pub unnamed : (a : Account) (line : List ℕ)
+    → ((name : Name) (rest : List ℕ) → FitsName name → text_of_name name ++ rest ≢ line) → (e : Entry)
+    → ¬ (TellsEntry a line e)
 unnamed a line none e is = none (record { caller = e.caller; call = e.call }) _ is.named (sym (entry-line e) ∙ sym is.text)
 
 -- the entry that a line with this name tells
 module _ (a : Account) (line : List ℕ) (name : Name) (fits : FitsName name) (front : Begins (text_of_name name) line) where
   one-name : (e : Entry) → TellsEntry a line e → (e.caller ≡ name.caller) × (e.call ≡ name.call)
-  one-name e is = entry-names e name.caller name.call front.0 (record { caller = is.named.0; call = is.named.1; reply = is.fits }) fits.0 fits.1 (sym is.text ∙ front.1)
+  one-name e is = entry-names e name.caller name.call front.0
+      (record { caller = is.named.0; call = is.named.1; reply = is.fits }) fits.0 fits.1 (sym is.text ∙ front.1)
 
   one-op : (e : Entry) → TellsEntry a line e → open_in a.calls name.caller name.call ≡ Some e.op
   one-op e is = let same = one-name e is in
@@ -55,12 +59,15 @@ module _ (a : Account) (line : List ℕ) (name : Name) (fits : FitsName name) (f
       let reply : e.reply ≡ reply_of a.table op = is.reply ∙ ap (reply_of a.table) ops in
       λ i. record { caller = same.0 i; call = same.1 i; op = ops i; reply = reply i }
 
-  pub entered : (op : Asked) (now : Account) (o : Option Entry) → open_in a.calls name.caller name.call ≡ Some op → HasApplied a name op line now o → HasRead a line now o
+  pub entered : (op : Asked) (now : Account) (o : Option Entry) → open_in a.calls name.caller name.call ≡ Some op
+      → HasApplied a name op line now o → HasRead a line now o
   entered op now None opened other = λ e is. other (is.text ∙ ap entry_text (one-entry op opened e is))
   entered op now (Some e) opened (same, reply, text, table) = (
     record {
       text = text;
-      call = open-is (slice_get (at [] a.calls e.caller) e.call) e.op (ap (λ (x : Entry). open_in a.calls x.caller x.call) same ∙ opened ∙ ap (λ (x : Entry). Some x.op) (sym same));
+      call = open-is (slice_get (at [] a.calls e.caller) e.call) e.op
+          (ap (λ (x : Entry). open_in a.calls x.caller x.call) same ∙ opened
+          ∙ ap (λ (x : Entry). Some x.op) (sym same));
       reply = ap (λ (x : Entry). x.reply) same ∙ ap (λ (x : Entry). reply_of a.table x.op) (sym same);
       fits = reply;
       named = subst (λ (x : Entry). (x.caller < callers) × (x.call < 2 ^ 64)) (sym same) fits;
@@ -68,6 +75,8 @@ module _ (a : Account) (line : List ℕ) (name : Name) (fits : FitsName name) (f
     table ∙ ap (λ (x : Entry). with_table a (table_after a.table x.op)) (sym same),
   )
 
-  pub entered_ok : {E : Type 0} (op : Asked) (now : Account) (r : Result (Option Entry) E) → open_in a.calls name.caller name.call ≡ Some op → IfOk r (HasApplied a name op line now) → IfOk r (HasRead a line now)
+  pub entered_ok : {E : Type 0} (op : Asked) (now : Account) (r : Result (Option Entry) E)
+      → open_in a.calls name.caller name.call ≡ Some op → IfOk r (HasApplied a name op line now)
+      → IfOk r (HasRead a line now)
   entered_ok op now (Ok o) opened is = entered op now o opened is
   entered_ok op now (Err e) opened is = tt

@@ -26,7 +26,8 @@ now-first : (sheet : Sheet) (runs : List (List (Option Run))) → Now sheet runs
 now-first sheet runs = record {
   stands = stands-first sheet.script.shape.k;
   table = refl;
-  changes = λ d below. subst (λ (cs : List Change). MatchAll cs (updates_by sheet.script.shape runs [] d)) (sym (at-replicate {X = List Change} [] sheet.script.shape.k d)) tt;
+  changes = λ d below. subst (λ (cs : List Change). MatchAll cs (updates_by sheet.script.shape runs [] d))
+      (sym (at-replicate {X = List Change} [] sheet.script.shape.k d)) tt;
   fits = empty-fits sheet.script.shape.k;
   placed = refl;
 }
@@ -39,8 +40,10 @@ checked_transcripts_pass text sheet short is checked =
     let runs : List (List (Option Run)) = runs_told checked.told in
     let checks = checks_of sheet (length text + 1) good (omega (arith, short)) ends checked in
     let first : Account = first_account sheet.script.shape.k in
-    let all = steps_pass sheet turns runs checks sheet.script.steps checked.told [] refl refl checked.tells ends (fit_steps sheet.script.shape sheet.script.steps good.fit) checked.shown first false (now-first sheet runs) in
-    let passes : PassAll sheet (first_state sheet.script) sheet.lines all.0 = subst (λ (ls : List (List ℕ)). PassAll sheet (first_state sheet.script) ls all.0) (sym checked.lines) all.1 in
+    let all = steps_pass sheet turns runs checks sheet.script.steps checked.told [] refl refl checked.tells ends
+    (fit_steps sheet.script.shape sheet.script.steps good.fit) checked.shown first false (now-first sheet runs) in
+    let passes : PassAll sheet (first_state sheet.script) sheet.lines all.0 =
+    subst (λ (ls : List (List ℕ)). PassAll sheet (first_state sheet.script) ls all.0) (sym checked.lines) all.1 in
     let few = good.short in
     record {
       account = all.0;

@@ -1,5 +1,6 @@
 -- An entry that stands among the lines of the log right ahead is found there.
-use Rattle.std.proofs.Common.{◌≡◌, ◌≢◌, inl, inr, ◌<◌, ◌^◌, ℕ, zero, suc, List, [], ◌∷◌, ◌++◌, ◌∙◌, map, slice_get, codes, Some, append_assoc, refl, sym, ap, subst, arith}
+use Rattle.std.proofs.Common.{◌≡◌, ◌≢◌, inl, inr, ◌<◌, ◌^◌, ℕ, zero, suc, List, [], ◌∷◌, ◌++◌, ◌∙◌, map, slice_get}
+use Rattle.std.proofs.Common.{codes, Some, append_assoc, refl, sym, ap, subst, arith}
 use Rattle.group_types.specs.Dimensions.{callers}
 use Rattle.group_calls.specs.Turns.{CallName, name_of}
 use Rattle.group_calls.specs.declared.entry.Entry.{Entry}
@@ -12,24 +13,34 @@ use Rattle.run_verify.proofs.ImpliedAhead.{AllFit}
 abbrev pub AreNamedApart : List Entry → Type 0
 AreNamedApart es = (i j : ℕ) (d e : Entry) → i < j → slice_get es i ≡ Some d → slice_get es j ≡ Some e → name_of d ≢ name_of e
 
-ends-so : (e : Entry) (op : List ℕ) → entry_text e ≡ name_text e.caller e.call 0 ++ (op ++ codes " " ++ reply_text e.reply) → BeginsAndEnds (front_of (name_of e)) (reply_text e.reply) (entry_text e)
+ends-so : (e : Entry) (op : List ℕ) → entry_text e ≡ name_text e.caller e.call 0
+    ++ (op ++ codes " " ++ reply_text e.reply) → BeginsAndEnds (front_of (name_of e)) (reply_text e.reply)
+    (entry_text e)
 ends-so e op is = (op, is ∙ ap (λ (t : List ℕ). name_text e.caller e.call 0 ++ t) (append_assoc op (codes " ") (reply_text e.reply)))
 
 here : (e : Entry) → BeginsAndEnds (front_of (name_of e)) (reply_text e.reply) (entry_text e)
 here e = ends-so e _ (entry-line e)
 
-other-begins : (d : Entry) (name : CallName) → FitsEntry d → name.caller < callers → name.call < 2 ^ 64 → name_of d ≢ name → ¬ (Begins (front_of name) (entry_text d))
+other-begins : (d : Entry) (name : CallName) → FitsEntry d → name.caller < callers → name.call < 2 ^ 64
+    → name_of d ≢ name → ¬ (Begins (front_of name) (entry_text d))
 other-begins d name fits fc fn other (rest, is) =
     let names = entry-names d name.caller name.call rest fits fc fn is in
     let caller = names.0 in
     let call = names.1 in
     other (let eq : record { caller = d.caller; call = d.call } ≡ record { caller = name.caller; call = name.call } = cc (caller, call) in eq)
 
-pub logs-ahead : (es : List Entry) (rest : List (List ℕ)) (i : ℕ) (e : Entry) → AllFit es → AreNamedApart es → e.caller < callers → e.call < 2 ^ 64 → slice_get es i ≡ Some e
+pub logs-ahead : (es : List Entry) (rest : List (List ℕ)) (i : ℕ) (e : Entry) → AllFit es → AreNamedApart es
+    → e.caller < callers → e.call < 2 ^ 64 → slice_get es i ≡ Some e
     → LogsAhead (front_of (name_of e)) (reply_text e.reply) (map entry_text es ++ rest)
 logs-ahead [] rest i e fit apart fc fn is = cc is
 logs-ahead (d ∷ es) rest zero e fit apart fc fn is =
     let same : d ≡ e = cc is in
     (refl, inl (subst (λ (x : Entry). BeginsAndEnds (front_of (name_of e)) (reply_text e.reply) (entry_text x)) (sym same) (here e)))
-logs-ahead (d ∷ es) rest (suc i) e fit apart fc fn is =
-    (refl, inr (other-begins d (name_of e) fit.0 fc fn (apart 0 (suc i) d e (omega arith) refl is), logs-ahead es rest i e fit.1 (λ j k f g less at_j at_k. apart (suc j) (suc k) f g (omega (arith, less)) at_j at_k) fc fn is))
+logs-ahead (d ∷ es) rest (suc i) e fit apart fc fn is = (
+  refl,
+  inr (
+    other-begins d (name_of e) fit.0 fc fn (apart 0 (suc i) d e (omega arith) refl is),
+    logs-ahead es rest i e fit.1 (λ j k f g less at_j at_k. apart (suc j) (suc k) f g (omega (arith, less)) at_j at_k)
+        fc fn is,
+  ),
+)

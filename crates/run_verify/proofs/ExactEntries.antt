@@ -1,5 +1,7 @@
 -- An entry of a checked transcript is told by its line, and leads to an account that says of the log what the one before said.
-use Rattle.std.proofs.Common.{◌≡◌, ◌≢◌, ◌⊎◌, inl, inr, ◌<◌, ◌+◌, ◌^◌, ◌==◌, ℕ, zero, suc, Bool, true, false, List, [], ◌∷◌, ◌++◌, ◌∙◌, map, length, slice_get, Option, Some, None, if◌then◌else◌, refl, sym, ap, subst, arith}
+use Rattle.std.proofs.Common.{◌≡◌, ◌≢◌, ◌⊎◌, inl, inr, ◌<◌, ◌+◌, ◌^◌, ◌==◌, ℕ, zero, suc, Bool, true, false, List, []}
+use Rattle.std.proofs.Common.{◌∷◌, ◌++◌, ◌∙◌, map, length, slice_get, Option, Some, None, if◌then◌else◌, refl, sym, ap}
+use Rattle.std.proofs.Common.{subst, arith}
 use Rattle.std.proofs.lemmas.Bool.{cases_eq}
 use Rattle.std.proofs.lemmas.Bool.Decides.{nat_tests}
 use Rattle.std.proofs.lemmas.List.{length-append, length-map}
@@ -26,7 +28,8 @@ use Rattle.group_run.specs.Meaning.{Logged, is_update_of}
 use Rattle.scenario_text.specs.Texts.{entry_text}
 use Rattle.transcript_text.specs.Forms.{FitsReply}
 use Rattle.run_verify.specs.Checked.{ArePlaced, RepliesWithin}
-use Rattle.run_verify.specs.Passing.{Account, FitsRun, IsRunIn, IsToldFor, IsToldRun, TellsEntry, after_entry, call_of, change_of, changes_at, effect_of, is_taken, part_of, value_in, with_change}
+use Rattle.run_verify.specs.Passing.{Account, FitsRun, IsRunIn, IsToldFor, IsToldRun, TellsEntry, after_entry, call_of}
+use Rattle.run_verify.specs.Passing.{change_of, changes_at, effect_of, is_taken, part_of, value_in, with_change}
 use Rattle.run_verify.specs.Sheet.{Sheet}
 use Rattle.run_verify.specs.Updates.{StandsRight, brings_value, updates_by}
 use Rattle.run_verify.specs.declared.call.Call.{Call}
@@ -57,7 +60,9 @@ pub record Checks (sheet : Sheet) (turns : List Turn) (runs : List (List (Option
   pub legal : IsLegal sheet.script.shape.k (log_of turns)
   pub within : RepliesWithin turns
   pub placed : ArePlaced sheet.script.shape (log_of turns) runs
-  pub found : (d len : ℕ) (run : Run) (front back : List (Option Run)) → d < sheet.script.shape.k → FitsRun sheet.script.shape len run → at [] runs d ≡ front ++ Some run ∷ back → IsRunIn sheet.lines sheet.script.shape d (suc (length front)) len (Some run)
+  pub found : (d len : ℕ) (run : Run) (front back : List (Option Run)) → d < sheet.script.shape.k
+      → FitsRun sheet.script.shape len run → at [] runs d ≡ front ++ Some run ∷ back
+      → IsRunIn sheet.lines sheet.script.shape d (suc (length front)) len (Some run)
   pub fits : (j : ℕ) (t : Turn) → slice_get turns j ≡ Some t → FitsAsk t.event
   pub few : (caller j : ℕ) (t : Turn) (name : CallName) (op : Asked) → IsAsk turns j t name op → name.call < 2 ^ 64
   pub short : length (log_of turns) + 1 < 2 ^ 64
@@ -91,7 +96,9 @@ no-run s us u true stands is = cc is
 no-run s us u false stands is = stands
 
 -- what holds of a writing act holds of the effect
-told-for : (sheet : Sheet) (d n : ℕ) (act : Act) (value : List ℕ) (run : Option Run) (item : Option Holding) → IsLeft act item → (brings_value act ≡ true → IsToldFor sheet d n (Writes value run) run) → IsToldFor sheet d n (effect_of act value run) run
+told-for : (sheet : Sheet) (d n : ℕ) (act : Act) (value : List ℕ) (run : Option Run) (item : Option Holding)
+    → IsLeft act item → (brings_value act ≡ true → IsToldFor sheet d n (Writes value run) run)
+    → IsToldFor sheet d n (effect_of act value run) run
 told-for sheet d n (Get key) value run item left told = absurd left
 told-for sheet d n (Set key flags expiry v) value run item left told = told refl
 told-for sheet d n (Add key flags expiry v) value run item left told = told refl
@@ -117,7 +124,8 @@ table-push : (t : Contents) (before : List Entry) (e : Entry) → table_of t (be
 table-push t [] e = refl
 table-push t (d ∷ before) e = table-push (table_after t d.op) before e
 
-module _ (sheet : Sheet) (turns : List Turn) (runs : List (List (Option Run))) (c : Checks sheet turns runs) (before more : List Entry) (e : Entry) (log_is : log_of turns ≡ before ++ e ∷ more)
+module _ (sheet : Sheet) (turns : List Turn) (runs : List (List (Option Run))) (c : Checks sheet turns runs)
+    (before more : List Entry) (e : Entry) (log_is : log_of turns ≡ before ++ e ∷ more)
     (hs : List Head) (a : Account) (now : Now sheet runs a hs before) where
   abbrev s : Dimensions
   s = sheet.script.shape
@@ -132,7 +140,8 @@ module _ (sheet : Sheet) (turns : List Turn) (runs : List (List (Option Run))) (
   t = table_of (empty_table s.k) before
 
   reply-is : e.reply ≡ reply_of a.table e.op
-  reply-is = legal-at (empty_table s.k) before more e (subst (IsLegalFrom (empty_table s.k)) log_is c.legal) ∙ ap (λ (x : Contents). reply_of x e.op) (sym now.table)
+  reply-is = legal-at (empty_table s.k) before more e (subst (IsLegalFrom (empty_table s.k)) log_is c.legal)
+      ∙ ap (λ (x : Contents). reply_of x e.op) (sym now.table)
 
   short : length before + 1 < 2 ^ 64
   short = let few = c.short in let many = ap length log_is in omega (arith, few, many, length-append before (e ∷ more))
@@ -152,7 +161,8 @@ module _ (sheet : Sheet) (turns : List Turn) (runs : List (List (Option Run))) (
   abbrev value : List ℕ
   value = value_in ((table_after a.table e.op).items (key_of e.op.act))
 
-  written : (accepted : accepts e.reply ≡ true) → StandsRight s (updates_by s runs before d) u true → IsToldFor sheet d (length (changes_at a d) + 1) (Writes value u.run) u.run
+  written : (accepted : accepts e.reply ≡ true) → StandsRight s (updates_by s runs before d) u true
+      → IsToldFor sheet d (length (changes_at a d) + 1) (Writes value u.run) u.run
   written accepted (run, h, run_is, item, clear) =
       let up = update accepted in
       let value_is : value ≡ h.item.value = ap value_in (sym item-is ∙ item) in
@@ -163,7 +173,8 @@ module _ (sheet : Sheet) (turns : List Turn) (runs : List (List (Option Run))) (
       let found = c.found d (length value) run (map (λ v. v.run) us) up.back low fits place in
       let many = length-same (changes_at a d) us (now.changes d low) in
       let count : suc (length (map (λ v. v.run) us)) ≡ length (changes_at a d) + 1 = ap suc (length-map us (λ v. v.run) ∙ sym many) ∙ omega arith in
-      subst (λ (r : Option Run). IsRunIn sheet.lines s d (length (changes_at a d) + 1) (length value) r) (sym run_is) (subst (λ (n : ℕ). IsRunIn sheet.lines s d n (length value) (Some run)) count found)
+      subst (λ (r : Option Run). IsRunIn sheet.lines s d (length (changes_at a d) + 1) (length value) r) (sym run_is)
+      (subst (λ (n : ℕ). IsRunIn sheet.lines s d n (length value) (Some run)) count found)
 
   told : accepts e.reply ≡ true → IsToldFor sheet d (length (changes_at a d) + 1) (change_of a e u.run).effect u.run
   told accepted =
@@ -187,7 +198,9 @@ module _ (sheet : Sheet) (turns : List Turn) (runs : List (List (Option Run))) (
   next-changes : (p : ℕ) → p < s.k → MatchAll (changes_at (after_entry sheet a e u.run) p) (updates_by s runs (before ++ e ∷ []) p)
   next-changes p below = by (accepts e.reply) refl (cases_eq p d)
     where
-      by : (b : Bool) → accepts e.reply ≡ b → (p ≡ d) ⊎ (p ≢ d) → MatchAll (at [] (with_change (accepts e.reply) d (change_of a e u.run) a.changes) p) (updates_by s runs (before ++ e ∷ []) p)
+      by : (b : Bool) → accepts e.reply ≡ b → (p ≡ d) ⊎ (p ≢ d)
+          → MatchAll (at [] (with_change (accepts e.reply) d (change_of a e u.run) a.changes) p)
+          (updates_by s runs (before ++ e ∷ []) p)
       by false refused which =
           let none : is_update_of s.k p e ≡ false = ap (λ (b : Bool). if b then d == p else false) refused in
           rw (refused, no-update s runs before e p none) (now.changes p below)
@@ -197,13 +210,20 @@ module _ (sheet : Sheet) (turns : List Turn) (runs : List (List (Option Run))) (
       by true accepted (inr other) =
           let home : (d == p) ≡ false = grind (arith, nat_tests, other) in
           let none : is_update_of s.k p e ≡ false = ap (λ (b : Bool). if b then d == p else false) accepted ∙ home in
-          rw (accepted, at-put-other [] a.changes d p (at [] a.changes d ++ change_of a e u.run ∷ []) other, no-update s runs before e p none) (now.changes p below)
+          rw (
+            accepted,
+            at-put-other [] a.changes d p (at [] a.changes d ++ change_of a e u.run ∷ []) other,
+            no-update s runs before e p none,
+          ) (now.changes p below)
 
   -- ---- the entry's call
 
-  module _ (j : ℕ) (ask : Turn) (asked : IsAsk turns j ask (name_of e) e.op) (h : Head) (head : IsAsked hs j h (name_of e) e.op) (answer : h.answer ≡ ask.answer) where
+  module _ (j : ℕ) (ask : Turn) (asked : IsAsk turns j ask (name_of e) e.op) (h : Head)
+      (head : IsAsked hs j h (name_of e) e.op) (answer : h.answer ≡ ask.answer) where
     entry-there : slice_get (log_of turns) (length before) ≡ Some e
-    entry-there = rw log_is (let zero-behind : length before + 0 ≡ length before = omega arith in subst (λ (n : ℕ). slice_get (before ++ e ∷ more) n ≡ Some e) zero-behind (get-append before (e ∷ more) 0 e refl))
+    entry-there = rw log_is (let zero-behind : length before + 0 ≡ length before = omega arith in
+        subst (λ (n : ℕ). slice_get (before ++ e ∷ more) n ≡ Some e) zero-behind
+        (get-append before (e ∷ more) 0 e refl))
 
     contains : Contains (log_of turns) e
     contains = contains-get (log_of turns) (length before) e entry-there
@@ -219,19 +239,22 @@ module _ (sheet : Sheet) (turns : List Turn) (runs : List (List (Option Run))) (
         by true is = is
         by false is = absurd (c.within.refused j ask (name_of e) e.op e asked (never is) contains refl)
 
-    called : (call : Call) → call_of a (name_of e) ≡ Some call → call.op ≡ e.op → call.taken ≡ is_taken h.answer → call_of a (name_of e) ≡ Some (call_with e None)
+    called : (call : Call) → call_of a (name_of e) ≡ Some call → call.op ≡ e.op → call.taken ≡ is_taken h.answer
+        → call_of a (name_of e) ≡ Some (call_with e None)
     called call is op_is taken_is = by call.reply refl
       where
         by : (r : Option Reply) → call.reply ≡ r → call_of a (name_of e) ≡ Some (call_with e None)
         by None none =
             let t_is = taken_is ∙ taken in
-            let eq : record { op = call.op; taken = call.taken; reply = call.reply } ≡ record { op = e.op; taken = true; reply = None } = cc (op_is, t_is, none) in
+            let eq : record { op = call.op; taken = call.taken; reply = call.reply }
+            ≡ record { op = e.op; taken = true; reply = None } = cc (op_is, t_is, none) in
             is ∙ ap (λ (x : Call). Some x) eq
         by (Some reply) some =
             let by_ask = now.stands.asked (name_of e) call is in
             let behind = by_ask.logged reply some in
             let inside = get-within before behind.0 (entry_of (name_of e) call.op reply) behind.1 in
-            let first : slice_get (log_of turns) behind.0 ≡ Some (entry_of (name_of e) call.op reply) = rw log_is (get-front before (e ∷ more) behind.0 _ behind.1) in
+            let first : slice_get (log_of turns) behind.0 ≡ Some (entry_of (name_of e) call.op reply) =
+            rw log_is (get-front before (e ∷ more) behind.0 _ behind.1) in
             absurd (c.within.once behind.0 (length before) (entry_of (name_of e) call.op reply) e inside first entry-there refl)
 
     fits-op : (e.caller < callers) × FitsAct e.op.act → FitsTable (length before + 1) (table_after a.table e.op)
@@ -249,7 +272,8 @@ module _ (sheet : Sheet) (turns : List Turn) (runs : List (List (Option Run))) (
         }
 
     -- the entry passes
-    pub entry_passes : (run : Option Run) × TellsEntry a (entry_text e) e × IsToldRun (accepts e.reply) sheet a e run × Now sheet runs (after_entry sheet a e run) hs (before ++ e ∷ [])
+    pub entry_passes : (run : Option Run) × TellsEntry a (entry_text e) e × IsToldRun (accepts e.reply) sheet a e run
+        × Now sheet runs (after_entry sheet a e run) hs (before ++ e ∷ [])
     entry_passes =
         let fits : (e.caller < callers) × FitsAct e.op.act = subst FitsAsk asked.event (c.fits j ask asked.there) in
         let tell = tells fits in (

@@ -1,5 +1,6 @@
 -- The replies of a table whose ops are within their limits.
-use Rattle.std.proofs.Common.{◌≡◌, ◌<◌, ◌≤◌, ◌+◌, ◌-◌, ◌%◌, ◌^◌, ◌==◌, ◌&&◌, ℕ, Bool, true, false, nat_le, nat_lt, List, [], ◌∷◌, ◌++◌, length, Option, Some, None, if◌then◌else◌, refl, arith}
+use Rattle.std.proofs.Common.{◌≡◌, ◌<◌, ◌≤◌, ◌+◌, ◌-◌, ◌%◌, ◌^◌, ◌==◌, ◌&&◌, ℕ, Bool, true, false, nat_le, nat_lt, List}
+use Rattle.std.proofs.Common.{[], ◌∷◌, ◌++◌, length, Option, Some, None, if◌then◌else◌, refl, arith}
 use Rattle.std.proofs.lemmas.Bool.Decides.{nat_tests}
 use Rattle.std.proofs.lemmas.Fmt.{digits_decimal}
 use Rattle.std.proofs.lemmas.List.Elements.{All-append, All-cons, All-nil, All-replicate, All-set}
@@ -144,7 +145,8 @@ live-fits t (Some h) fits = by (is_live t h.until)
 rules : (m : ℕ) (t : Contents) (op : Asked) → FitsTable m t → m + 1 < 2 ^ 64 → FitsAct op.act → FitsRuling (ruling_on t op)
 rules m t op fits small fa =
     let low = low-at m t.counts (partition_of t (key_of op.act)) fits.counts in
-    ruling-fits op.moment (count_of t (key_of op.act) + 1) op.act (live_at op.moment (t.items (key_of op.act))) (omega (arith, low, small)) fa (live-fits op.moment (t.items (key_of op.act)) (fits.items (key_of op.act)))
+    ruling-fits op.moment (count_of t (key_of op.act) + 1) op.act (live_at op.moment (t.items (key_of op.act)))
+    (omega (arith, low, small)) fa (live-fits op.moment (t.items (key_of op.act)) (fits.items (key_of op.act)))
 
 -- the reply to an op that fits is one
 pub reply-fits : (m : ℕ) (t : Contents) (op : Asked) → FitsTable m t → m + 1 < 2 ^ 64 → FitsAct op.act → FitsReply (reply_of t op)
@@ -158,7 +160,9 @@ ruled-fits : (m : ℕ) (t : Contents) (key : List ℕ) (r : Ruling) → FitsTabl
 ruled-fits m t key (Refused reply) fits f = record { items = fits.items; counts = more-low m t.counts fits.counts }
 ruled-fits m t key (Accepted reply leaves) fits f = record {
   items = λ other. by other (is_eq (slice_cmp nat_cmp key other));
-  counts = All-set (λ count. count ≤ m + 1) t.counts (partition_of t key) (count_of t key + 1) (let here = low-at m t.counts (partition_of t key) fits.counts in omega (arith, here)) (more-low m t.counts fits.counts);
+  counts = All-set (λ count. count ≤ m + 1) t.counts (partition_of t key) (count_of t key + 1)
+      (let here = low-at m t.counts (partition_of t key) fits.counts in omega (arith, here))
+      (more-low m t.counts fits.counts);
 }
   where
     by : (other : List ℕ) (b : Bool) → FitsLive (if b then leaves else t.items other)

@@ -1,5 +1,6 @@
 -- What is known of a sheet of a text whose transcript is checked.
-use Rattle.std.proofs.Common.{inl, inr, ◌≡◌, ◌⊎◌, ◌<◌, ◌≤◌, ◌+◌, ◌^◌, ℕ, zero, suc, List, [], ◌∷◌, ◌++◌, ◌∙◌, map, take, length, slice_get, Option, Some, refl, sym, ap, subst, arith}
+use Rattle.std.proofs.Common.{inl, inr, ◌≡◌, ◌⊎◌, ◌<◌, ◌≤◌, ◌+◌, ◌^◌, ℕ, zero, suc, List, [], ◌∷◌, ◌++◌, ◌∙◌, map, take}
+use Rattle.std.proofs.Common.{length, slice_get, Option, Some, refl, sym, ap, subst, arith}
 use Rattle.std.proofs.lemmas.Bool.{cases_lt}
 use Rattle.std.proofs.lemmas.Bool.Decides.{nat_tests}
 use Rattle.std.proofs.lemmas.List.{append-nil, length-append, length-map}
@@ -85,7 +86,9 @@ turns-fit : (s : Dimensions) (steps : List Step) (told : List Told) → FitAll s
 turns-fit s [] [] fit tells = All-nil FitsTurn
 turns-fit s [] (told ∷ more) fit tells = absurd tells
 turns-fit s (step ∷ steps) [] fit tells = absurd tells
-turns-fit s (step ∷ steps) (told ∷ more) (first, fit) (tell, tells) = All-append FitsTurn (turns_in told) (turns_told more) (told-fits s step told first tell) (turns-fit s steps more fit tells)
+turns-fit s (step ∷ steps) (told ∷ more) (first, fit) (tell, tells) =
+    All-append FitsTurn (turns_in told) (turns_told more) (told-fits s step told first tell)
+    (turns-fit s steps more fit tells)
 
 all-get : (ts : List Turn) (j : ℕ) (t : Turn) → All FitsTurn ts → slice_get ts j ≡ Some t → FitsTurn t
 all-get [] j t all is = cc is
@@ -182,7 +185,8 @@ runs-few s log runs placed j = by (cases_lt j s.k)
 
 -- ---- all
 
-pub checks_of : (sheet : Sheet) (m : ℕ) → GoodSheet sheet m → m < 2 ^ 32 → EndsPlacing sheet.script.steps → (checked : IsChecked sheet.script sheet.lines) → Checks sheet (turns_told checked.told) (runs_told checked.told)
+pub checks_of : (sheet : Sheet) (m : ℕ) → GoodSheet sheet m → m < 2 ^ 32 → EndsPlacing sheet.script.steps
+    → (checked : IsChecked sheet.script sheet.lines) → Checks sheet (turns_told checked.told) (runs_told checked.told)
 checks_of sheet m good small ends checked = record {
   shape = good.shape;
   legal = checked.legal;
@@ -193,7 +197,8 @@ checks_of sheet m good small ends checked = record {
       let many = runs-low d in
       let long = ap length place in
       subst (λ (ls : List (List ℕ)). IsRunIn ls sheet.script.shape d (suc (length front)) len (Some run)) (sym checked.lines)
-      (run_found sheet.script.shape d len run (omega (arith, low, most)) fits back sheet.script.steps checked.told front ends checked.tells (λ j. let few = runs-low j in omega (arith, few, short-log))
+      (run_found sheet.script.shape d len run (omega (arith, low, most)) fits back sheet.script.steps checked.told front
+      ends checked.tells (λ j. let few = runs-low j in omega (arith, few, short-log))
       (omega (arith, many, short-log, long, length-append front (Some run ∷ back))) place);
   fits = λ j t is. all-get (turns_told checked.told) j t (turns-fit sheet.script.shape sheet.script.steps checked.told good.fit checked.tells) is;
   few = λ caller j t name op ask.

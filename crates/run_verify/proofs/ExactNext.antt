@@ -1,5 +1,7 @@
 -- A line leads to one state alone, so that lines that all pass have none that fails.
-use Rattle.std.proofs.Common.{◌≡◌, inl, inr, ◌<◌, ◌≤◌, ◌+◌, ◌^◌, ◌==◌, ℕ, zero, suc, Bool, true, false, List, [], ◌∷◌, ◌++◌, ◌∙◌, length, drop, codes, Option, Some, None, if◌then◌else◌, refl, sym, ap, subst, arith}
+use Rattle.std.proofs.Common.{◌≡◌, inl, inr, ◌<◌, ◌≤◌, ◌+◌, ◌^◌, ◌==◌, ℕ, zero, suc, Bool, true, false, List, [], ◌∷◌}
+use Rattle.std.proofs.Common.{◌++◌, ◌∙◌, length, drop, codes, Option, Some, None, if◌then◌else◌, refl, sym, ap, subst}
+use Rattle.std.proofs.Common.{arith}
 use Rattle.std.proofs.lemmas.Bool.{cases_eq}
 use Rattle.std.proofs.lemmas.List.{length-append}
 use Rattle.group_types.proofs.Lists.{at-put, at-put-other, at-replicate}
@@ -20,7 +22,10 @@ use Rattle.group_calls.specs.declared.event.Event.{Event}
 use Rattle.group_calls.specs.declared.event.Event.TheVariants as happens
 use Rattle.scenario_text.specs.Texts.{answer_text}
 use Rattle.transcript_text.proofs.Entries.{FitsEntry, entry-line, entry-names}
-use Rattle.run_verify.specs.Passing.{Account, Due, FailsAt, IsToldFor, IsToldRun, PassAll, Passes, PassesBy, PassesEntry, PassesPlace, PassesStep, State, TellsEntry, after_entry, after_event, begins_entry, call_of, change_of, changes_at, dues_from, effect_of, first_account, is_taken, part_of, value_in, with_account, with_change}
+use Rattle.run_verify.specs.Passing.{Account, Due, FailsAt, IsToldFor, IsToldRun, PassAll, Passes, PassesBy}
+use Rattle.run_verify.specs.Passing.{PassesEntry, PassesPlace, PassesStep, State, TellsEntry, after_entry, after_event}
+use Rattle.run_verify.specs.Passing.{begins_entry, call_of, change_of, changes_at, dues_from, effect_of, first_account}
+use Rattle.run_verify.specs.Passing.{is_taken, part_of, value_in, with_account, with_change}
 use Rattle.run_verify.specs.Sheet.{Sheet}
 use Rattle.run_verify.specs.declared.call.Call.{Call}
 use Rattle.run_verify.specs.declared.change.Change.{Change}
@@ -65,13 +70,17 @@ taken-text (answered.Stale call) = refl
 -- ---- entries
 
 effect-once : (sheet : Sheet) (d n : ℕ) (act : Act) (value : List ℕ) (run other : Option Run) → IsShape sheet.script.shape → d < 2 ^ 64 → n < 2 ^ 64
-    → IsToldFor sheet d n (effect_of act value run) run → IsToldFor sheet d n (effect_of act value other) other → effect_of act value run ≡ effect_of act value other
+    → IsToldFor sheet d n (effect_of act value run) run → IsToldFor sheet d n (effect_of act value other) other
+    → effect_of act value run ≡ effect_of act value other
 effect-once sheet d n act value run other shape fd fn = by act
   where
     written : IsToldFor sheet d n (Writes value run) run → IsToldFor sheet d n (Writes value other) other → Writes value run ≡ Writes value other
-    written told also = let small = shape.blocks.1 in ap (Writes value) (found_once sheet.lines sheet.script.shape d n (length value) run other (omega (arith, small)) fd fn told also)
+    written told also = let small = shape.blocks.1 in
+        ap (Writes value) (found_once sheet.lines sheet.script.shape d n (length value) run other (omega (arith, small))
+        fd fn told also)
 
-    by : (act : Act) → IsToldFor sheet d n (effect_of act value run) run → IsToldFor sheet d n (effect_of act value other) other → effect_of act value run ≡ effect_of act value other
+    by : (act : Act) → IsToldFor sheet d n (effect_of act value run) run
+        → IsToldFor sheet d n (effect_of act value other) other → effect_of act value run ≡ effect_of act value other
     by (Get key) told also = written told also
     by (Set key flags expiry v) told also = written told also
     by (Add key flags expiry v) told also = written told also
@@ -86,7 +95,14 @@ effect-once sheet d n act value run other shape fd fn = by act
 
 -- the account with other changes
 abbrev changed : Sheet → Account → Entry → List (List Change) → Account
-changed sheet a e changes = record { calls = (after_entry sheet a e None).calls; table = table_after a.table e.op; changes = changes; entries = a.entries + 1; placed = a.placed; shown = a.shown }
+changed sheet a e changes = record {
+  calls = (after_entry sheet a e None).calls;
+  table = table_after a.table e.op;
+  changes = changes;
+  entries = a.entries + 1;
+  placed = a.placed;
+  shown = a.shown;
+}
 
 after-once : (sheet : Sheet) (a : Account) (e : Entry) (run other : Option Run) (m : ℕ) → IsShape sheet.script.shape → AreFew m a.changes → m + 1 < 2 ^ 64
     → IsToldRun (accepts e.reply) sheet a e run → IsToldRun (accepts e.reply) sheet a e other → after_entry sheet a e run ≡ after_entry sheet a e other
@@ -100,7 +116,8 @@ after-once sheet a e run other m shape few small told also = by (accepts e.reply
 
     by : (b : Bool) → accepts e.reply ≡ b → IsToldRun b sheet a e run → IsToldRun b sheet a e other → after_entry sheet a e run ≡ after_entry sheet a e other
     by false refused told also =
-        ap (changed sheet a e) (ap (λ (b : Bool). with_change b d (change_of a e run) a.changes) refused ∙ sym (ap (λ (b : Bool). with_change b d (change_of a e other) a.changes) refused))
+        ap (changed sheet a e) (ap (λ (b : Bool). with_change b d (change_of a e run) a.changes) refused
+        ∙ sym (ap (λ (b : Bool). with_change b d (change_of a e other) a.changes) refused))
     by true accepted told also =
         let here = few d in
         let value : List ℕ = value_in ((table_after a.table e.op).items (key_of e.op.act)) in
@@ -119,7 +136,8 @@ entry-once a line e f tells also =
     let calls : Some (call_with e None) ≡ Some (call_with f None) = sym tells.call ∙ ap (λ (n : CallName). call_of a n) name ∙ also.call in
     let op : e.op ≡ f.op = ap (λ (c : Call). c.op) (some_same (call_with e None) (call_with f None) calls) in
     let reply : e.reply ≡ f.reply = tells.reply ∙ ap (λ (o : Asked). reply_of a.table o) op ∙ sym also.reply in
-    let eq : record { caller = e.caller; call = e.call; op = e.op; reply = e.reply } ≡ record { caller = f.caller; call = f.call; op = f.op; reply = f.reply } = cc (caller, call, op, reply) in
+    let eq : record { caller = e.caller; call = e.call; op = e.op; reply = e.reply }
+    ≡ record { caller = f.caller; call = f.call; op = f.op; reply = f.reply } = cc (caller, call, op, reply) in
     eq
 
 logged-once : (sheet : Sheet) (s : State) (m : ℕ) (line : List ℕ) (one other : State) → IsShape sheet.script.shape → AreFew m s.account.changes → m + 1 < 2 ^ 64
@@ -127,11 +145,13 @@ logged-once : (sheet : Sheet) (s : State) (m : ℕ) (line : List ℕ) (one other
 logged-once sheet s m line one other shape few small (may, e, run, tells, told, is) (may', f, run', tells', told', is') =
     let same : f ≡ e = entry-once s.account line f e tells' tells in
     let also = subst (λ (x : Entry). IsToldRun (accepts x.reply) sheet s.account x run') same told' in
-    is ∙ ap (with_account s) (after-once sheet s.account e run run' m shape few small told also) ∙ sym (is' ∙ ap (λ (x : Entry). with_account s (after_entry sheet s.account x run')) same)
+    is ∙ ap (with_account s) (after-once sheet s.account e run run' m shape few small told also)
+    ∙ sym (is' ∙ ap (λ (x : Entry). with_account s (after_entry sheet s.account x run')) same)
 
 -- ---- other lines
 
-place-once : (sheet : Sheet) (a : Account) (steps : List Step) (dues : List Due) (line : List ℕ) (one other : State) → PassesPlace sheet a steps dues line one → PassesPlace sheet a steps dues line other → one ≡ other
+place-once : (sheet : Sheet) (a : Account) (steps : List Step) (dues : List Due) (line : List ℕ) (one other : State)
+    → PassesPlace sheet a steps dues line one → PassesPlace sheet a steps dues line other → one ≡ other
 place-once sheet a steps [] line one other (text, is) (text', is') = is ∙ sym is'
 place-once sheet a steps (due ∷ dues) line one other (tells, is) (tells', is') = is ∙ sym is'
 
@@ -139,21 +159,29 @@ place-once sheet a steps (due ∷ dues) line one other (tells, is) (tells', is')
 shows-not : (line : List ℕ) (more : List ℕ) (word : List ℕ) → line ≡ 115 ∷ more → line ≡ word → (at 0 word 0 == 115) ≡ false → ⊥
 shows-not line more word shows is other = let yes' : true ≡ (at 0 word 0 == 115) = ap (λ (t : List ℕ). at 0 t 0 == 115) (sym shows ∙ is) in cc (yes' ∙ other)
 
-step-once : (sheet : Sheet) (a : Account) (steps : List Step) (line : List ℕ) (ahead : List (List ℕ)) (one other : State) → PassesStep sheet a steps line ahead one → PassesStep sheet a steps line ahead other → one ≡ other
+step-once : (sheet : Sheet) (a : Account) (steps : List Step) (line : List ℕ) (ahead : List (List ℕ))
+    (one other : State) → PassesStep sheet a steps line ahead one → PassesStep sheet a steps line ahead other
+    → one ≡ other
 step-once sheet a [] line ahead one other first second = absurd first
 step-once sheet a (Make event ∷ steps) line ahead one other (answer, ans, is) (answer', ans', is') =
     let taken : is_taken answer ≡ is_taken answer' = sym (taken-text answer) ∙ ap taken_by (sym ans.text ∙ ans'.text) ∙ taken-text answer' in
     is ∙ ap (λ (b : Bool). record { account = after_event a event b; steps = steps; logging = true }) taken ∙ sym is'
 step-once sheet a (Deliveries ∷ steps) line ahead one other (n, fits, text, is) (n', fits', text', is') = is ∙ sym is'
 step-once sheet a (Look p run ∷ steps) line ahead one other (inl (bytes, is)) (inl (bytes', is')) = is ∙ sym is'
-step-once sheet a (Look p run ∷ steps) line ahead one other (inl (bytes, is)) (inr (inl lost, is')) = absurd (shows-not line _ (codes "lost") bytes.text lost refl)
-step-once sheet a (Look p run ∷ steps) line ahead one other (inl (bytes, is)) (inr (inr down, is')) = absurd (shows-not line _ (codes "down") bytes.text down refl)
-step-once sheet a (Look p run ∷ steps) line ahead one other (inr (inl lost, is)) (inl (bytes, is')) = absurd (shows-not line _ (codes "lost") bytes.text lost refl)
-step-once sheet a (Look p run ∷ steps) line ahead one other (inr (inr down, is)) (inl (bytes, is')) = absurd (shows-not line _ (codes "down") bytes.text down refl)
+step-once sheet a (Look p run ∷ steps) line ahead one other (inl (bytes, is)) (inr (inl lost, is')) =
+    absurd (shows-not line _ (codes "lost") bytes.text lost refl)
+step-once sheet a (Look p run ∷ steps) line ahead one other (inl (bytes, is)) (inr (inr down, is')) =
+    absurd (shows-not line _ (codes "down") bytes.text down refl)
+step-once sheet a (Look p run ∷ steps) line ahead one other (inr (inl lost, is)) (inl (bytes, is')) =
+    absurd (shows-not line _ (codes "lost") bytes.text lost refl)
+step-once sheet a (Look p run ∷ steps) line ahead one other (inr (inr down, is)) (inl (bytes, is')) =
+    absurd (shows-not line _ (codes "down") bytes.text down refl)
 step-once sheet a (Look p run ∷ steps) line ahead one other (inr (word, is)) (inr (word', is')) = is ∙ sym is'
-step-once sheet a (Placing ∷ steps) line ahead one other first second = place-once sheet a steps (drop a.placed (dues_from a 0 sheet.script.shape.k)) line one other first second
+step-once sheet a (Placing ∷ steps) line ahead one other first second =
+    place-once sheet a steps (drop a.placed (dues_from a 0 sheet.script.shape.k)) line one other first second
 
-pub passes_once : (sheet : Sheet) (s : State) (m : ℕ) (line : List ℕ) (ahead : List (List ℕ)) (one other : State) → IsShape sheet.script.shape → AreFew m s.account.changes → m + 1 < 2 ^ 64
+pub passes_once : (sheet : Sheet) (s : State) (m : ℕ) (line : List ℕ) (ahead : List (List ℕ)) (one other : State)
+    → IsShape sheet.script.shape → AreFew m s.account.changes → m + 1 < 2 ^ 64
     → Passes sheet s line ahead one → Passes sheet s line ahead other → one ≡ other
 passes_once sheet s m line ahead one other shape few small first second = by (begins_entry line) first second
   where
@@ -184,26 +212,33 @@ few-answer m a (happens.Trace caller call d p) b few = few-more m a.changes few
 few-as : (m : ℕ) (s next : State) → next ≡ s → AreFew m s.account.changes → AreFew m next.account.changes
 few-as m s next is few = subst (λ (x : State). AreFew m x.account.changes) (sym is) few
 
-few-place : (sheet : Sheet) (m : ℕ) (a : Account) (steps : List Step) (dues : List Due) (line : List ℕ) (next : State) → PassesPlace sheet a steps dues line next → AreFew m a.changes → AreFew (m + 1) next.account.changes
+few-place : (sheet : Sheet) (m : ℕ) (a : Account) (steps : List Step) (dues : List Due) (line : List ℕ) (next : State)
+    → PassesPlace sheet a steps dues line next → AreFew m a.changes → AreFew (m + 1) next.account.changes
 few-place sheet m a steps [] line next (text, is) few = few-as (m + 1) _ next is (few-more m a.changes few)
 few-place sheet m a steps (due ∷ dues) line next (tells, is) few = few-as (m + 1) _ next is (few-more m a.changes few)
 
-few-step : (sheet : Sheet) (m : ℕ) (a : Account) (steps : List Step) (line : List ℕ) (ahead : List (List ℕ)) (next : State) → PassesStep sheet a steps line ahead next → AreFew m a.changes → AreFew (m + 1) next.account.changes
+few-step : (sheet : Sheet) (m : ℕ) (a : Account) (steps : List Step) (line : List ℕ) (ahead : List (List ℕ))
+    (next : State) → PassesStep sheet a steps line ahead next → AreFew m a.changes → AreFew (m + 1) next.account.changes
 few-step sheet m a [] line ahead next first few = absurd first
 few-step sheet m a (Make event ∷ steps) line ahead next (answer, ans, is) few = few-as (m + 1) _ next is (few-answer m a event (is_taken answer) few)
 few-step sheet m a (Deliveries ∷ steps) line ahead next (n, fits, text, is) few = few-as (m + 1) _ next is (few-more m a.changes few)
 few-step sheet m a (Look p run ∷ steps) line ahead next (inl (bytes, is)) few = few-as (m + 1) _ next is (few-more m a.changes few)
 few-step sheet m a (Look p run ∷ steps) line ahead next (inr (word, is)) few = few-as (m + 1) _ next is (few-more m a.changes few)
-few-step sheet m a (Placing ∷ steps) line ahead next first few = few-place sheet m a steps (drop a.placed (dues_from a 0 sheet.script.shape.k)) line next first few
+few-step sheet m a (Placing ∷ steps) line ahead next first few =
+    few-place sheet m a steps (drop a.placed (dues_from a 0 sheet.script.shape.k)) line next first few
 
-few-passes : (sheet : Sheet) (m : ℕ) (s : State) (line : List ℕ) (ahead : List (List ℕ)) (next : State) → Passes sheet s line ahead next → AreFew m s.account.changes → AreFew (m + 1) next.account.changes
+few-passes : (sheet : Sheet) (m : ℕ) (s : State) (line : List ℕ) (ahead : List (List ℕ)) (next : State)
+    → Passes sheet s line ahead next → AreFew m s.account.changes → AreFew (m + 1) next.account.changes
 few-passes sheet m s line ahead next passes few = by (begins_entry line) passes
   where
     by : (b : Bool) → PassesBy b sheet s line ahead next → AreFew (m + 1) next.account.changes
-    by true (may, e, run, tells, told, is) = few-as (m + 1) _ next is (few-change m (accepts e.reply) (part_of sheet e) (change_of s.account e run) s.account.changes few)
+    by true (may, e, run, tells, told, is) =
+        few-as (m + 1) _ next is (few-change m (accepts e.reply) (part_of sheet e) (change_of s.account e run)
+        s.account.changes few)
     by false first = few-step sheet m s.account s.steps line ahead next first few
 
-never-both : (sheet : Sheet) (lines : List (List ℕ)) (s : State) (m n : ℕ) (account : Account) → IsShape sheet.script.shape → AreFew m s.account.changes → m + length lines < 2 ^ 64
+never-both : (sheet : Sheet) (lines : List (List ℕ)) (s : State) (m n : ℕ) (account : Account)
+    → IsShape sheet.script.shape → AreFew m s.account.changes → m + length lines < 2 ^ 64
     → PassAll sheet s lines account → ¬ (FailsAt sheet n s lines)
 never-both sheet lines s m zero account shape few small passes fails = fails
 never-both sheet [] s m (suc zero) account shape few small passes fails = fails passes.0
@@ -211,10 +246,12 @@ never-both sheet (line ∷ lines) s m (suc zero) account shape few small (next, 
 never-both sheet [] s m (suc (suc n)) account shape few small passes fails = fails
 never-both sheet (line ∷ lines) s m (suc (suc n)) account shape few small (next, first, passes) (next', first', fails) =
     let same = passes_once sheet s m line lines next' next shape few (omega (arith, small)) first' first in
-    never-both sheet lines next (m + 1) (suc n) account shape (few-passes sheet m s line lines next first few) (omega (arith, small)) passes (subst (λ (x : State). FailsAt sheet (suc n) x lines) same fails)
+    never-both sheet lines next (m + 1) (suc n) account shape (few-passes sheet m s line lines next first few)
+    (omega (arith, small)) passes (subst (λ (x : State). FailsAt sheet (suc n) x lines) same fails)
 
 -- lines that all pass have none that fails
 pub never_fails : (sheet : Sheet) (n k : ℕ) (account : Account) (steps : List Step) → IsShape sheet.script.shape → length sheet.lines < 2 ^ 64
-    → PassAll sheet (record { account = first_account k; steps = steps; logging = false }) sheet.lines account → ¬ (FailsAt sheet n (record { account = first_account k; steps = steps; logging = false }) sheet.lines)
+    → PassAll sheet (record { account = first_account k; steps = steps; logging = false }) sheet.lines account
+    → ¬ (FailsAt sheet n (record { account = first_account k; steps = steps; logging = false }) sheet.lines)
 never_fails sheet n k account steps shape small passes fails =
     never-both sheet sheet.lines _ 0 n account shape (λ d. rw (at-replicate {X = List Change} [] k d) (omega arith)) (omega (arith, small)) passes fails

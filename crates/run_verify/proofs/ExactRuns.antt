@@ -1,5 +1,6 @@
 -- The run of an update is found in the lines that tell it.
-use Rattle.std.proofs.Common.{◌≡◌, ◌≢◌, inl, inr, ◌<◌, ◌+◌, ◌^◌, ◌==◌, ℕ, zero, suc, true, false, List, [], ◌∷◌, ◌++◌, ◌∙◌, map, length, Option, Some, None, append_assoc, refl, sym, ap, subst, arith}
+use Rattle.std.proofs.Common.{◌≡◌, ◌≢◌, inl, inr, ◌<◌, ◌+◌, ◌^◌, ◌==◌, ℕ, zero, suc, true, false, List, [], ◌∷◌, ◌++◌}
+use Rattle.std.proofs.Common.{◌∙◌, map, length, Option, Some, None, append_assoc, refl, sym, ap, subst, arith}
 use Rattle.std.proofs.lemmas.List.{append-nil, length-append}
 use Rattle.group_types.specs.Dimensions.{Dimensions}
 use Rattle.group_types.specs.Lists.{at}
@@ -13,7 +14,8 @@ use Rattle.scenario_text.specs.Texts.{answer_text, entry_text, place_text, shown
 use Rattle.run_verify.specs.Passing.{FitsRun, IsRunIn}
 use Rattle.run_verify.specs.Plain.{EndsPlacing}
 use Rattle.run_verify.specs.Told.{Made, Drained, Shown, Lost, Down, Placed}
-use Rattle.run_verify.specs.Told.{TellAll, Tells, Told, count_placed, drained_line, lines_told, place_lines, placed_line, run_lines, runs_in, runs_told, told_lines}
+use Rattle.run_verify.specs.Told.{TellAll, Tells, Told, count_placed, drained_line, lines_told, place_lines}
+use Rattle.run_verify.specs.Told.{placed_line, run_lines, runs_in, runs_told, told_lines}
 use Rattle.run_verify.specs.declared.step.Step.{Step}
 use Rattle.run_verify.specs.declared.step.Step.TheVariants.{Make, Deliveries, Look, Placing}
 use Rattle.run_verify.proofs.ExactOnce.{place_once}
@@ -27,7 +29,8 @@ none-append : (d n : ℕ) (xs ys : List (List ℕ)) → NoneOf d n xs → NoneOf
 none-append d n [] ys none more = more
 none-append d n (x ∷ xs) ys (first, none) more = (first, none-append d n xs ys none more)
 
-behind-none : (s : Dimensions) (d n len : ℕ) (found : Option Run) (xs ys : List (List ℕ)) → NoneOf d n xs → IsRunIn ys s d n len found → IsRunIn (xs ++ ys) s d n len found
+behind-none : (s : Dimensions) (d n len : ℕ) (found : Option Run) (xs ys : List (List ℕ)) → NoneOf d n xs
+    → IsRunIn ys s d n len found → IsRunIn (xs ++ ys) s d n len found
 behind-none s d n len found [] ys none is = is
 behind-none s d n len found (x ∷ xs) ys (first, none) is = inr ((λ run text fits. first run text), behind-none s d n len found xs ys none is)
 
@@ -60,7 +63,11 @@ no-entries d n (e ∷ es) = (starts-other d n (entry_text e) refl, no-entries d 
 -- the lines that are told for a step that isn't the one of the places
 no-told : (d n : ℕ) (step : Step) (told : Told) → step ≢ Placing → Tells step told → (runs_in told ≡ []) × NoneOf d n (told_lines told)
 no-told d n step (Made turn) other tells = (refl, (no-answer d n turn.answer, no-entries d n turn.logged))
-no-told d n step (Drained turns m) other tells = (refl, none-append d n (map entry_text (log_of turns)) (drained_line m ∷ []) (no-entries d n (log_of turns)) (starts-other d n (drained_line m) refl, tt))
+no-told d n step (Drained turns m) other tells = (
+  refl,
+  none-append d n (map entry_text (log_of turns)) (drained_line m ∷ []) (no-entries d n (log_of turns))
+      (starts-other d n (drained_line m) refl, tt),
+)
 no-told d n step (Shown stamp bytes) other tells = (refl, (starts-other d n (shown_text stamp bytes) refl, tt))
 no-told d n step Lost other tells = (refl, (starts-other d n _ refl, tt))
 no-told d n step Down other tells = (refl, (starts-other d n _ refl, tt))
@@ -72,70 +79,98 @@ no-told d n Placing (Placed runs) other tells = absurd (other refl)
 -- ---- the lines of the places
 
 -- those of another partition
-other-runs : (d n e m : ℕ) (runs : List (Option Run)) → d < 2 ^ 64 → n < 2 ^ 64 → e < 2 ^ 64 → m + length runs < 2 ^ 64 → e ≢ d → NoneOf d n (run_lines e m runs)
+other-runs : (d n e m : ℕ) (runs : List (Option Run)) → d < 2 ^ 64 → n < 2 ^ 64 → e < 2 ^ 64 → m + length runs < 2 ^ 64
+    → e ≢ d → NoneOf d n (run_lines e m runs)
 other-runs d n e m [] fd fn fe fm other = tt
 other-runs d n e m (None ∷ runs) fd fn fe fm other = other-runs d n e (suc m) runs fd fn fe (omega (arith, fm)) other
 other-runs d n e m (Some q ∷ runs) fd fn fe fm other =
     ((λ run same. other (place_once e (suc m) d n q run fe (omega (arith, fm)) fd fn same).0), other-runs d n e (suc m) runs fd fn fe (omega (arith, fm)) other)
 
 module _ (s : Dimensions) (d len : ℕ) (run : Run) (fd : d < 2 ^ 64) (fits : FitsRun s len run) (back : List (Option Run)) where
-  own-run : (front : List (Option Run)) (m : ℕ) (rest : List (List ℕ)) → m + length front + 1 < 2 ^ 64 → IsRunIn (run_lines d m (front ++ Some run ∷ back) ++ rest) s d (suc (m + length front)) len (Some run)
+  own-run : (front : List (Option Run)) (m : ℕ) (rest : List (List ℕ)) → m + length front + 1 < 2 ^ 64
+      → IsRunIn (run_lines d m (front ++ Some run ∷ back) ++ rest) s d (suc (m + length front)) len (Some run)
   own-run [] m rest fm = let one : suc m ≡ suc (m + 0) = omega arith in inl (run, ap (λ (n : ℕ). place_text d n run) one, fits, refl)
   own-run (None ∷ front) m rest fm =
       let one : suc (suc m + length front) ≡ suc (m + suc (length front)) = omega arith in
-      subst (λ (n : ℕ). IsRunIn (run_lines d (suc m) (front ++ Some run ∷ back) ++ rest) s d n len (Some run)) one (own-run front (suc m) rest (omega (arith, fm)))
+      subst (λ (n : ℕ). IsRunIn (run_lines d (suc m) (front ++ Some run ∷ back) ++ rest) s d n len (Some run)) one
+      (own-run front (suc m) rest (omega (arith, fm)))
   own-run (Some q ∷ front) m rest fm =
       let one : suc (suc m + length front) ≡ suc (m + suc (length front)) = omega arith in
       let here : (r : Run) → place_text d (suc m) q ≢ place_text d (suc (m + suc (length front))) r =
-      λ r same. (let n = (place_once d (suc m) d (suc (m + suc (length front))) q r fd (omega (arith, fm)) fd (omega (arith, fm)) same).1 in omega (arith, n)) in
-      inr ((λ r text fit. here r text), subst (λ (n : ℕ). IsRunIn (run_lines d (suc m) (front ++ Some run ∷ back) ++ rest) s d n len (Some run)) one (own-run front (suc m) rest (omega (arith, fm))))
+      λ r same. (let n = (place_once d (suc m) d (suc (m + suc (length front))) q r fd (omega (arith, fm)) fd
+      (omega (arith, fm)) same).1 in omega (arith, n)) in
+      inr (
+        (λ r text fit. here r text),
+        subst (λ (n : ℕ). IsRunIn (run_lines d (suc m) (front ++ Some run ∷ back) ++ rest) s d n len (Some run)) one
+            (own-run front (suc m) rest (omega (arith, fm))),
+      )
 
   -- found among the lines of all partitions from one on
-  own-place : (runs : List (List (Option Run))) (e i : ℕ) (front : List (Option Run)) (rest : List (List ℕ)) → e + i ≡ d → ((j : ℕ) → length (at [] runs j) + 1 < 2 ^ 64) → length front + 1 < 2 ^ 64 → at [] runs i ≡ front ++ Some run ∷ back
+  own-place : (runs : List (List (Option Run))) (e i : ℕ) (front : List (Option Run)) (rest : List (List ℕ)) → e + i ≡ d
+      → ((j : ℕ) → length (at [] runs j) + 1 < 2 ^ 64) → length front + 1 < 2 ^ 64 → at [] runs i ≡ front
+      ++ Some run ∷ back
       → IsRunIn (place_lines e runs ++ rest) s d (suc (length front)) len (Some run)
-  own-place [] e i front rest sum few short is = absurd (let n : 0 ≡ length (front ++ Some run ∷ back) = ap length is in omega (arith, n, length-append front (Some run ∷ back)))
+  own-place [] e i front rest sum few short is = absurd (let n : 0 ≡ length (front ++ Some run ∷ back) = ap length is in
+      omega (arith, n, length-append front (Some run ∷ back)))
   own-place (rs ∷ others) e zero front rest sum few short is =
       let same : e ≡ d = omega (arith, sum) in
       let zero-first : suc (0 + length front) ≡ suc (length front) = omega arith in
-      let found = subst (λ (n : ℕ). IsRunIn (run_lines d 0 (front ++ Some run ∷ back) ++ (place_lines (suc e) others ++ rest)) s d n len (Some run)) zero-first (own-run front 0 (place_lines (suc e) others ++ rest) (omega (arith, short))) in
-      let own = subst (λ (x : ℕ). IsRunIn (run_lines x 0 (front ++ Some run ∷ back) ++ (place_lines (suc e) others ++ rest)) s d (suc (length front)) len (Some run)) (sym same) found in
-      let all = subst (λ (x : List (Option Run)). IsRunIn (run_lines e 0 x ++ (place_lines (suc e) others ++ rest)) s d (suc (length front)) len (Some run)) (sym is) own in
-      subst (λ (t : List (List ℕ)). IsRunIn t s d (suc (length front)) len (Some run)) (sym (append_assoc (run_lines e 0 rs) (place_lines (suc e) others) rest)) all
+      let found = subst
+      (λ (n : ℕ). IsRunIn (run_lines d 0 (front ++ Some run ∷ back) ++ (place_lines (suc e) others ++ rest)) s d n len
+      (Some run)) zero-first (own-run front 0 (place_lines (suc e) others ++ rest) (omega (arith, short))) in
+      let own = subst
+      (λ (x : ℕ). IsRunIn (run_lines x 0 (front ++ Some run ∷ back) ++ (place_lines (suc e) others ++ rest)) s d
+      (suc (length front)) len (Some run)) (sym same) found in
+      let all = subst (λ (x : List (Option Run)). IsRunIn (run_lines e 0 x ++ (place_lines (suc e) others ++ rest)) s d
+      (suc (length front)) len (Some run)) (sym is) own in
+      subst (λ (t : List (List ℕ)). IsRunIn t s d (suc (length front)) len (Some run))
+      (sym (append_assoc (run_lines e 0 rs) (place_lines (suc e) others) rest)) all
   own-place (rs ∷ others) e (suc i) front rest sum few short is =
       let behind = own-place others (suc e) i front rest (omega (arith, sum)) (λ j. few (suc j)) short is in
       let low = few 0 in
-      let none = other-runs d (suc (length front)) e 0 rs fd (omega (arith, short)) (omega (arith, fd, sum)) (omega (arith, low)) (λ same. omega (arith, sum, same)) in
+      let none = other-runs d (suc (length front)) e 0 rs fd (omega (arith, short)) (omega (arith, fd, sum))
+      (omega (arith, low)) (λ same. omega (arith, sum, same)) in
       subst (λ (t : List (List ℕ)). IsRunIn t s d (suc (length front)) len (Some run)) (sym (append_assoc (run_lines e 0 rs) (place_lines (suc e) others) rest))
       (behind-none s d (suc (length front)) len (Some run) (run_lines e 0 rs) (place_lines (suc e) others ++ rest) none behind)
 
   -- found behind the lines of another step
-  behind-told : (told : Told) (more : List Told) (front : List (Option Run)) → (runs_in told ≡ []) × NoneOf d (suc (length front)) (told_lines told) → ((j : ℕ) → length (at [] (runs_told (told ∷ more)) j) + 1 < 2 ^ 64)
+  behind-told : (told : Told) (more : List Told) (front : List (Option Run)) → (runs_in told ≡ [])
+      × NoneOf d (suc (length front)) (told_lines told)
+      → ((j : ℕ) → length (at [] (runs_told (told ∷ more)) j) + 1 < 2 ^ 64)
       → at [] (runs_told (told ∷ more)) d ≡ front ++ Some run ∷ back
-      → (((j : ℕ) → length (at [] (runs_told more) j) + 1 < 2 ^ 64) → at [] (runs_told more) d ≡ front ++ Some run ∷ back → IsRunIn (lines_told more) s d (suc (length front)) len (Some run))
+      → (((j : ℕ) → length (at [] (runs_told more) j) + 1 < 2 ^ 64) → at [] (runs_told more) d ≡ front
+      ++ Some run ∷ back → IsRunIn (lines_told more) s d (suc (length front)) len (Some run))
       → IsRunIn (lines_told (told ∷ more)) s d (suc (length front)) len (Some run)
   behind-told told more front (none, skips) few is onward =
       let same : runs_told (told ∷ more) ≡ runs_told more = ap (λ (r : List (List (Option Run))). r ++ runs_told more) none in
       behind-none s d (suc (length front)) len (Some run) (told_lines told) (lines_told more) skips
-      (onward (subst (λ (r : List (List (Option Run))). (j : ℕ) → length (at [] r j) + 1 < 2 ^ 64) same few) (sym (ap (λ (r : List (List (Option Run))). at [] r d) same) ∙ is))
+      (onward (subst (λ (r : List (List (Option Run))). (j : ℕ) → length (at [] r j) + 1 < 2 ^ 64) same few)
+      (sym (ap (λ (r : List (List (Option Run))). at [] r d) same) ∙ is))
 
   -- found among all lines
-  pub run_found : (steps : List Step) (told : List Told) (front : List (Option Run)) → EndsPlacing steps → TellAll steps told → ((j : ℕ) → length (at [] (runs_told told) j) + 1 < 2 ^ 64) → length front + 1 < 2 ^ 64
+  pub run_found : (steps : List Step) (told : List Told) (front : List (Option Run)) → EndsPlacing steps
+      → TellAll steps told → ((j : ℕ) → length (at [] (runs_told told) j) + 1 < 2 ^ 64) → length front + 1 < 2 ^ 64
       → at [] (runs_told told) d ≡ front ++ Some run ∷ back → IsRunIn (lines_told told) s d (suc (length front)) len (Some run)
   run_found [] told front ends tells few short is = absurd ends
   run_found (step ∷ steps) [] front ends tells few short is = absurd tells
   run_found (Make event ∷ steps) (told ∷ more) front ends (tell, tells) few short is =
-      behind-told told more front (no-told d (suc (length front)) (Make event) told (λ e. cc e) tell) few is (λ few' is'. run_found steps more front ends tells few' short is')
+      behind-told told more front (no-told d (suc (length front)) (Make event) told (λ e. cc e) tell) few is
+      (λ few' is'. run_found steps more front ends tells few' short is')
   run_found (Deliveries ∷ steps) (told ∷ more) front ends (tell, tells) few short is =
-      behind-told told more front (no-told d (suc (length front)) Deliveries told (λ e. cc e) tell) few is (λ few' is'. run_found steps more front ends tells few' short is')
+      behind-told told more front (no-told d (suc (length front)) Deliveries told (λ e. cc e) tell) few is
+      (λ few' is'. run_found steps more front ends tells few' short is')
   run_found (Look p seen ∷ steps) (told ∷ more) front ends (tell, tells) few short is =
-      behind-told told more front (no-told d (suc (length front)) (Look p seen) told (λ e. cc e) tell) few is (λ few' is'. run_found steps more front ends tells few' short is')
+      behind-told told more front (no-told d (suc (length front)) (Look p seen) told (λ e. cc e) tell) few is
+      (λ few' is'. run_found steps more front ends tells few' short is')
   run_found (Placing ∷ (step ∷ steps)) (told ∷ more) front ends tells few short is = absurd (cc ends)
   run_found (Placing ∷ []) (told ∷ (next ∷ more)) front ends (tell, tells) few short is = absurd tells
   run_found (Placing ∷ []) (Placed runs ∷ []) front ends (tell, tells) few short is =
       let same : runs_told (Placed runs ∷ []) ≡ runs = append-nil runs in
-      let found = own-place runs 0 d front (placed_line (count_placed runs) ∷ []) (omega arith) (subst (λ (r : List (List (Option Run))). (j : ℕ) → length (at [] r j) + 1 < 2 ^ 64) same few) short
+      let found = own-place runs 0 d front (placed_line (count_placed runs) ∷ []) (omega arith)
+      (subst (λ (r : List (List (Option Run))). (j : ℕ) → length (at [] r j) + 1 < 2 ^ 64) same few) short
       (sym (ap (λ (r : List (List (Option Run))). at [] r d) same) ∙ is) in
-      subst (λ (t : List (List ℕ)). IsRunIn t s d (suc (length front)) len (Some run)) (sym (append-nil (place_lines 0 runs ++ placed_line (count_placed runs) ∷ []))) found
+      subst (λ (t : List (List ℕ)). IsRunIn t s d (suc (length front)) len (Some run))
+      (sym (append-nil (place_lines 0 runs ++ placed_line (count_placed runs) ∷ []))) found
   run_found (Placing ∷ []) (Made turn ∷ []) front ends (tell, tells) few short is = absurd tell
   run_found (Placing ∷ []) (Drained turns m ∷ []) front ends (tell, tells) few short is = absurd tell
   run_found (Placing ∷ []) (Shown stamp bytes ∷ []) front ends (tell, tells) few short is = absurd tell

@@ -1,5 +1,6 @@
 -- What a script that is read from a text keeps to: its shape, its callers and calls, and its ops are within their limits.
-use Rattle.std.proofs.Common.{◌≡◌, ◌≤◌, ◌+◌, ℕ, suc, nat_lt, Bool, true, false, List, [], ◌∷◌, ◌++◌, ◌∙◌, length, Option, Some, None, Result, Ok, Err, if◌then◌else◌, refl, sym, ap, subst, arith}
+use Rattle.std.proofs.Common.{◌≡◌, ◌≤◌, ◌+◌, ℕ, suc, nat_lt, Bool, true, false, List, [], ◌∷◌, ◌++◌, ◌∙◌, length}
+use Rattle.std.proofs.Common.{Option, Some, None, Result, Ok, Err, if◌then◌else◌, refl, sym, ap, subst, arith}
 use Rattle.std.proofs.lemmas.List.{length-append}
 use Rattle.std.specs.Prelude.{⊤, slice_index}
 use Rattle.std.specs.Str.{bytes_eq}
@@ -91,12 +92,15 @@ good-line (Some s) line good = by (line_of (Some s.shape) line) refl
     by (Err fault) is = tt
     by (Ok Skipped) is = none-ask s
     by (Ok (Group shape)) is = tt
-    by (Ok (Ask caller p a)) is = let w = line_of-within (Some s.shape) line (Ask caller p a) is in (refl, ((w.0, act-fits a (read-limits s.shape line (Ask caller p a) is) w.2), tt), omega arith)
-    by (Ok (Collect caller call p)) is = let w = line_of-within (Some s.shape) line (Collect caller call p) is in (refl, ((w.0, read-limits s.shape line (Collect caller call p) is), tt), omega arith)
+    by (Ok (Ask caller p a)) is = let w = line_of-within (Some s.shape) line (Ask caller p a) is in
+        (refl, ((w.0, act-fits a (read-limits s.shape line (Ask caller p a) is) w.2), tt), omega arith)
+    by (Ok (Collect caller call p)) is = let w = line_of-within (Some s.shape) line (Collect caller call p) is in
+        (refl, ((w.0, read-limits s.shape line (Collect caller call p) is), tt), omega arith)
     by (Ok (Deliver from to)) is = (refl, (tt, tt), omega arith)
     by (Ok (Fail p keep)) is = (refl, (tt, tt), omega arith)
     by (Ok (Flush p)) is = (refl, (tt, tt), omega arith)
-    by (Ok (Trace caller call d p)) is = let w = line_of-within (Some s.shape) line (Trace caller call d p) is in traced s caller call (happens.Trace caller call d p) (w.0, read-limits s.shape line (Trace caller call d p) is)
+    by (Ok (Trace caller call d p)) is = let w = line_of-within (Some s.shape) line (Trace caller call d p) is in
+        traced s caller call (happens.Trace caller call d p) (w.0, read-limits s.shape line (Trace caller call d p) is)
     by (Ok Drain) is = (refl, (tt, tt), omega arith)
     by (Ok (Show p run)) is = let w = line_of-within (Some s.shape) line (Show p run) is in (refl, (w.0, tt), omega arith)
     by (Ok Places) is = (refl, (tt, tt), omega arith)
@@ -115,7 +119,8 @@ pub record GoodScript (setting : Option Setting) (m : ℕ) (script : Script) : T
 abbrev Outcome : Type 0
 Outcome = Result Script (Fault LineFault)
 
-behind-ok : (steps : List Step) (r : Outcome) (script : Script) → behind steps r ≡ Ok script → (rest : Script) × (r ≡ Ok rest) × (record { shape = rest.shape; steps = steps ++ rest.steps } ≡ script)
+behind-ok : (steps : List Step) (r : Outcome) (script : Script) → behind steps r ≡ Ok script → (rest : Script)
+    × (r ≡ Ok rest) × (record { shape = rest.shape; steps = steps ++ rest.steps } ≡ script)
 behind-ok steps (Ok rest) script is = (rest, refl, cc is)
 behind-ok steps (Err fault) script is = cc is
 
@@ -123,16 +128,24 @@ good-ended : (n m : ℕ) (setting : Option Setting) (script : Script) → Good s
 good-ended n m None script good is = cc is
 good-ended n m (Some s) script good is =
     let same : record { shape = s.shape; steps = [] } ≡ script = cc is in
-    subst (GoodScript (Some s) m) same (record { shape = good; kept = λ t is. let e : s ≡ t = cc is in ap (λ (x : Setting). x.shape) e; fit = tt; few = omega arith })
+    subst (GoodScript (Some s) m) same
+    (record {
+      shape = good;
+      kept = λ t is. let e : s ≡ t = cc is in ap (λ (x : Setting). x.shape) e;
+      fit = tt;
+      few = omega arith;
+    })
 
 more-lines : (setting : Option Setting) (m : ℕ) (script : Script) → GoodScript setting m script → GoodScript setting (suc m) script
 more-lines setting m script g = let few = g.few in record { shape = g.shape; kept = g.kept; fit = g.fit; few = omega (arith, few) }
 
 -- the next line goes on
-goes-on : (setting next : Option Setting) (steps : List Step) (m : ℕ) (rest : Script) → GoodNext setting next steps → GoodScript next m rest → GoodScript setting (suc m) (record { shape = rest.shape; steps = steps ++ rest.steps })
+goes-on : (setting next : Option Setting) (steps : List Step) (m : ℕ) (rest : Script) → GoodNext setting next steps
+    → GoodScript next m rest → GoodScript setting (suc m) (record { shape = rest.shape; steps = steps ++ rest.steps })
 goes-on None next steps m rest (good, none) g =
     let few = g.few in
-    subst (λ (st : List Step). GoodScript None (suc m) (record { shape = rest.shape; steps = st ++ rest.steps })) (sym none) (record { shape = g.shape; kept = λ s is. cc is; fit = g.fit; few = omega (arith, few) })
+    subst (λ (st : List Step). GoodScript None (suc m) (record { shape = rest.shape; steps = st ++ rest.steps }))
+    (sym none) (record { shape = g.shape; kept = λ s is. cc is; fit = g.fit; few = omega (arith, few) })
 goes-on (Some s) None steps m rest none g = absurd none
 goes-on (Some s) (Some t) steps m rest (shape_is, fit, one) g =
     let same : rest.shape ≡ s.shape = g.kept t refl ∙ shape_is in
@@ -150,14 +163,18 @@ next-good (Some s) None steps good none = absurd none
 next-good (Some s) (Some t) steps good (shape_is, fit, one) = subst IsShape (sym shape_is) good
 
 abbrev Goal : List (List ℕ) → Type 0
-Goal lines = (n : ℕ) (setting : Option Setting) (script : Script) → Good setting → script_in n setting lines ≡ Ok script → GoodScript setting (length lines) script
+Goal lines = (n : ℕ) (setting : Option Setting) (script : Script) → Good setting → script_in n setting lines ≡ Ok script
+    → GoodScript setting (length lines) script
 
-good-from : (n : ℕ) (setting : Option Setting) (line : List ℕ) (lines : List (List ℕ)) (script : Script) → Goal lines → Good setting → (next : StepNext) → GoodLine setting next → (well : Bool)
+good-from : (n : ℕ) (setting : Option Setting) (line : List ℕ) (lines : List (List ℕ)) (script : Script) → Goal lines
+    → Good setting → (next : StepNext) → GoodLine setting next → (well : Bool)
     → from_line false well n setting next (λ s. script_in (n + 1) s lines) ≡ Ok script → GoodScript setting (suc (length lines)) script
 good-from n setting line lines script onward good (Goes next steps text) fine false is = cc is
 good-from n setting line lines script onward good (Goes next steps text) fine true is =
     let rest = behind-ok steps (script_in (n + 1) next lines) script is in
-    subst (GoodScript setting (suc (length lines))) rest.2 (goes-on setting next steps (length lines) rest.0 fine (onward (n + 1) next rest.0 (next-good setting next steps good fine) rest.1))
+    subst (GoodScript setting (suc (length lines))) rest.2
+    (goes-on setting next steps (length lines) rest.0 fine
+    (onward (n + 1) next rest.0 (next-good setting next steps good fine) rest.1))
 good-from n setting line lines script onward good Ends fine well is = good-ended n (suc (length lines)) setting script good is
 good-from n setting line lines script onward good (Refused cause) fine well is = cc is
 
@@ -167,7 +184,9 @@ good-script (line ∷ lines) n setting script good is = by (is_skipped line) ref
   where
     by : (b : Bool) → is_skipped line ≡ b → Goal lines → GoodScript setting (suc (length lines)) script
     by true skipped onward =
-        let read : script_in (n + 1) setting lines ≡ Ok script = sym (ap (λ (x : StepNext). from_line true (stands_well line lines) n setting x (λ s. script_in (n + 1) s lines)) (skips line setting skipped))
+        let read : script_in (n + 1) setting lines ≡ Ok script =
+        sym (ap (λ (x : StepNext). from_line true (stands_well line lines) n setting x
+        (λ s. script_in (n + 1) s lines)) (skips line setting skipped))
         ∙ sym (ap (λ (b : Bool). from_line b (stands_well line lines) n setting (next_of setting line) (λ s. script_in (n + 1) s lines)) skipped) ∙ is in
         more-lines setting (length lines) script (onward (n + 1) setting script good read)
     by false written onward =
@@ -188,11 +207,13 @@ behind-few : (lines more : List (List ℕ)) → behind_separator lines ≡ Some 
 behind-few [] more is = cc is
 behind-few (line ∷ lines) more is = by (bytes_eq line separator) is (behind-few lines more)
   where
-    by : (b : Bool) → (if b then Some lines else behind_separator lines) ≡ Some more → (behind_separator lines ≡ Some more → length more ≤ length lines) → length more ≤ suc (length lines)
+    by : (b : Bool) → (if b then Some lines else behind_separator lines) ≡ Some more
+        → (behind_separator lines ≡ Some more → length more ≤ length lines) → length more ≤ suc (length lines)
     by true is few = let same : lines ≡ more = cc is in let many = ap length same in omega (arith, many)
     by false is few = let most = few is in omega (arith, most)
 
-joined-ok : (n : ℕ) (r : Outcome) (lines : Option (List (List ℕ))) (sheet : Sheet) → joined n r lines ≡ Ok sheet → (r ≡ Ok sheet.script) × (lines ≡ Some sheet.lines)
+joined-ok : (n : ℕ) (r : Outcome) (lines : Option (List (List ℕ))) (sheet : Sheet) → joined n r lines ≡ Ok sheet
+    → (r ≡ Ok sheet.script) × (lines ≡ Some sheet.lines)
 joined-ok n (Err fault) lines sheet is = cc is
 joined-ok n (Ok script) None sheet is = cc is
 joined-ok n (Ok script) (Some lines) sheet is =

@@ -34,18 +34,23 @@ updates-append k d (e ∷ xs) ys t runs = by (is_update_of k d e) (λ r. updates
     u : Contents
     u = table_after t e.op
 
-    by : (b : Bool) → ((r : List (Option Run)) → updates_from k d u r (xs ++ ys) ≡ updates_from k d u r xs ++ updates_from k d (table_of u xs) (drop (length (updates_from k d u r xs)) r) ys)
+    by : (b : Bool) → ((r : List (Option Run)) → updates_from k d u r (xs ++ ys) ≡ updates_from k d u r xs
+        ++ updates_from k d (table_of u xs) (drop (length (updates_from k d u r xs)) r) ys)
         → front_if b (update_by t runs e) (updates_from k d u (runs_left b runs) (xs ++ ys))
-        ≡ front_if b (update_by t runs e) (updates_from k d u (runs_left b runs) xs) ++ updates_from k d (table_of u xs) (drop (length (front_if b (update_by t runs e) (updates_from k d u (runs_left b runs) xs))) runs) ys
+        ≡ front_if b (update_by t runs e) (updates_from k d u (runs_left b runs) xs)
+        ++ updates_from k d (table_of u xs)
+        (drop (length (front_if b (update_by t runs e) (updates_from k d u (runs_left b runs) xs))) runs) ys
     by true onward =
         let rest = onward (drop 1 runs) in
         let same = ap (λ (r : List (Option Run)). updates_from k d (table_of u xs) r ys) (drop-one (length (updates_from k d u (drop 1 runs) xs)) runs) in
         ap (λ (us : List Logged). update_by t runs e ∷ us) (rest ∙ ap (λ (us : List Logged). updates_from k d u (drop 1 runs) xs ++ us) same)
     by false onward = onward runs
 
-pub stand-at : (s : Dimensions) (before us more : List Logged) (u : Logged) → StandRight s before (us ++ u ∷ more) → StandsRight s (before ++ us) u (brings_value u.entry.op.act)
+pub stand-at : (s : Dimensions) (before us more : List Logged) (u : Logged) → StandRight s before (us ++ u ∷ more)
+    → StandsRight s (before ++ us) u (brings_value u.entry.op.act)
 stand-at s before [] more u stand = rw (append-nil before) stand.0
-stand-at s before (v ∷ us) more u stand = subst (λ (b : List Logged). StandsRight s b u (brings_value u.entry.op.act)) (append_assoc before (v ∷ []) us) (stand-at s (before ++ v ∷ []) us more u stand.1)
+stand-at s before (v ∷ us) more u stand = subst (λ (b : List Logged). StandsRight s b u (brings_value u.entry.op.act))
+    (append_assoc before (v ∷ []) us) (stand-at s (before ++ v ∷ []) us more u stand.1)
 
 -- an entry of a log that is an update of a partition, behind those before
 pub record Update (s : Dimensions) (runs : List (List (Option Run))) (d : ℕ) (before : List Entry) (e : Entry) (u : Logged) : Type 0 where
@@ -58,11 +63,14 @@ pub record Update (s : Dimensions) (runs : List (List (Option Run))) (d : ℕ) (
 abbrev pub runs_behind : Dimensions → List (List (Option Run)) → ℕ → List Entry → List (Option Run)
 runs_behind s runs d before = drop (length (updates_by s runs before d)) (at [] runs d)
 
-pub next-update : (s : Dimensions) (runs : List (List (Option Run))) (log before more : List Entry) (e : Entry) (d : ℕ) → ArePlaced s log runs → d < s.k → log ≡ before ++ e ∷ more → is_update_of s.k d e ≡ true
+pub next-update : (s : Dimensions) (runs : List (List (Option Run))) (log before more : List Entry) (e : Entry) (d : ℕ)
+    → ArePlaced s log runs → d < s.k → log ≡ before ++ e ∷ more → is_update_of s.k d e ≡ true
     → Update s runs d before e (update_by (table_of (empty_table s.k) before) (runs_behind s runs d before) e)
 next-update s runs log before more e d placed low is update = record {
   back = map (λ v. v.run) behind;
-  push = updates-append s.k d before (e ∷ []) (empty_table s.k) (at [] runs d) ∙ ap (λ (us : List Logged). updates_by s runs before d ++ us) (ap (λ (b : Bool). front_if b u (updates_from s.k d (table_after t e.op) (runs_left b left) [])) update);
+  push = updates-append s.k d before (e ∷ []) (empty_table s.k) (at [] runs d)
+      ∙ ap (λ (us : List Logged). updates_by s runs before d ++ us)
+      (ap (λ (b : Bool). front_if b u (updates_from s.k d (table_after t e.op) (runs_left b left) [])) update);
   runs_are = sym (placed.numbers d low) ∙ ap (map (λ v. v.run)) whole ∙ map-append (λ v. v.run) (updates_by s runs before d) (u ∷ behind);
   right = stand-at s [] (updates_by s runs before d) behind u (subst (StandRight s []) whole (placed.right d low));
 }
@@ -81,11 +89,16 @@ next-update s runs log before more e d placed low is update = record {
 
     whole : updates_by s runs log d ≡ updates_by s runs before d ++ u ∷ behind
     whole = ap (λ (es : List Entry). updates_by s runs es d) is ∙ updates-append s.k d before (e ∷ more) (empty_table s.k) (at [] runs d)
-        ∙ ap (λ (us : List Logged). updates_by s runs before d ++ us) (ap (λ (b : Bool). front_if b u (updates_from s.k d (table_after t e.op) (runs_left b left) more)) update)
+        ∙ ap (λ (us : List Logged). updates_by s runs before d ++ us)
+        (ap (λ (b : Bool). front_if b u (updates_from s.k d (table_after t e.op) (runs_left b left) more)) update)
 
 -- one that is none
-pub no-update : (s : Dimensions) (runs : List (List (Option Run))) (before : List Entry) (e : Entry) (d : ℕ) → is_update_of s.k d e ≡ false → updates_by s runs (before ++ e ∷ []) d ≡ updates_by s runs before d
+pub no-update : (s : Dimensions) (runs : List (List (Option Run))) (before : List Entry) (e : Entry) (d : ℕ)
+    → is_update_of s.k d e ≡ false → updates_by s runs (before ++ e ∷ []) d ≡ updates_by s runs before d
 no-update s runs before e d other =
     updates-append s.k d before (e ∷ []) (empty_table s.k) (at [] runs d)
-    ∙ ap (λ (us : List Logged). updates_by s runs before d ++ us) (ap (λ (b : Bool). front_if b (update_by (table_of (empty_table s.k) before) (runs_behind s runs d before) e) (updates_from s.k d (table_after (table_of (empty_table s.k) before) e.op) (runs_left b (runs_behind s runs d before)) [])) other)
+    ∙ ap (λ (us : List Logged). updates_by s runs before d ++ us)
+    (ap (λ (b : Bool). front_if b (update_by (table_of (empty_table s.k) before) (runs_behind s runs d before) e)
+    (updates_from s.k d (table_after (table_of (empty_table s.k) before) e.op)
+    (runs_left b (runs_behind s runs d before)) [])) other)
     ∙ append-nil (updates_by s runs before d)

@@ -19,7 +19,8 @@ numbers d n run = decimal d ++ 32 ∷ (decimal n ++ 32 ∷ (decimal run.at ++ 32
 
 pub place-line : (d n : ℕ) (run : Run) → place_text d n run ≡ codes "place " ++ numbers d n run
 place-line d n run = ap (λ (t : List ℕ). codes "place " ++ t)
-    (append_assoc (decimal d ++ 32 ∷ decimal n) (32 ∷ decimal run.at) (32 ∷ decimal run.len) ∙ append_assoc (decimal d) (32 ∷ decimal n) (32 ∷ (decimal run.at ++ 32 ∷ decimal run.len)))
+    (append_assoc (decimal d ++ 32 ∷ decimal n) (32 ∷ decimal run.at) (32 ∷ decimal run.len)
+    ∙ append_assoc (decimal d) (32 ∷ decimal n) (32 ∷ (decimal run.at ++ 32 ∷ decimal run.len)))
 
 -- a number in front of a space
 pub first : (n m : ℕ) (r s : List ℕ) → n < 2 ^ 64 → m < 2 ^ 64 → decimal n ++ 32 ∷ r ≡ decimal m ++ 32 ∷ s → (n ≡ m) × (r ≡ s)
@@ -34,9 +35,11 @@ record IsPlace (p : Place) (d n : ℕ) (run : Run) : Type 0 where
   at_is : p.run.at ≡ run.at
   len_is : p.run.len ≡ run.len
 
-place_same : (p : Place) (d n : ℕ) (run : Run) → FitsPlace p → d < 2 ^ 32 → n < 2 ^ 64 → run.at < 2 ^ 32 → run.len < 2 ^ 32 → text_of_place p ≡ place_text d n run → IsPlace p d n run
+place_same : (p : Place) (d n : ℕ) (run : Run) → FitsPlace p → d < 2 ^ 32 → n < 2 ^ 64 → run.at < 2 ^ 32
+    → run.len < 2 ^ 32 → text_of_place p ≡ place_text d n run → IsPlace p d n run
 place_same p d n run (fd, fn, fa, fl) gd gn ga gl same =
-    let all : codes "place " ++ numbers p.partition p.number p.run ≡ codes "place " ++ numbers d n run = sym (place-line p.partition p.number p.run) ∙ same ∙ place-line d n run in
+    let all : codes "place " ++ numbers p.partition p.number p.run ≡ codes "place " ++ numbers d n run =
+    sym (place-line p.partition p.number p.run) ∙ same ∙ place-line d n run in
     let a = first p.partition d _ _ (omega (arith, fd)) (omega (arith, gd)) (append_cancel_left (codes "place ") _ _ all) in
     let b = first p.number n _ _ fn gn a.1 in
     let c = first p.run.at run.at _ _ (omega (arith, fa)) (omega (arith, ga)) b.1 in
@@ -55,26 +58,38 @@ module _ (s : Dimensions) (d number len : ℕ) (low : d < 2 ^ 32) (few : number 
       let f = fit.1 in
       none (record { partition = d; number = number; run = run }) (low, few, omega (arith, f, small), omega (arith, f, small)) (sym same)
 
-  found-by : (line : List ℕ) (lines : List (List ℕ)) (p : Place) (more : List Place) (found : Option Run) → FitsPlace p → text_of_place p ≡ line → (IsRunAmong more s d number len found → IsRunIn lines s d number len found)
+  found-by : (line : List ℕ) (lines : List (List ℕ)) (p : Place) (more : List Place) (found : Option Run) → FitsPlace p
+      → text_of_place p ≡ line → (IsRunAmong more s d number len found → IsRunIn lines s d number len found)
       → IsRunAmong (p ∷ more) s d number len found → IsRunIn (line ∷ lines) s d number len found
-  found-by line lines p more found fits text rest (inl (names, same)) = inl (p.run, sym text ∙ ap (λ (n : ℕ). place_text n p.number p.run) names.partition ∙ ap (λ (n : ℕ). place_text d n p.run) names.number_is, names.fits, same)
+  found-by line lines p more found fits text rest (inl (names, same)) =
+      inl (
+        p.run,
+        sym text ∙ ap (λ (n : ℕ). place_text n p.number p.run) names.partition
+            ∙ ap (λ (n : ℕ). place_text d n p.run) names.number_is,
+        names.fits,
+        same,
+      )
   found-by line lines p more found fits text rest (inr (other, is)) = inr ((λ run same fit. other (names-of p run fits (text ∙ same) fit)), rest is)
 
   none-in : (places : List Place) (found : Option Run) → places ≡ [] → IsRunAmong places s d number len found → found ≡ None
   none-in [] found same is = is
   none-in (p ∷ ps) found same is = absurd (cc same)
 
-  pub run_found : (lines : List (List ℕ)) (places : List Place) (found : Option Run) → ArePlacesOf lines places → IsRunAmong places s d number len found → IsRunIn lines s d number len found
+  pub run_found : (lines : List (List ℕ)) (places : List Place) (found : Option Run) → ArePlacesOf lines places
+      → IsRunAmong places s d number len found → IsRunIn lines s d number len found
   run_found [] places found are is = none-in places found are is
   run_found (line ∷ lines) places found (inr (none, are)) is = inr (no_place line none, run_found lines places found are is)
   run_found (line ∷ lines) places found (inl (p, more, split, fits, text, are)) is =
       found-by line lines p more found fits text (run_found lines more found are) (subst (λ (ps : List Place). IsRunAmong ps s d number len found) split is)
 
 -- the places of lines, and of those behind a line
-pub place_more : (line : List ℕ) (lines : List (List ℕ)) (place : Place) (more : List Place) → FitsPlace place → text_of_place place ≡ line → ArePlacesOf lines more → ArePlacesOf (line ∷ lines) (place ∷ more)
+pub place_more : (line : List ℕ) (lines : List (List ℕ)) (place : Place) (more : List Place) → FitsPlace place
+    → text_of_place place ≡ line → ArePlacesOf lines more → ArePlacesOf (line ∷ lines) (place ∷ more)
 place_more line lines place more fits text are = inl (place, more, refl, fits, text, are)
 
-pub place_none : (line : List ℕ) (lines : List (List ℕ)) (more : List Place) → ((place : Place) → FitsPlace place → text_of_place place ≢ line) → ArePlacesOf lines more → ArePlacesOf (line ∷ lines) more
+pub place_none : (line : List ℕ) (lines : List (List ℕ)) (more : List Place)
+    → ((place : Place) → FitsPlace place → text_of_place place ≢ line) → ArePlacesOf lines more
+    → ArePlacesOf (line ∷ lines) more
 place_none line lines more none are = inr (none, are)
 
 pub no_lines : (text : List ℕ) → length text ≡ 0 → lines_of text ≡ []

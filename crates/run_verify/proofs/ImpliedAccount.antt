@@ -1,5 +1,6 @@
 -- What the account of a transcript's first lines says of the turns that they tell.
-use Rattle.std.proofs.Common.{◌≡◌, ◌≢◌, ◌⊎◌, inl, inr, ◌<◌, ◌≤◌, ◌+◌, ◌==◌, ℕ, zero, suc, true, List, [], ◌∷◌, ◌++◌, ◌∙◌, length, slice_get, Option, Some, None, refl, ap, arith, if◌then◌else◌}
+use Rattle.std.proofs.Common.{◌≡◌, ◌≢◌, ◌⊎◌, inl, inr, ◌<◌, ◌≤◌, ◌+◌, ◌==◌, ℕ, zero, suc, true, List, [], ◌∷◌, ◌++◌}
+use Rattle.std.proofs.Common.{◌∙◌, length, slice_get, Option, Some, None, refl, ap, arith, if◌then◌else◌}
 use Rattle.std.proofs.lemmas.Bool.{cases_eq}
 use Rattle.std.proofs.lemmas.Bool.Decides.{nat_tests}
 use Rattle.std.proofs.lemmas.List.{length-append}
@@ -17,7 +18,8 @@ use Rattle.run_verify.proofs.ImpliedHeads.{Head, IsAsked, asks_by, get-cases, ge
 
 -- the entry of a call, once it was logged, stands behind its ask
 abbrev pub LoggedBehind : Head → List Entry → CallName → Call → Type 0
-LoggedBehind h log name call = (reply : Reply) → call.reply ≡ Some reply → (place : ℕ) × (slice_get log place ≡ Some (entry_of name call.op reply)) × (h.start ≤ place)
+LoggedBehind h log name call = (reply : Reply) → call.reply ≡ Some reply → (place : ℕ)
+    × (slice_get log place ≡ Some (entry_of name call.op reply)) × (h.start ≤ place)
 
 -- a call was asked by a head
 pub record AskedBy (hs : List Head) (log : List Entry) (name : CallName) (call : Call) : Type 0 where
@@ -58,13 +60,15 @@ same_name n m = elim (cases_eq n.caller m.caller) [
 
 -- ---- another call
 
-pub call-kept : (a : Account) (caller : ℕ) (c : Call) (name : CallName) (call : Call) → call_of a name ≡ Some call → call_of (with_call a caller c) name ≡ Some call
+pub call-kept : (a : Account) (caller : ℕ) (c : Call) (name : CallName) (call : Call) → call_of a name ≡ Some call
+    → call_of (with_call a caller c) name ≡ Some call
 call-kept a caller c name call is = elim (cases_eq name.caller caller) [
   | inl same ↦ rw (same, at-put [] [] a.calls caller (at [] a.calls caller ++ c ∷ [])) (get-push (at [] a.calls caller) c name.call call (rw same at is))
   | inr other ↦ rw (at-put-other [] a.calls caller name.caller (at [] a.calls caller ++ c ∷ []) other) is
 ]
 
-pub call-new : (a : Account) (caller : ℕ) (c : Call) (name : CallName) → name.caller ≡ caller → name.call ≡ length (at [] a.calls caller) → call_of (with_call a caller c) name ≡ Some c
+pub call-new : (a : Account) (caller : ℕ) (c : Call) (name : CallName) → name.caller ≡ caller
+    → name.call ≡ length (at [] a.calls caller) → call_of (with_call a caller c) name ≡ Some c
 call-new a caller c name same last = rw (same, last, at-put [] [] a.calls caller (at [] a.calls caller ++ c ∷ [])) (get-last (at [] a.calls caller) c)
 
 pub call-cases : (a : Account) (caller : ℕ) (c : Call) (name : CallName) (call : Call) → call_of (with_call a caller c) name ≡ Some call
@@ -77,9 +81,11 @@ call-cases a caller c name call is = elim (cases_eq name.caller caller) [
   | inr other ↦ inl (rw (at-put-other [] a.calls caller name.caller (at [] a.calls caller ++ c ∷ []) other) at is)
 ]
 
-pub many-call : (a : Account) (caller : ℕ) (c : Call) (n : ℕ) → length (at [] (with_call a caller c).calls n) ≡ (if caller == n then 1 else 0) + length (at [] a.calls n)
+pub many-call : (a : Account) (caller : ℕ) (c : Call) (n : ℕ) → length (at [] (with_call a caller c).calls n)
+    ≡ (if caller == n then 1 else 0) + length (at [] a.calls n)
 many-call a caller c n = elim (cases_eq n caller) [
-  | inl same ↦ rw (same, at-put [] [] a.calls caller (at [] a.calls caller ++ c ∷ [])) (length-append (at [] a.calls caller) (c ∷ []) ∙ grind (arith, nat_tests))
+  | inl same ↦ rw (same, at-put [] [] a.calls caller (at [] a.calls caller ++ c ∷ []))
+      (length-append (at [] a.calls caller) (c ∷ []) ∙ grind (arith, nat_tests))
   | inr other ↦ rw (at-put-other [] a.calls caller n (at [] a.calls caller ++ c ∷ []) other) (grind (arith, nat_tests, other))
 ]
 
@@ -90,7 +96,8 @@ length-reply [] n r = refl
 length-reply (c ∷ calls) zero r = refl
 length-reply (c ∷ calls) (suc n) r = ap suc (length-reply calls n r)
 
-reply-here : (calls : List Call) (n : ℕ) (r : Reply) (call : Call) → slice_get calls n ≡ Some call → slice_get (with_reply calls n r) n ≡ Some (record { op = call.op; taken = call.taken; reply = Some r })
+reply-here : (calls : List Call) (n : ℕ) (r : Reply) (call : Call) → slice_get calls n ≡ Some call
+    → slice_get (with_reply calls n r) n ≡ Some (record { op = call.op; taken = call.taken; reply = Some r })
 reply-here [] n r call is = cc is
 reply-here (c ∷ calls) zero r call is = let e : c ≡ call = cc is in rw e refl
 reply-here (c ∷ calls) (suc n) r call is = reply-here calls n r call is
@@ -102,20 +109,29 @@ reply-other (c ∷ calls) zero (suc m) r other = refl
 reply-other (c ∷ calls) (suc n) zero r other = refl
 reply-other (c ∷ calls) (suc n) (suc m) r other = reply-other calls n m r (λ e. other (cc e))
 
-pub entry-there : (sheet : Sheet) (a : Account) (e : Entry) (run : Option Run) → call_of a (name_of e) ≡ Some (call_with e None) → call_of (after_entry sheet a e run) (name_of e) ≡ Some (call_with e (Some e.reply))
+pub entry-there : (sheet : Sheet) (a : Account) (e : Entry) (run : Option Run)
+    → call_of a (name_of e) ≡ Some (call_with e None) → call_of (after_entry sheet a e run) (name_of e)
+    ≡ Some (call_with e (Some e.reply))
 entry-there sheet a e run is =
-    rw (at-put [] [] a.calls e.caller (with_reply (at [] a.calls e.caller) e.call e.reply)) (reply-here (at [] a.calls e.caller) e.call e.reply (call_with e None) is)
+    rw (at-put [] [] a.calls e.caller (with_reply (at [] a.calls e.caller) e.call e.reply))
+    (reply-here (at [] a.calls e.caller) e.call e.reply (call_with e None) is)
 
-pub entry-other : (sheet : Sheet) (a : Account) (e : Entry) (run : Option Run) (name : CallName) → name ≢ name_of e → call_of (after_entry sheet a e run) name ≡ call_of a name
+pub entry-other : (sheet : Sheet) (a : Account) (e : Entry) (run : Option Run) (name : CallName) → name ≢ name_of e
+    → call_of (after_entry sheet a e run) name ≡ call_of a name
 entry-other sheet a e run name other = elim (cases_eq name.caller e.caller) [
   | inl same ↦
-      let call : name.call ≢ e.call = λ k. other (let eq : record { caller = name.caller; call = name.call } ≡ record { caller = e.caller; call = e.call } = cc (same, k) in eq) in
-      rw (same, at-put [] [] a.calls e.caller (with_reply (at [] a.calls e.caller) e.call e.reply)) (reply-other (at [] a.calls e.caller) e.call name.call e.reply call)
+      let call : name.call ≢ e.call =
+      λ k. other (let eq : record { caller = name.caller; call = name.call }
+      ≡ record { caller = e.caller; call = e.call } = cc (same, k) in eq) in
+      rw (same, at-put [] [] a.calls e.caller (with_reply (at [] a.calls e.caller) e.call e.reply))
+      (reply-other (at [] a.calls e.caller) e.call name.call e.reply call)
   | inr apart ↦ rw (at-put-other [] a.calls e.caller name.caller (with_reply (at [] a.calls e.caller) e.call e.reply) apart) refl
 ]
 
-pub many-entry : (sheet : Sheet) (a : Account) (e : Entry) (run : Option Run) (n : ℕ) → length (at [] (after_entry sheet a e run).calls n) ≡ length (at [] a.calls n)
+pub many-entry : (sheet : Sheet) (a : Account) (e : Entry) (run : Option Run) (n : ℕ)
+    → length (at [] (after_entry sheet a e run).calls n) ≡ length (at [] a.calls n)
 many-entry sheet a e run n = elim (cases_eq n e.caller) [
-  | inl same ↦ rw (same, at-put [] [] a.calls e.caller (with_reply (at [] a.calls e.caller) e.call e.reply)) (length-reply (at [] a.calls e.caller) e.call e.reply)
+  | inl same ↦ rw (same, at-put [] [] a.calls e.caller (with_reply (at [] a.calls e.caller) e.call e.reply))
+      (length-reply (at [] a.calls e.caller) e.call e.reply)
   | inr other ↦ rw (at-put-other [] a.calls e.caller n (with_reply (at [] a.calls e.caller) e.call e.reply) other) refl
 ]

@@ -30,7 +30,8 @@ none-ahead : (rest : List (List ℕ)) (front reply : List ℕ) → NoEntry rest 
 none-ahead [] front reply plain ahead = ahead
 none-ahead (line ∷ rest) front reply plain ahead = cc (sym plain ∙ ahead.0)
 
-pub ahead_is : (es : List Entry) (rest : List (List ℕ)) (name : CallName) (reply : Reply) → AllFit es → name.caller < callers → name.call < 2 ^ 64 → FitsReply reply → NoEntry rest
+pub ahead_is : (es : List Entry) (rest : List (List ℕ)) (name : CallName) (reply : Reply) → AllFit es
+    → name.caller < callers → name.call < 2 ^ 64 → FitsReply reply → NoEntry rest
     → LogsAhead (front_of name) (reply_text reply) (map entry_text es ++ rest) → IsAmong es name reply
 ahead_is [] rest name reply fit fc fn fr plain ahead = absurd (none-ahead rest (front_of name) (reply_text reply) plain ahead)
 ahead_is (e ∷ es) rest name reply fit fc fn fr plain (begins, found) = elim found [
@@ -38,6 +39,13 @@ ahead_is (e ∷ es) rest name reply fit fc fn fr plain (begins, found) = elim fo
       let line : entry_text e ≡ name_text name.caller name.call 0 ++ (here.0 ++ codes " " ++ reply_text reply) =
       here.1 ∙ ap (λ (t : List ℕ). name_text name.caller name.call 0 ++ t) (sym (append_assoc here.0 (codes " ") (reply_text reply))) in
       let all = entry-tells e name.caller name.call here.0 reply fit.0 fc fn fr line in
-      record { i = 0; entry = e; there = refl; name_is = (let c = all.0 in let n = all.1 in let eq : record { caller = e.caller; call = e.call } ≡ record { caller = name.caller; call = name.call } = cc (c, n) in eq); reply_is = all.2 }
+      record {
+        i = 0;
+        entry = e;
+        there = refl;
+        name_is = (let c = all.0 in let n = all.1 in let eq : record { caller = e.caller; call = e.call }
+            ≡ record { caller = name.caller; call = name.call } = cc (c, n) in eq);
+        reply_is = all.2;
+      }
   | inr later ↦ among-more e es name reply (ahead_is es rest name reply fit.1 fc fn fr plain later.1)
 ]

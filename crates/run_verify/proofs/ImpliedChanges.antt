@@ -66,7 +66,8 @@ change-matches t e run is accepted = record {
 
 -- ---- what they do
 
-written-same : (effect : Effect) (u : Logged) (space : List ℕ) → u.run ≡ run_told effect → IsKind effect u.item (brings_value u.entry.op.act) → written_by effect space ≡ written u.run u.item space
+written-same : (effect : Effect) (u : Logged) (space : List ℕ) → u.run ≡ run_told effect
+    → IsKind effect u.item (brings_value u.entry.op.act) → written_by effect space ≡ written u.run u.item space
 written-same (Writes value (Some run)) u space run_is (h, item, same, brings) = rw (run_is, item, same) refl
 written-same (Writes value None) u space run_is kind = rw run_is refl
 written-same Removes u space run_is kind = rw run_is refl
@@ -87,7 +88,8 @@ take-matches (suc n) (c ∷ cs) [] all = absurd all
 take-matches (suc n) (c ∷ cs) (u ∷ us) (one, all) = (one, take-matches n cs us all)
 
 -- the same space after as many of them
-pub spaces-same : (s : Dimensions) (cs : List Change) (us : List Logged) (n : ℕ) → MatchAll cs us → space_behind s (take n cs) ≡ space_from (replicate (space_of s) 0) (take n us)
+pub spaces-same : (s : Dimensions) (cs : List Change) (us : List Logged) (n : ℕ) → MatchAll cs us
+    → space_behind s (take n cs) ≡ space_from (replicate (space_of s) 0) (take n us)
 spaces-same s cs us n all = space-same (take n cs) (take n us) (replicate (space_of s) 0) (take-matches n cs us all)
 
 pub length-same : (cs : List Change) (us : List Logged) → MatchAll cs us → length cs ≡ length us
@@ -102,13 +104,15 @@ runs-same [] (u ∷ us) all = absurd all
 runs-same (c ∷ cs) [] all = absurd all
 runs-same (c ∷ cs) (u ∷ us) (one, all) = let run = one.run in let rest = runs-same cs us all in cc (run, rest)
 
-run-after : (effect : Effect) (u : Logged) (old : Option Run) → u.run ≡ run_told effect → IsKind effect u.item (brings_value u.entry.op.act) → run_by effect old ≡ run_after u.item u.run old
+run-after : (effect : Effect) (u : Logged) (old : Option Run) → u.run ≡ run_told effect
+    → IsKind effect u.item (brings_value u.entry.op.act) → run_by effect old ≡ run_after u.item u.run old
 run-after (Writes value (Some run)) u old run_is (h, item, same, brings) = rw (run_is, item) refl
 run-after (Writes value None) u old run_is (h, item, same, brings) = rw (run_is, item) refl
 run-after Removes u old run_is (item, brings) = rw item refl
 run-after Keeps u old run_is (h, item, brings) = rw (run_is, item) refl
 
-run-unless : (b : Bool) (effect : Effect) (u : Logged) (old : Option Run) → run_by effect old ≡ run_after u.item u.run old → run_if b effect old ≡ run_unless b u old
+run-unless : (b : Bool) (effect : Effect) (u : Logged) (old : Option Run)
+    → run_by effect old ≡ run_after u.item u.run old → run_if b effect old ≡ run_unless b u old
 run-unless true effect u old same = same
 run-unless false effect u old same = refl
 
@@ -119,7 +123,9 @@ item-run key [] (u ∷ us) old all = absurd all
 item-run key (c ∷ cs) [] old all = absurd all
 item-run key (c ∷ cs) (u ∷ us) old (one, all) =
     let step : run_if (same_key c.key key) c.effect old ≡ run_unless (same_key (key_of u.entry.op.act) key) u old =
-    ap (λ (k : List ℕ). run_if (same_key k key) c.effect old) one.key ∙ run-unless (same_key (key_of u.entry.op.act) key) c.effect u old (run-after c.effect u old one.run one.kind) in
+    ap (λ (k : List ℕ). run_if (same_key k key) c.effect old) one.key
+    ∙ run-unless (same_key (key_of u.entry.op.act) key) c.effect u old
+    (run-after c.effect u old one.run one.kind) in
     ap (λ (o : Option Run). run_behind key o cs) step ∙ item-run key cs us (run_unless (same_key (key_of u.entry.op.act) key) u old) all
 
 pub push-matches : (cs : List Change) (us : List Logged) (c : Change) (u : Logged) → MatchAll cs us → Matches c u → MatchAll (cs ++ c ∷ []) (us ++ u ∷ [])

@@ -1,12 +1,15 @@
 -- What a transcript tells, step by step, where all of its lines pass.
-use Rattle.std.proofs.Common.{◌≡◌, inl, inr, ◌+◌, ℕ, zero, suc, Bool, true, false, List, [], ◌∷◌, ◌++◌, ◌∙◌, map, drop, length, Option, add-zero, refl, sym, subst, arith}
+use Rattle.std.proofs.Common.{◌≡◌, inl, inr, ◌+◌, ℕ, zero, suc, Bool, true, false, List, [], ◌∷◌, ◌++◌, ◌∙◌, map, drop}
+use Rattle.std.proofs.Common.{length, Option, add-zero, refl, sym, subst, arith}
 use Rattle.std.specs.Prelude.{⊤}
 use Rattle.std.proofs.Math.Seq.{drop-nil}
 use Rattle.group_types.specs.Dimensions.{Dimensions}
 use Rattle.group_types.specs.declared.run.Run.{Run}
 use Rattle.group_calls.specs.declared.entry.Entry.{Entry}
 use Rattle.scenario_text.specs.Texts.{entry_text, place_text}
-use Rattle.run_verify.specs.Passing.{Account, State, PassesBy, Due, MayLog, PassAll, PassesPlace, PassesStep, TellsEntry, TellsRun, after_entry, begins_entry, dues_from, on_to, with_account, with_placed}
+use Rattle.run_verify.specs.Passing.{Account, State, PassesBy, Due, MayLog, PassAll, PassesPlace, PassesStep}
+use Rattle.run_verify.specs.Passing.{TellsEntry, TellsRun, after_entry, begins_entry, dues_from, on_to, with_account}
+use Rattle.run_verify.specs.Passing.{with_placed}
 use Rattle.run_verify.specs.Sheet.{Sheet}
 use Rattle.run_verify.specs.Told.{placed_line}
 use Rattle.run_verify.specs.declared.step.Step.{Step}
@@ -34,10 +37,21 @@ pub record Logs (sheet : Sheet) (s : State) (lines : List (List ℕ)) (final : A
 
 pub logs_ahead : (sheet : Sheet) (lines : List (List ℕ)) (s : State) (final : Account) → MayLog s → PassAll sheet s lines final → Logs sheet s lines final
 logs_ahead sheet [] s final may passes = record { entries = []; rest = []; account = s.account; text = refl; logs = refl; plain = tt; passes = passes }
-logs_ahead sheet (line ∷ lines) s final may (next, first, passes) = by (begins_entry line) refl first (λ s' may' passes'. logs_ahead sheet lines s' final may' passes')
+logs_ahead sheet (line ∷ lines) s final may (next, first, passes) =
+    by (begins_entry line) refl first (λ s' may' passes'. logs_ahead sheet lines s' final may' passes')
   where
-    by : (b : Bool) → begins_entry line ≡ b → PassesBy b sheet s line lines next → ((s' : State) → MayLog s' → PassAll sheet s' lines final → Logs sheet s' lines final) → Logs sheet s (line ∷ lines) final
-    by false is first onward = record { entries = []; rest = line ∷ lines; account = s.account; text = refl; logs = refl; plain = is; passes = (next, rw is first, passes) }
+    by : (b : Bool) → begins_entry line ≡ b → PassesBy b sheet s line lines next
+        → ((s' : State) → MayLog s' → PassAll sheet s' lines final → Logs sheet s' lines final)
+        → Logs sheet s (line ∷ lines) final
+    by false is first onward = record {
+      entries = [];
+      rest = line ∷ lines;
+      account = s.account;
+      text = refl;
+      logs = refl;
+      plain = is;
+      passes = (next, rw is first, passes);
+    }
     by true is (may', e, run, tells, told, same) onward =
         let rest = onward (with_account s (after_entry sheet s.account e run)) may (subst (λ (n : State). PassAll sheet n lines final) same passes) in
         let line_is = tells.text in
@@ -106,7 +120,8 @@ drop-step zero (x ∷ xs) y ys is = cc is
 drop-step (suc n) (x ∷ xs) y ys is = drop-step n xs y ys is
 
 pub places_ahead : (sheet : Sheet) (dues : List Due) (a : Account) (steps : List Step) (logging : Bool) (lines : List (List ℕ)) (final : Account)
-    → NoEntry lines → drop a.placed (dues_from a 0 sheet.script.shape.k) ≡ dues → PassAll sheet (state a (Placing ∷ steps) logging) lines final → Places sheet a steps dues lines final
+    → NoEntry lines → drop a.placed (dues_from a 0 sheet.script.shape.k) ≡ dues
+    → PassAll sheet (state a (Placing ∷ steps) logging) lines final → Places sheet a steps dues lines final
 places_ahead sheet [] a steps logging lines final plain due passes =
     let t = turned sheet a Placing steps logging lines final plain passes in
     let here : PassesPlace sheet a steps [] t.line t.next = rw due at t.passes in
@@ -126,7 +141,9 @@ places_ahead sheet (due ∷ dues) a steps logging lines final plain is passes =
     let onward = subst (λ (n : State). PassAll sheet n t.rest final) here.1 t.onward in
     let never : ¬ (MayLog (on_to (with_placed a) (Placing ∷ steps))) = λ may. elim may [ inl log ↦ cc log | inr more ↦ cc more.1 ] in
     let next_is : a.placed + 1 ≡ suc a.placed = omega arith in
-    let more = places_ahead sheet dues (with_placed a) steps false t.rest final (no_entry sheet (on_to (with_placed a) (Placing ∷ steps)) t.rest final never onward) (rw next_is (drop-step a.placed (dues_from a 0 sheet.script.shape.k) due dues is)) onward in
+    let more = places_ahead sheet dues (with_placed a) steps false t.rest final
+    (no_entry sheet (on_to (with_placed a) (Placing ∷ steps)) t.rest final never onward)
+    (rw next_is (drop-step a.placed (dues_from a 0 sheet.script.shape.k) due dues is)) onward in
     let lines_are = t.lines_are in
     let text = more.text in
     let count : a.placed + 1 + length dues ≡ a.placed + suc (length dues) = omega arith in

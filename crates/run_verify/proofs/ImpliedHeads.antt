@@ -52,14 +52,28 @@ pub turn-of : (ts : List Turn) (n j : ℕ) (h : Head) → slice_get (heads_of n 
 turn-of [] n j h is = cc is
 turn-of (t ∷ ts) n zero h is =
     let same : record { event = t.event; answer = t.answer; start = n } ≡ h = cc is in
-    record { turn = t; there = refl; event = ap (λ (x : Head). x.event) same; answer = ap (λ (x : Head). x.answer) same; start = sym (ap (λ (x : Head). x.start) same) ∙ omega arith }
+    record {
+      turn = t;
+      there = refl;
+      event = ap (λ (x : Head). x.event) same;
+      answer = ap (λ (x : Head). x.answer) same;
+      start = sym (ap (λ (x : Head). x.start) same) ∙ omega arith;
+    }
 turn-of (t ∷ ts) n (suc j) h is =
     let rest = turn-of ts (n + length t.logged) j h is in
     let start = rest.start in
-    record { turn = rest.turn; there = rest.there; event = rest.event; answer = rest.answer; start = start ∙ omega (arith, length-append t.logged (log_of (take j ts))) }
+    record {
+      turn = rest.turn;
+      there = rest.there;
+      event = rest.event;
+      answer = rest.answer;
+      start = start
+          ∙ omega (arith, length-append t.logged (log_of (take j ts)));
+    }
 
 -- the head of a turn
-pub head-of : (ts : List Turn) (n j : ℕ) (t : Turn) → slice_get ts j ≡ Some t → (h : Head) × (slice_get (heads_of n ts) j ≡ Some h) × (h.event ≡ t.event) × (h.answer ≡ t.answer)
+pub head-of : (ts : List Turn) (n j : ℕ) (t : Turn) → slice_get ts j ≡ Some t → (h : Head)
+    × (slice_get (heads_of n ts) j ≡ Some h) × (h.event ≡ t.event) × (h.answer ≡ t.answer)
 head-of [] n j t is = cc is
 head-of (u ∷ ts) n zero t is =
     let same : u ≡ t = cc is in
@@ -67,19 +81,32 @@ head-of (u ∷ ts) n zero t is =
 head-of (u ∷ ts) n (suc j) t is = head-of ts (n + length u.logged) j t is
 
 -- an ask of turns is one of their heads, and the other way round
-pub ask-head : (ts : List Turn) (j : ℕ) (t : Turn) (name : CallName) (op : Asked) → IsAsk ts j t name op → (h : Head) × IsAsked (heads_of 0 ts) j h name op × (h.answer ≡ t.answer)
+pub ask-head : (ts : List Turn) (j : ℕ) (t : Turn) (name : CallName) (op : Asked) → IsAsk ts j t name op → (h : Head)
+    × IsAsked (heads_of 0 ts) j h name op × (h.answer ≡ t.answer)
 ask-head ts j t name op ask =
     let h = head-of ts 0 j t ask.there in
     (h.0, record { there = h.1; at = ask.at; event = h.2 ∙ ask.event; place = rw (take-heads j 0 ts) (asks-heads name.caller 0 (take j ts) ∙ ask.place) }, h.3)
 
-pub head-ask : (ts : List Turn) (j : ℕ) (h : Head) (name : CallName) (op : Asked) → IsAsked (heads_of 0 ts) j h name op → (t : Turn) × IsAsk ts j t name op × (t.answer ≡ h.answer) × (h.start ≡ length (log_of (take j ts)))
+pub head-ask : (ts : List Turn) (j : ℕ) (h : Head) (name : CallName) (op : Asked) → IsAsked (heads_of 0 ts) j h name op
+    → (t : Turn) × IsAsk ts j t name op × (t.answer ≡ h.answer) × (h.start ≡ length (log_of (take j ts)))
 head-ask ts j h name op ask =
-    let t = turn-of ts 0 j h ask.there in
-    (t.turn, record { there = t.there; at = ask.at; event = t.event ∙ ask.event; place = sym (asks-heads name.caller 0 (take j ts)) ∙ rw (take-heads j 0 ts) at ask.place }, t.answer, t.start ∙ omega arith)
+    let t = turn-of ts 0 j h ask.there in (
+      t.turn,
+      record {
+        there = t.there;
+        at = ask.at;
+        event = t.event ∙ ask.event;
+        place = sym (asks-heads name.caller 0 (take j ts)) ∙ rw (take-heads j 0 ts) at ask.place;
+      },
+      t.answer,
+      t.start
+          ∙ omega arith,
+    )
 
 -- ---- appending
 
-pub heads-push : (n : ℕ) (ts : List Turn) (t : Turn) → heads_of n (ts ++ t ∷ []) ≡ heads_of n ts ++ record { event = t.event; answer = t.answer; start = n + length (log_of ts) } ∷ []
+pub heads-push : (n : ℕ) (ts : List Turn) (t : Turn) → heads_of n (ts ++ t ∷ []) ≡ heads_of n ts
+    ++ record { event = t.event; answer = t.answer; start = n + length (log_of ts) } ∷ []
 heads-push n [] t = let e : n + 0 ≡ n = omega arith in rw e refl
 heads-push n (u ∷ ts) t =
     let e : n + length u.logged + length (log_of ts) ≡ n + length (u.logged ++ log_of ts) = omega (arith, length-append u.logged (log_of ts)) in
@@ -104,7 +131,8 @@ get-last [] y = refl
 get-last (z ∷ xs) y = get-last xs y
 
 -- what stands in a list with one more stands there before, or is the last
-pub get-cases : {A : Type 0} (xs : List A) (y : A) (j : ℕ) (x : A) → slice_get (xs ++ y ∷ []) j ≡ Some x → (slice_get xs j ≡ Some x) ⊎ ((j ≡ length xs) × (x ≡ y))
+pub get-cases : {A : Type 0} (xs : List A) (y : A) (j : ℕ) (x : A) → slice_get (xs ++ y ∷ []) j ≡ Some x
+    → (slice_get xs j ≡ Some x) ⊎ ((j ≡ length xs) × (x ≡ y))
 get-cases [] y zero x is = inr (refl, sym (let e : y ≡ x = cc is in e))
 get-cases [] y (suc j) x is = cc is
 get-cases (z ∷ xs) y zero x is = inl is

@@ -28,18 +28,25 @@ abbrev LeftBy : Act → Ruling → Type 0
 LeftBy act (Accepted reply leaves) = IsLeft act leaves
 LeftBy act (Refused reply) = ⊥
 
-joined-left : (act : Act) (n : ℕ) (h : Holding) (value : List ℕ) → ((leaves : Holding) → IsLeft act (Some leaves)) → accepts (reply_in (joined n h value)) ≡ true → LeftBy act (joined n h value)
+joined-left : (act : Act) (n : ℕ) (h : Holding) (value : List ℕ) → ((leaves : Holding) → IsLeft act (Some leaves))
+    → accepts (reply_in (joined n h value)) ≡ true → LeftBy act (joined n h value)
 joined-left act n h value left = by (nat_le (length value) longest_value)
   where
-    by : (b : Bool) → accepts (reply_in (if b then Accepted replied.Stored (changed n h value) else Refused replied.TooLarge)) ≡ true → LeftBy act (if b then Accepted replied.Stored (changed n h value) else Refused replied.TooLarge)
+    by : (b : Bool)
+        → accepts (reply_in (if b then Accepted replied.Stored (changed n h value) else Refused replied.TooLarge))
+        ≡ true → LeftBy act (if b then Accepted replied.Stored (changed n h value) else Refused replied.TooLarge)
     by true is = left _
     by false is = cc is
 
-raised-left : (act : Act) (n : ℕ) (h : Holding) (by : ℕ) (v : Option ℕ) → ((leaves : Holding) → IsLeft act (Some leaves)) → accepts (reply_in (raised n h by v)) ≡ true → LeftBy act (raised n h by v)
+raised-left : (act : Act) (n : ℕ) (h : Holding) (by : ℕ) (v : Option ℕ)
+    → ((leaves : Holding) → IsLeft act (Some leaves)) → accepts (reply_in (raised n h by v)) ≡ true
+    → LeftBy act (raised n h by v)
 raised-left act n h by (Some v) left is = left _
 raised-left act n h by None left is = cc is
 
-lowered-left : (act : Act) (n : ℕ) (h : Holding) (by : ℕ) (v : Option ℕ) → ((leaves : Holding) → IsLeft act (Some leaves)) → accepts (reply_in (lowered n h by v)) ≡ true → LeftBy act (lowered n h by v)
+lowered-left : (act : Act) (n : ℕ) (h : Holding) (by : ℕ) (v : Option ℕ)
+    → ((leaves : Holding) → IsLeft act (Some leaves)) → accepts (reply_in (lowered n h by v)) ≡ true
+    → LeftBy act (lowered n h by v)
 lowered-left act n h by (Some v) left is = left _
 lowered-left act n h by None left is = cc is
 
@@ -54,7 +61,8 @@ ruled t n (Replace key flags expiry value) (Some h) is = (_, refl)
 ruled t n (Cas key flags expiry cas value) None is = cc is
 ruled t n (Cas key flags expiry cas value) (Some h) is = by (h.item.cas == cas) is
   where
-    by : (b : Bool) → accepts (reply_in (if b then anew t n flags expiry value else Refused replied.Exists)) ≡ true → LeftBy (Cas key flags expiry cas value) (if b then anew t n flags expiry value else Refused replied.Exists)
+    by : (b : Bool) → accepts (reply_in (if b then anew t n flags expiry value else Refused replied.Exists)) ≡ true
+        → LeftBy (Cas key flags expiry cas value) (if b then anew t n flags expiry value else Refused replied.Exists)
     by true is = (_, refl)
     by false is = cc is
 ruled t n (Delete key) None is = cc is
@@ -73,7 +81,8 @@ ruled t n (Decr key by) (Some h) is = lowered-left (Decr key by) n h by (number_
 pub same_key-refl : (key : List ℕ) → is_eq (slice_cmp nat_cmp key key) ≡ true
 same_key-refl key = is_eq-slice_cmp key key ∙ (bytes_eq-Decides key key).1 refl
 
-after-left : (t : Contents) (op : Asked) (ruling : Ruling) → LeftBy op.act ruling → IsLeft op.act ((after_ruling t (key_of op.act) ruling).items (key_of op.act))
+after-left : (t : Contents) (op : Asked) (ruling : Ruling) → LeftBy op.act ruling
+    → IsLeft op.act ((after_ruling t (key_of op.act) ruling).items (key_of op.act))
 after-left t op (Accepted reply leaves) left = rw (same_key-refl (key_of op.act)) left
 after-left t op (Refused reply) left = absurd left
 

@@ -52,7 +52,8 @@ pub lined : (s : Dimensions) (d : ℕ) (before changes : List Change) (places : 
     → Lined s d before changes (length (dues_of d before changes)) places
 lined s d before [] [] told = record { lines = refl; count = refl; clear = tt }
 lined s d before [] (line ∷ lines) told = absurd told
-lined s d before (c ∷ changes) places told = by c.effect refl (dues_of d (before ++ c ∷ []) changes) places told (λ lines told'. lined s d (before ++ c ∷ []) changes lines told')
+lined s d before (c ∷ changes) places told = by c.effect refl (dues_of d (before ++ c ∷ []) changes) places told
+    (λ lines told'. lined s d (before ++ c ∷ []) changes lines told')
   where
     by : (e : Effect) → c.effect ≡ e → (dues : List Due) (lines : List (List ℕ)) → AllTold s (due_for d before e dues) lines
         → ((more : List (List ℕ)) → AllTold s dues more → Lined s d (before ++ c ∷ []) changes (length dues) more)
@@ -99,7 +100,8 @@ pub record AllLined (s : Dimensions) (a : Account) (d n many : ℕ) (places : Li
   pub count : many ≡ count_placed (runs_of a d n)
   pub clear : (p : ℕ) → d ≤ p → p < d + n → AreClear s [] (changes_at a p)
 
-pub all_lined : (s : Dimensions) (a : Account) (d n : ℕ) (places : List (List ℕ)) → AllTold s (dues_from a d n) places → AllLined s a d n (length (dues_from a d n)) places
+pub all_lined : (s : Dimensions) (a : Account) (d n : ℕ) (places : List (List ℕ)) → AllTold s (dues_from a d n) places
+    → AllLined s a d n (length (dues_from a d n)) places
 all_lined s a d zero [] told = record { lines = refl; count = refl; clear = λ p low high. absurd (omega (arith, low, high)) }
 all_lined s a d zero (line ∷ lines) told = absurd told
 all_lined s a d (suc n) places told =
@@ -108,7 +110,10 @@ all_lined s a d (suc n) places told =
     let rest = all_lined s a (d + 1) n parts.other parts.more in
     let next : d + 1 ≡ suc d = omega arith in
     record {
-      lines = parts.text ∙ ap (λ (t : List (List ℕ)). t ++ parts.other) here.lines ∙ ap (λ (t : List (List ℕ)). run_lines d 0 (runs_for (changes_at a d)) ++ t) (rest.lines ∙ ap (λ (m : ℕ). place_lines m (runs_of a (d + 1) n)) next);
-      count = length-append (dues_of d [] (changes_at a d)) (dues_from a (d + 1) n) ∙ rw here.count (ap (λ (m : ℕ). many_placed (runs_for (changes_at a d)) + m) rest.count);
+      lines = parts.text ∙ ap (λ (t : List (List ℕ)). t ++ parts.other) here.lines
+          ∙ ap (λ (t : List (List ℕ)). run_lines d 0 (runs_for (changes_at a d)) ++ t)
+          (rest.lines ∙ ap (λ (m : ℕ). place_lines m (runs_of a (d + 1) n)) next);
+      count = length-append (dues_of d [] (changes_at a d)) (dues_from a (d + 1) n)
+          ∙ rw here.count (ap (λ (m : ℕ). many_placed (runs_for (changes_at a d)) + m) rest.count);
       clear = λ p low high. elim (cases_eq p d) [ inl same ↦ rw same here.clear | inr other ↦ rest.clear p (omega (arith, low, other)) (omega (arith, high)) ];
     }

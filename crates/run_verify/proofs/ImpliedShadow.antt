@@ -32,7 +32,8 @@ Shadow k t changes [] u after = (t ≡ u) × (changes ≡ after)
 Shadow k t changes (e ∷ es) u after = (run : Option Run) × (e.reply ≡ reply_of t e.op)
     × Shadow k (table_after t e.op) (with_change (accepts e.reply) (home_of (key_of e.op.act) k) (change_by t e run) changes) es u after
 
-pub shadow-append : (k : ℕ) (es fs : List Entry) (t : Contents) (changes : List (List Change)) (u : Contents) (between : List (List Change)) (v : Contents) (after : List (List Change))
+pub shadow-append : (k : ℕ) (es fs : List Entry) (t : Contents) (changes : List (List Change)) (u : Contents)
+    (between : List (List Change)) (v : Contents) (after : List (List Change))
     → Shadow k t changes es u between → Shadow k u between fs v after → Shadow k t changes (es ++ fs) v after
 shadow-append k [] fs t changes u between v after (same, kept) second =
     subst (λ (x : Contents). Shadow k x changes fs v after) (sym same) (subst (λ (x : List (List Change)). Shadow k u x fs v after) (sym kept) second)
@@ -48,10 +49,19 @@ pub record Grown (k d : ℕ) (t : Contents) (changes : List (List Change)) (es :
   pub grown : at [] after d ≡ at [] changes d ++ more
   pub matches : (tail : List (Option Run)) → MatchAll more (updates_from k d t (runs_for more ++ tail) es)
 
-pub grow : (k d : ℕ) (es : List Entry) (t : Contents) (changes : List (List Change)) (u : Contents) (after : List (List Change)) → Shadow k t changes es u after → Grown k d t changes es after
-grow k d [] t changes u after (same, kept) = record { more = []; grown = sym (ap (λ (c : List (List Change)). at [] c d) kept) ∙ sym (append-nil (at [] changes d)); matches = λ tail. tt }
+pub grow : (k d : ℕ) (es : List Entry) (t : Contents) (changes : List (List Change)) (u : Contents)
+    (after : List (List Change)) → Shadow k t changes es u after → Grown k d t changes es after
+grow k d [] t changes u after (same, kept) =
+    record {
+      more = [];
+      grown = sym (ap (λ (c : List (List Change)). at [] c d) kept)
+          ∙ sym (append-nil (at [] changes d));
+      matches = λ tail. tt;
+    }
 grow k d (e ∷ es) t changes u after (run, reply, rest) =
-    by (accepts e.reply) refl (home_of (key_of e.op.act) k == d) refl (grow k d es (table_after t e.op) (with_change (accepts e.reply) (home_of (key_of e.op.act) k) (change_by t e run) changes) u after rest)
+    by (accepts e.reply) refl (home_of (key_of e.op.act) k == d) refl
+    (grow k d es (table_after t e.op) (with_change (accepts e.reply) (home_of (key_of e.op.act) k) (change_by t e run)
+    changes) u after rest)
   where
     c : Change
     c = change_by t e run
@@ -59,7 +69,11 @@ grow k d (e ∷ es) t changes u after (run, reply, rest) =
     -- the entry is no update of this partition
     aside : is_update_of k d e ≡ false → at [] (with_change (accepts e.reply) (home_of (key_of e.op.act) k) c changes) d ≡ at [] changes d
         → Grown k d (table_after t e.op) (with_change (accepts e.reply) (home_of (key_of e.op.act) k) c changes) es after → Grown k d t changes (e ∷ es) after
-    aside aside_is same g = record { more = g.more; grown = g.grown ∙ ap (λ (x : List Change). x ++ g.more) same; matches = λ tail. rw aside_is (g.matches tail) }
+    aside aside_is same g = record {
+      more = g.more;
+      grown = g.grown ∙ ap (λ (x : List Change). x ++ g.more) same;
+      matches = λ tail. rw aside_is (g.matches tail);
+    }
 
     by : (a : Bool) → accepts e.reply ≡ a → (b : Bool) → (home_of (key_of e.op.act) k == d) ≡ b
         → Grown k d (table_after t e.op) (with_change (accepts e.reply) (home_of (key_of e.op.act) k) c changes) es after → Grown k d t changes (e ∷ es) after
@@ -70,7 +84,8 @@ grow k d (e ∷ es) t changes u after (run, reply, rest) =
     by true accepted true home g =
         let here : home_of (key_of e.op.act) k ≡ d = grind (arith, nat_tests, home) in
         let yes' : is_update_of k d e ≡ true = rw (accepted, home) refl in
-        let kept : at [] (with_change (accepts e.reply) (home_of (key_of e.op.act) k) c changes) d ≡ at [] changes d ++ c ∷ [] = rw (accepted, here) (at-put [] [] changes d (at [] changes d ++ c ∷ [])) in
+        let kept : at [] (with_change (accepts e.reply) (home_of (key_of e.op.act) k) c changes) d ≡ at [] changes d
+        ++ c ∷ [] = rw (accepted, here) (at-put [] [] changes d (at [] changes d ++ c ∷ [])) in
         record {
           more = c ∷ g.more;
           grown = g.grown ∙ ap (λ (x : List Change). x ++ g.more) kept ∙ append_assoc (at [] changes d) (c ∷ []) g.more;
@@ -79,7 +94,8 @@ grow k d (e ∷ es) t changes u after (run, reply, rest) =
 
 -- ---- the changes of a course
 
-table-kept : (a : Account) (event : Event) (answer : Answer) → ((after_answer a event answer).table ≡ a.table) × ((after_answer a event answer).changes ≡ a.changes)
+table-kept : (a : Account) (event : Event) (answer : Answer) → ((after_answer a event answer).table ≡ a.table)
+    × ((after_answer a event answer).changes ≡ a.changes)
 table-kept a (happens.Ask caller op p) answer = (refl, refl)
 table-kept a (happens.Collect caller call p) answer = (refl, refl)
 table-kept a (happens.Deliver from to) answer = (refl, refl)
@@ -102,14 +118,16 @@ shadow-step sheet a (Make event) Down next by = absurd by
 shadow-step sheet a (Make event) (Placed runs) next by = absurd by
 shadow-step sheet a Deliveries (Made t) next by = absurd by
 shadow-step sheet a Deliveries (Drained turns n) next (entries, same, fits, logs) =
-    subst (λ (ts : List Turn). Shadow sheet.script.shape.k a.table a.changes (log_of ts) next.table next.changes) (sym same) (rw (append-nil entries) (shadow-logs sheet entries a next logs))
+    subst (λ (ts : List Turn). Shadow sheet.script.shape.k a.table a.changes (log_of ts) next.table next.changes)
+    (sym same) (rw (append-nil entries) (shadow-logs sheet entries a next logs))
 shadow-step sheet a Deliveries (Shown stamp bytes) next by = absurd by
 shadow-step sheet a Deliveries Lost next by = absurd by
 shadow-step sheet a Deliveries Down next by = absurd by
 shadow-step sheet a Deliveries (Placed runs) next by = absurd by
 shadow-step sheet a (Look p run) (Made t) next by = absurd by
 shadow-step sheet a (Look p run) (Drained turns n) next by = absurd by
-shadow-step sheet a (Look p run) (Shown stamp bytes) next by = (sym (ap (λ (c : Account). c.table) by.next_is), sym (ap (λ (c : Account). c.changes) by.next_is))
+shadow-step sheet a (Look p run) (Shown stamp bytes) next by =
+    (sym (ap (λ (c : Account). c.table) by.next_is), sym (ap (λ (c : Account). c.changes) by.next_is))
 shadow-step sheet a (Look p run) Lost next by = (sym (ap (λ (c : Account). c.table) by), sym (ap (λ (c : Account). c.changes) by))
 shadow-step sheet a (Look p run) Down next by = (sym (ap (λ (c : Account). c.table) by), sym (ap (λ (c : Account). c.changes) by))
 shadow-step sheet a (Look p run) (Placed runs) next by = absurd by
@@ -130,4 +148,7 @@ shadow-course sheet a [] [] final course = (ap (λ (c : Account). c.table) cours
 shadow-course sheet a [] (told ∷ more) final course = absurd course
 shadow-course sheet a (step ∷ steps) [] final course = absurd course
 shadow-course sheet a (step ∷ steps) (told ∷ more) final (next, by, course) =
-    rw (log-append (turns_in told) (turns_told more)) (shadow-append sheet.script.shape.k (log_of (turns_in told)) (log_of (turns_told more)) a.table a.changes next.table next.changes final.table final.changes (shadow-step sheet a step told next by) (shadow-course sheet next steps more final course))
+    rw (log-append (turns_in told) (turns_told more))
+    (shadow-append sheet.script.shape.k (log_of (turns_in told)) (log_of (turns_told more)) a.table a.changes
+    next.table next.changes final.table final.changes (shadow-step sheet a step told next by)
+    (shadow-course sheet next steps more final course))

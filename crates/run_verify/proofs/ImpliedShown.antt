@@ -35,21 +35,24 @@ use Rattle.run_verify.proofs.ImpliedSteps.{Course, ShownBy, StepTold}
 
 -- ---- what is shown
 
-spaces-by-same : (f g : ℕ → ℕ → List ℕ) (k d : ℕ) (stamp : List ℕ) → ((p n : ℕ) → p < k → f p n ≡ g p n) → d + length stamp ≤ k → spaces_by f d stamp ≡ spaces_by g d stamp
+spaces-by-same : (f g : ℕ → ℕ → List ℕ) (k d : ℕ) (stamp : List ℕ) → ((p n : ℕ) → p < k → f p n ≡ g p n)
+    → d + length stamp ≤ k → spaces_by f d stamp ≡ spaces_by g d stamp
 spaces-by-same f g k d [] same within = refl
 spaces-by-same f g k d (n ∷ stamp) same within =
     let here = same d n (omega (arith, within)) in
     let rest = spaces-by-same f g k (d + 1) stamp same (omega (arith, within)) in
     cc (here, rest)
 
-pub shown-same : (s : Dimensions) (f g : ℕ → ℕ → List ℕ) (counts : ℕ → ℕ) (p : ProcessId) (run : Run) (stamp : List ℕ) → ((d n : ℕ) → d < s.k → f d n ≡ g d n) → IsProcess s p → IsStampOf s counts p stamp
+pub shown-same : (s : Dimensions) (f g : ℕ → ℕ → List ℕ) (counts : ℕ → ℕ) (p : ProcessId) (run : Run) (stamp : List ℕ)
+    → ((d n : ℕ) → d < s.k → f d n ≡ g d n) → IsProcess s p → IsStampOf s counts p stamp
     → shown_at s f p run stamp ≡ shown_at s g p run stamp
 shown-same s f g counts (DataNode d) run stamp same within can = ap (λ (x : List ℕ). bytes_at run.at run.len x) (same d (at 0 stamp 0) within)
 shown-same s f g counts (ParityNode i) run stamp same within can =
     let long = can.0 in
     ap (λ (x : List (List ℕ)). bytes_at run.at run.len (coded s.m i (space_of s) x)) (spaces-by-same f g s.k 0 stamp same (omega (arith, long)))
 
-pub stamp-same : (s : Dimensions) (c e : ℕ → ℕ) (p : ProcessId) (stamp : List ℕ) → ((d : ℕ) → d < s.k → c d ≡ e d) → IsProcess s p → IsStampOf s c p stamp → IsStampOf s e p stamp
+pub stamp-same : (s : Dimensions) (c e : ℕ → ℕ) (p : ProcessId) (stamp : List ℕ) → ((d : ℕ) → d < s.k → c d ≡ e d)
+    → IsProcess s p → IsStampOf s c p stamp → IsStampOf s e p stamp
 stamp-same s c e (DataNode d) stamp same within (n, is, below) = let eq = same d within in (n, is, omega (arith, below, eq))
 stamp-same s c e (ParityNode i) stamp same within (long, below) = (long, λ d small. let eq = same d small in let b = below d small in omega (arith, eq, b))
 
@@ -61,7 +64,8 @@ StandsSoFar s runs log a = (d : ℕ) → d < s.k → MatchAll (changes_at a d) (
 abbrev Begins : Dimensions → List (List (Option Run)) → Account → Type 0
 Begins s runs a = (d : ℕ) → d < s.k → (tail : List (Option Run)) × (at [] runs d ≡ runs_for (changes_at a d) ++ tail)
 
-so-far : (s : Dimensions) (runs : List (List (Option Run))) (log : List Entry) (a : Account) → Shadow s.k (empty_table s.k) (replicate s.k []) log a.table a.changes → Begins s runs a → StandsSoFar s runs log a
+so-far : (s : Dimensions) (runs : List (List (Option Run))) (log : List Entry) (a : Account)
+    → Shadow s.k (empty_table s.k) (replicate s.k []) log a.table a.changes → Begins s runs a → StandsSoFar s runs log a
 so-far s runs log a shadow begins d below =
     let g = grow s.k d log (empty_table s.k) (replicate s.k []) a.table a.changes shadow in
     let all : changes_at a d ≡ g.more = g.grown ∙ ap (λ (x : List Change). x ++ g.more) (at-replicate {X = List Change} [] s.k d) in
@@ -69,7 +73,8 @@ so-far s runs log a shadow begins d below =
     let runs_are : at [] runs d ≡ runs_for g.more ++ b.0 = b.1 ∙ ap (λ (x : List Change). runs_for x ++ b.0) all in
     rw all (rw runs_are (g.matches b.0))
 
-begins-final : (s : Dimensions) (final a : Account) (es : List Entry) → Shadow s.k a.table a.changes es final.table final.changes → Begins s (runs_of final 0 s.k) a
+begins-final : (s : Dimensions) (final a : Account) (es : List Entry)
+    → Shadow s.k a.table a.changes es final.table final.changes → Begins s (runs_of final 0 s.k) a
 begins-final s final a es shadow d below =
     let g = grow s.k d es a.table a.changes final.table final.changes shadow in (
       runs_for g.more,
@@ -77,17 +82,25 @@ begins-final s final a es shadow d below =
           ∙ ap runs_for g.grown ∙ map-append (λ c. run_told c.effect) (changes_at a d) g.more,
     )
 
-well-look : (sheet : Sheet) (a next : Account) (p : ProcessId) (run : Run) (stamp bytes : List ℕ) (runs : List (List (Option Run))) (log : List Entry) → IsProcess sheet.script.shape p
-    → StandsSoFar sheet.script.shape runs log a → ShownBy sheet a p run stamp bytes next → IsWellShown sheet.script.shape runs log (Look p run) (Shown stamp bytes)
+well-look : (sheet : Sheet) (a next : Account) (p : ProcessId) (run : Run) (stamp bytes : List ℕ)
+    (runs : List (List (Option Run))) (log : List Entry) → IsProcess sheet.script.shape p
+    → StandsSoFar sheet.script.shape runs log a → ShownBy sheet a p run stamp bytes next
+    → IsWellShown sheet.script.shape runs log (Look p run) (Shown stamp bytes)
 well-look sheet a next p run stamp bytes runs log within stands by =
     let s : Dimensions = sheet.script.shape in
-    let counts : (d : ℕ) → d < s.k → length (changes_at a d) ≡ length (updates_by s runs log d) = λ d below. length-same (changes_at a d) (updates_by s runs log d) (stands d below) in
-    let spaces : (d n : ℕ) → d < s.k → space_behind s (take n (changes_at a d)) ≡ space_after s (updates_by s runs log d) n = λ d n below. spaces-same s (changes_at a d) (updates_by s runs log d) n (stands d below) in (
+    let counts : (d : ℕ) → d < s.k → length (changes_at a d) ≡ length (updates_by s runs log d) =
+    λ d below. length-same (changes_at a d) (updates_by s runs log d) (stands d below) in
+    let spaces : (d n : ℕ) → d < s.k → space_behind s (take n (changes_at a d))
+    ≡ space_after s (updates_by s runs log d) n = λ d n below. spaces-same s (changes_at a d)
+    (updates_by s runs log d) n (stands d below) in (
       stamp-same s (λ d. length (changes_at a d)) (λ d. length (updates_by s runs log d)) p stamp counts within by.can,
-      by.bytes_are ∙ shown-same s (λ d n. space_behind s (take n (changes_at a d))) (λ d n. space_after s (updates_by s runs log d) n) (λ d. length (changes_at a d)) p run stamp spaces within by.can,
+      by.bytes_are ∙ shown-same s (λ d n. space_behind s (take n (changes_at a d)))
+          (λ d n. space_after s (updates_by s runs log d) n) (λ d. length (changes_at a d)) p run stamp spaces within
+          by.can,
     )
 
-well-step : (sheet : Sheet) (a : Account) (step : Step) (told : Told) (next : Account) (runs : List (List (Option Run))) (log : List Entry) → FitsStep sheet.script.shape step
+well-step : (sheet : Sheet) (a : Account) (step : Step) (told : Told) (next : Account) (runs : List (List (Option Run)))
+    (log : List Entry) → FitsStep sheet.script.shape step
     → StandsSoFar sheet.script.shape runs log a → StepTold sheet a step told next → IsWellShown sheet.script.shape runs log step told
 well-step sheet a (Look p run) (Shown stamp bytes) next runs log fits stands by = well-look sheet a next p run stamp bytes runs log fits stands by
 well-step sheet a (Look p run) (Made t) next runs log fits stands by = tt
@@ -109,7 +122,8 @@ well-shown sheet (step ∷ steps) (told ∷ more) a final log (fit, fits) shadow
     let s : Dimensions = sheet.script.shape in
     let here = shadow-step sheet a step told next by in
     let onward = shadow-course sheet next steps more final course in
-    let whole = shadow-append s.k (log_of (turns_in told)) (log_of (turns_told more)) a.table a.changes next.table next.changes final.table final.changes here onward in
+    let whole = shadow-append s.k (log_of (turns_in told)) (log_of (turns_told more)) a.table a.changes next.table
+    next.changes final.table final.changes here onward in
     let begins = begins-final s final a (log_of (turns_in told) ++ log_of (turns_told more)) whole in (
       well-step sheet a step told next (runs_of final 0 s.k) log fit (so-far s (runs_of final 0 s.k) log a shadow begins) by,
       well-shown sheet steps more next final (log ++ log_of (turns_in told)) fits
@@ -118,19 +132,36 @@ well-shown sheet (step ∷ steps) (told ∷ more) a final log (fit, fits) shadow
 
 -- ---- where values stand
 
-clear-same : (s : Dimensions) (before : List Change) (us : List Logged) (run : Run) (len : ℕ) → MatchAll before us → IsClear s (λ key. run_behind key None before) run len → IsClear s (item_runs us) run len
-clear-same s before us run len all clear = record { inside = clear.inside; long = clear.long; apart = λ key other is. clear.apart key other (item-run key before us None all ∙ is) }
+clear-same : (s : Dimensions) (before : List Change) (us : List Logged) (run : Run) (len : ℕ) → MatchAll before us
+    → IsClear s (λ key. run_behind key None before) run len → IsClear s (item_runs us) run len
+clear-same s before us run len all clear =
+    record {
+      inside = clear.inside;
+      long = clear.long;
+      apart = λ key other is. clear.apart key other
+          (item-run key before us None all ∙ is);
+    }
 
-stands-right : (s : Dimensions) (before : List Change) (us : List Logged) (c : Change) (u : Logged) → MatchAll before us → Matches c u → IsClearBy s before c.effect → StandsRight s us u (brings_value u.entry.op.act)
+stands-right : (s : Dimensions) (before : List Change) (us : List Logged) (c : Change) (u : Logged) → MatchAll before us
+    → Matches c u → IsClearBy s before c.effect → StandsRight s us u (brings_value u.entry.op.act)
 stands-right s before us c u all one clear = by c.effect refl one.run one.kind clear
   where
-    by : (e : Effect) → c.effect ≡ e → u.run ≡ run_told e → IsKind e u.item (brings_value u.entry.op.act) → IsClearBy s before e → StandsRight s us u (brings_value u.entry.op.act)
+    by : (e : Effect) → c.effect ≡ e → u.run ≡ run_told e → IsKind e u.item (brings_value u.entry.op.act)
+        → IsClearBy s before e → StandsRight s us u (brings_value u.entry.op.act)
     by (Writes value run) is run_is (h, item, same, brings) (r, some, clear') =
-        rw brings (r, h, run_is ∙ some, item, subst (λ (n : ℕ). IsClear s (item_runs us) r n) (ap length same) (clear-same s before us r (length value) all clear'))
+        rw brings (
+          r,
+          h,
+          run_is ∙ some,
+          item,
+          subst (λ (n : ℕ). IsClear s (item_runs us) r n) (ap length same)
+              (clear-same s before us r (length value) all clear'),
+        )
     by Removes is run_is (item, brings) clear' = rw brings run_is
     by Keeps is run_is (h, item, brings) clear' = rw brings run_is
 
-all-right : (s : Dimensions) (before : List Change) (us : List Logged) (cs : List Change) (more : List Logged) → MatchAll before us → MatchAll cs more → AreClear s before cs → StandRight s us more
+all-right : (s : Dimensions) (before : List Change) (us : List Logged) (cs : List Change) (more : List Logged)
+    → MatchAll before us → MatchAll cs more → AreClear s before cs → StandRight s us more
 all-right s before us [] [] all matches clear = tt
 all-right s before us [] (u ∷ more) all matches clear = absurd matches
 all-right s before us (c ∷ cs) [] all matches clear = absurd matches
@@ -142,7 +173,8 @@ pub are-placed : (s : Dimensions) (final : Account) (log : List Entry) → Shado
 are-placed s final log shadow clear = record {
   partitions = length-map-range_with_len (λ p. runs_for (changes_at final p)) 0 s.k;
   numbers = λ d below. runs-same (changes_at final d) (updates_by s (runs_of final 0 s.k) log d) (stands d below)
-      ∙ sym (at-map-range [] (λ p. runs_for (changes_at final p)) s.k 0 d below ∙ ap (λ (p : ℕ). runs_for (changes_at final p)) (let e : 0 + d ≡ d = omega arith in e));
+      ∙ sym (at-map-range [] (λ p. runs_for (changes_at final p)) s.k 0 d below
+      ∙ ap (λ (p : ℕ). runs_for (changes_at final p)) (let e : 0 + d ≡ d = omega arith in e));
   right = λ d below. all-right s [] [] (changes_at final d) (updates_by s (runs_of final 0 s.k) log d) tt (stands d below) (clear d below);
 }
   where
@@ -155,26 +187,32 @@ pub record RunsTold (sheet : Sheet) (told : List Told) (final : Account) : Type 
   pub runs_are : runs_told told ≡ runs_of final 0 sheet.script.shape.k
   pub clear : (d : ℕ) → d < sheet.script.shape.k → AreClear sheet.script.shape [] (changes_at final d)
 
-pub runs-course : (sheet : Sheet) (a : Account) (steps : List Step) (told : List Told) (final : Account) → EndsPlacing steps → Course sheet a steps told final → RunsTold sheet told final
+pub runs-course : (sheet : Sheet) (a : Account) (steps : List Step) (told : List Told) (final : Account)
+    → EndsPlacing steps → Course sheet a steps told final → RunsTold sheet told final
 runs-course sheet a [] told final ends course = absurd ends
 runs-course sheet a (step ∷ steps) [] final ends course = absurd course
-runs-course sheet a (Make event ∷ steps) (Made t ∷ more) final ends (next, by, course) = let r = runs-course sheet next steps more final ends course in record { runs_are = r.runs_are; clear = r.clear }
+runs-course sheet a (Make event ∷ steps) (Made t ∷ more) final ends (next, by, course) = let r =
+    runs-course sheet next steps more final ends course in record { runs_are = r.runs_are; clear = r.clear }
 runs-course sheet a (Make event ∷ steps) (Drained turns n ∷ more) final ends (next, by, course) = absurd by
 runs-course sheet a (Make event ∷ steps) (Shown stamp bytes ∷ more) final ends (next, by, course) = absurd by
 runs-course sheet a (Make event ∷ steps) (Lost ∷ more) final ends (next, by, course) = absurd by
 runs-course sheet a (Make event ∷ steps) (Down ∷ more) final ends (next, by, course) = absurd by
 runs-course sheet a (Make event ∷ steps) (Placed runs ∷ more) final ends (next, by, course) = absurd by
 runs-course sheet a (Deliveries ∷ steps) (Made t ∷ more) final ends (next, by, course) = absurd by
-runs-course sheet a (Deliveries ∷ steps) (Drained turns n ∷ more) final ends (next, by, course) = let r = runs-course sheet next steps more final ends course in record { runs_are = r.runs_are; clear = r.clear }
+runs-course sheet a (Deliveries ∷ steps) (Drained turns n ∷ more) final ends (next, by, course) = let r =
+    runs-course sheet next steps more final ends course in record { runs_are = r.runs_are; clear = r.clear }
 runs-course sheet a (Deliveries ∷ steps) (Shown stamp bytes ∷ more) final ends (next, by, course) = absurd by
 runs-course sheet a (Deliveries ∷ steps) (Lost ∷ more) final ends (next, by, course) = absurd by
 runs-course sheet a (Deliveries ∷ steps) (Down ∷ more) final ends (next, by, course) = absurd by
 runs-course sheet a (Deliveries ∷ steps) (Placed runs ∷ more) final ends (next, by, course) = absurd by
 runs-course sheet a (Look p run ∷ steps) (Made t ∷ more) final ends (next, by, course) = absurd by
 runs-course sheet a (Look p run ∷ steps) (Drained turns n ∷ more) final ends (next, by, course) = absurd by
-runs-course sheet a (Look p run ∷ steps) (Shown stamp bytes ∷ more) final ends (next, by, course) = let r = runs-course sheet next steps more final ends course in record { runs_are = r.runs_are; clear = r.clear }
-runs-course sheet a (Look p run ∷ steps) (Lost ∷ more) final ends (next, by, course) = let r = runs-course sheet next steps more final ends course in record { runs_are = r.runs_are; clear = r.clear }
-runs-course sheet a (Look p run ∷ steps) (Down ∷ more) final ends (next, by, course) = let r = runs-course sheet next steps more final ends course in record { runs_are = r.runs_are; clear = r.clear }
+runs-course sheet a (Look p run ∷ steps) (Shown stamp bytes ∷ more) final ends (next, by, course) = let r =
+    runs-course sheet next steps more final ends course in record { runs_are = r.runs_are; clear = r.clear }
+runs-course sheet a (Look p run ∷ steps) (Lost ∷ more) final ends (next, by, course) = let r =
+    runs-course sheet next steps more final ends course in record { runs_are = r.runs_are; clear = r.clear }
+runs-course sheet a (Look p run ∷ steps) (Down ∷ more) final ends (next, by, course) = let r =
+    runs-course sheet next steps more final ends course in record { runs_are = r.runs_are; clear = r.clear }
 runs-course sheet a (Look p run ∷ steps) (Placed runs ∷ more) final ends (next, by, course) = absurd by
 runs-course sheet a (Placing ∷ steps) (Made t ∷ more) final ends (next, by, course) = absurd by
 runs-course sheet a (Placing ∷ steps) (Drained turns n ∷ more) final ends (next, by, course) = absurd by
@@ -185,4 +223,8 @@ runs-course sheet a (Placing ∷ (step ∷ steps)) (Placed runs ∷ more) final 
 runs-course sheet a (Placing ∷ []) (Placed runs ∷ (told ∷ more)) final ends (next, by, course) = absurd course
 runs-course sheet a (Placing ∷ []) (Placed runs ∷ []) final ends (next, by, course) =
     let same : a ≡ final = sym by.next_is ∙ course in
-    record { runs_are = append-nil runs ∙ by.runs_are ∙ ap (λ (c : Account). runs_of c 0 sheet.script.shape.k) same; clear = λ d below. subst (λ (c : Account). AreClear sheet.script.shape [] (changes_at c d)) same (by.clear d below) }
+    record {
+      runs_are = append-nil runs ∙ by.runs_are ∙ ap (λ (c : Account). runs_of c 0 sheet.script.shape.k) same;
+      clear = λ d below. subst (λ (c : Account). AreClear sheet.script.shape [] (changes_at c d)) same
+          (by.clear d below);
+    }

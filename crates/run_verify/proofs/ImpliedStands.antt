@@ -17,7 +17,8 @@ use Rattle.run_verify.specs.Passing.{Account, TellsEntry, after_answer, after_en
 use Rattle.run_verify.specs.Sheet.{Sheet}
 use Rattle.run_verify.specs.declared.call.Call.{Call}
 use Rattle.run_verify.proofs.ImpliedHeads.{Head, IsAsked, asked-push, asks-push, asks_by, get-cases, get-last, get-push, get-within, take-push}
-use Rattle.run_verify.proofs.ImpliedAccount.{AskedBy, LoggedBehind, Stands, call-cases, call-kept, call-new, call_with, entry-other, entry-there, many-call, many-entry, same_name}
+use Rattle.run_verify.proofs.ImpliedAccount.{AskedBy, LoggedBehind, Stands, call-cases, call-kept, call-new, call_with}
+use Rattle.run_verify.proofs.ImpliedAccount.{entry-other, entry-there, many-call, many-entry, same_name}
 
 no_call : (name : CallName) (call : Call) → call_of (first_account 0) name ≢ Some call
 no_call name call is = cc (sym (ap (λ (calls : List Call). slice_get calls name.call) (at-replicate [] callers name.caller)) ∙ is)
@@ -45,23 +46,42 @@ starts-more hs event answer log starts j h is = elim (get-cases hs (head event a
 ]
 
 asked-more : (hs : List Head) (g : Head) (log : List Entry) (name : CallName) (call : Call) → AskedBy hs log name call → AskedBy (hs ++ g ∷ []) log name call
-asked-more hs g log name call by = record { j = by.j; head = by.head; ask = asked-push hs g by.j by.head name call.op by.ask; taken = by.taken; logged = by.logged }
+asked-more hs g log name call by =
+    record {
+      j = by.j;
+      head = by.head;
+      ask = asked-push hs g by.j by.head name call.op by.ask;
+      taken = by.taken;
+      logged = by.logged;
+    }
 
 -- an ask among one head more is one of those before, or the last
 asked-cases : (hs : List Head) (g : Head) (j : ℕ) (h : Head) (name : CallName) (op : Asked) → IsAsked (hs ++ g ∷ []) j h name op
     → IsAsked hs j h name op ⊎ ((h ≡ g) × (asks_by name.caller hs ≡ name.call))
 asked-cases hs g j h name op ask = elim (get-cases hs g j h ask.there) [
-  | inl before ↦ inl (record { there = before; at = ask.at; event = ask.event; place = let within = get-within hs j h before in sym (ap (λ (xs : List Head). asks_by name.caller xs) (take-push hs g j (omega (arith, within)))) ∙ ask.place })
+  | inl before ↦ inl
+      (record {
+        there = before;
+        at = ask.at;
+        event = ask.event;
+        place = let within = get-within hs j h before in
+            sym (ap (λ (xs : List Head). asks_by name.caller xs) (take-push hs g j (omega (arith, within)))) ∙ ask.place;
+      })
   | inr last ↦
       let over = last.0 in
-      inr (last.1, sym (ap (λ (xs : List Head). asks_by name.caller xs) (take-push hs g j (omega (arith, over)) ∙ take_all j hs (omega (arith, over)))) ∙ ask.place)
+      inr (
+        last.1,
+        sym (ap (λ (xs : List Head). asks_by name.caller xs) (take-push hs g j (omega (arith, over))
+            ∙ take_all j hs (omega (arith, over)))) ∙ ask.place,
+      )
 ]
 
 -- an event that is no ask
 abbrev IsNoAsk : Event → Type 0
 IsNoAsk event = (caller : ℕ) → asks_in caller event ≡ 0
 
-stands-other : (a : Account) (hs : List Head) (log : List Entry) (event : Event) (answer : Answer) → IsNoAsk event → Stands a hs log → Stands a (hs ++ head event answer log ∷ []) log
+stands-other : (a : Account) (hs : List Head) (log : List Entry) (event : Event) (answer : Answer) → IsNoAsk event
+    → Stands a hs log → Stands a (hs ++ head event answer log ∷ []) log
 stands-other a hs log event answer none s = record {
   many = λ c. s.many c ∙ (let e = asks-push c hs (head event answer log) in let z = none c in omega (arith, e, z));
   starts = starts-more hs event answer log s.starts;
@@ -87,17 +107,29 @@ stands-ask a hs log caller op p answer s = record {
     | inr (same, last, new_is) ↦ subst (AskedBy (hs ++ g ∷ []) log name) (sym new_is) (record {
       j = length hs;
       head = g;
-      ask = record { there = get-last hs g; at = p; event = rw same refl; place = rw (take-push hs g (length hs) (omega arith)) (rw (take_all (length hs) hs (omega arith)) (sym (s.many name.caller) ∙ rw same (sym last))) };
+      ask = record {
+        there = get-last hs g;
+        at = p;
+        event = rw same refl;
+        place = rw (take-push hs g (length hs) (omega arith))
+            (rw (take_all (length hs) hs (omega arith)) (sym (s.many name.caller) ∙ rw same (sym last)));
+      };
       taken = refl;
       logged = λ reply none. cc none;
     })
   ];
   called = λ j h name other ask. elim (asked-cases hs g j h name other ask) [
-    | inl before ↦ let c = s.called j h name other before in record { call = c.call; is = call-kept a caller new name c.call c.is; op_is = c.op_is; taken = c.taken }
+    | inl before ↦ let c = s.called j h name other before in
+        record { call = c.call; is = call-kept a caller new name c.call c.is; op_is = c.op_is; taken = c.taken }
     | inr (last, place) ↦
         let event : happens.Ask caller op p ≡ happens.Ask name.caller other ask.at = sym (ap (λ (x : Head). x.event) last) ∙ ask.event in
         let same : name.caller ≡ caller = cc event in
-        record { call = new; is = call-new a caller new name same (sym place ∙ sym (s.many name.caller) ∙ rw same refl); op_is = cc event; taken = ap (λ (x : Head). is_taken x.answer) (sym last) }
+        record {
+          call = new;
+          is = call-new a caller new name same (sym place ∙ sym (s.many name.caller) ∙ rw same refl);
+          op_is = cc event;
+          taken = ap (λ (x : Head). is_taken x.answer) (sym last);
+        }
   ];
   logged = λ i e is. call-kept a caller new (name_of e) (call_with e (Some e.reply)) (s.logged i e is);
   once = s.once;
@@ -123,16 +155,19 @@ some_same x y same = cc same
 
 -- ---- an entry more
 
-logged-more : (h : Head) (log : List Entry) (e : Entry) (name : CallName) (call : Call) → LoggedBehind h log name call → LoggedBehind h (log ++ e ∷ []) name call
+logged-more : (h : Head) (log : List Entry) (e : Entry) (name : CallName) (call : Call) → LoggedBehind h log name call
+    → LoggedBehind h (log ++ e ∷ []) name call
 logged-more h log e name call behind reply is = let b = behind reply is in (b.0, get-push log e b.0 (entry_of name call.op reply) b.1, b.2)
 
-pub stands-entry : (sheet : Sheet) (a : Account) (hs : List Head) (log : List Entry) (line : List ℕ) (e : Entry) (run : Option Run) → Stands a hs log → TellsEntry a line e
+pub stands-entry : (sheet : Sheet) (a : Account) (hs : List Head) (log : List Entry) (line : List ℕ) (e : Entry)
+    (run : Option Run) → Stands a hs log → TellsEntry a line e
     → Stands (after_entry sheet a e run) hs (log ++ e ∷ [])
 stands-entry sheet a hs log line e run s tells = record {
   many = λ c. many-entry sheet a e run c ∙ s.many c;
   starts = λ j h is. let before = s.starts j h is in omega (arith, before, length-append log (e ∷ []));
   asked = λ name call is. elim (same_name name (name_of e)) [
-    | inl same ↦ subst (λ (n : CallName). AskedBy hs (log ++ e ∷ []) n call) (sym same) (asked-here call (cc (sym (entry-there sheet a e run tells.call) ∙ rw same at is)))
+    | inl same ↦ subst (λ (n : CallName). AskedBy hs (log ++ e ∷ []) n call) (sym same)
+        (asked-here call (cc (sym (entry-there sheet a e run tells.call) ∙ rw same at is)))
     | inr other ↦
         let by = s.asked name call (sym (entry-other sheet a e run name other) ∙ is) in
         record { j = by.j; head = by.head; ask = by.ask; taken = by.taken; logged = logged-more by.head log e name call by.logged }
@@ -142,8 +177,15 @@ stands-entry sheet a hs log line e run s tells = record {
         let c = s.called j h name op ask in
         let old : call_of a name ≡ Some (call_with e None) = subst (λ (n : CallName). call_of a n ≡ Some (call_with e None)) (sym same) tells.call in
         let before : c.call ≡ call_with e None = cc (sym c.is ∙ old) in
-        record { call = call_with e (Some e.reply); is = subst (λ (n : CallName). call_of (after_entry sheet a e run) n ≡ Some (call_with e (Some e.reply))) (sym same) (entry-there sheet a e run tells.call); op_is = sym (ap (λ (x : Call). x.op) before) ∙ c.op_is; taken = sym (ap (λ (x : Call). x.taken) before) ∙ c.taken }
-    | inr other ↦ let c = s.called j h name op ask in record { call = c.call; is = entry-other sheet a e run name other ∙ c.is; op_is = c.op_is; taken = c.taken }
+        record {
+          call = call_with e (Some e.reply);
+          is = subst (λ (n : CallName). call_of (after_entry sheet a e run) n ≡ Some (call_with e (Some e.reply)))
+              (sym same) (entry-there sheet a e run tells.call);
+          op_is = sym (ap (λ (x : Call). x.op) before) ∙ c.op_is;
+          taken = sym (ap (λ (x : Call). x.taken) before) ∙ c.taken;
+        }
+    | inr other ↦ let c = s.called j h name op ask in
+        record { call = c.call; is = entry-other sheet a e run name other ∙ c.is; op_is = c.op_is; taken = c.taken }
   ];
   logged = λ i d is. elim (get-cases log e i d is) [
     | inl before ↦ entry-other sheet a e run (name_of d) (fresh i d before) ∙ s.logged i d before
@@ -165,7 +207,9 @@ stands-entry sheet a hs log line e run s tells = record {
     fresh : (i : ℕ) (d : Entry) → slice_get log i ≡ Some d → name_of d ≢ name_of e
     fresh i d is same =
         let old : call_of a (name_of d) ≡ Some (call_with e None) = subst (λ (n : CallName). call_of a n ≡ Some (call_with e None)) (sym same) tells.call in
-        let replies : Some d.reply ≡ None = ap (λ (c : Call). c.reply) (some_same (call_with d (Some d.reply)) (call_with e None) (sym (s.logged i d is) ∙ old)) in
+        let replies : Some d.reply ≡ None =
+        ap (λ (c : Call). c.reply)
+        (some_same (call_with d (Some d.reply)) (call_with e None) (sym (s.logged i d is) ∙ old)) in
         cc replies
 
     asked-here : (call : Call) → call ≡ call_with e (Some e.reply) → AskedBy hs (log ++ e ∷ []) (name_of e) call
@@ -176,5 +220,10 @@ stands-entry sheet a hs log line e run s tells = record {
           head = by.head;
           ask = by.ask;
           taken = by.taken;
-          logged = λ reply some. (length log, get-last log e ∙ ap (λ (r : Reply). Some (entry_of (name_of e) e.op r)) (let r : e.reply ≡ reply = cc some in r), s.starts by.j by.head by.ask.there);
+          logged = λ reply some. (
+            length log,
+            get-last log e ∙ ap (λ (r : Reply). Some (entry_of (name_of e) e.op r))
+                (let r : e.reply ≡ reply = cc some in r),
+            s.starts by.j by.head by.ask.there,
+          );
         })

@@ -1,5 +1,6 @@
 -- What is told for each step of a script whose transcript passes, and the account behind it.
-use Rattle.std.proofs.Common.{◌≡◌, ◌≢◌, inl, inr, ◌<◌, ◌+◌, ◌^◌, ℕ, Bool, true, false, List, [], ◌∷◌, ◌++◌, ◌∙◌, All, map, take, length, Option, append_assoc, refl, sym, ap, subst, arith}
+use Rattle.std.proofs.Common.{◌≡◌, ◌≢◌, inl, inr, ◌<◌, ◌+◌, ◌^◌, ℕ, Bool, true, false, List, [], ◌∷◌, ◌++◌, ◌∙◌, All}
+use Rattle.std.proofs.Common.{map, take, length, Option, append_assoc, refl, sym, ap, subst, arith}
 use Rattle.std.proofs.lemmas.List.{append-nil}
 use Rattle.std.proofs.lemmas.List.Elements.{All-cons, All-nil}
 use Rattle.group_types.specs.declared.process.ProcessId.{ProcessId}
@@ -14,7 +15,8 @@ use Rattle.group_calls.specs.declared.event.Event.TheVariants as happens
 use Rattle.scenario_text.specs.Texts.{entry_text}
 use Rattle.transcript_text.specs.Forms.{FitsAnswer, MayAnswer, kind_of}
 use Rattle.run_verify.specs.Changes.{space_behind}
-use Rattle.run_verify.specs.Passing.{Account, Due, IsRight, PassAll, PassesBy, PassesStep, State, after_answer, begins_entry, changes_at, dues_from, on_to, with_shown}
+use Rattle.run_verify.specs.Passing.{Account, Due, IsRight, PassAll, PassesBy, PassesStep, State, after_answer}
+use Rattle.run_verify.specs.Passing.{begins_entry, changes_at, dues_from, on_to, with_shown}
 use Rattle.run_verify.specs.Plain.{EndsPlacing}
 use Rattle.run_verify.specs.Sheet.{Sheet}
 use Rattle.run_verify.specs.Told.{IsDelivery, Told, Tells, TellAll, count_placed, drained_line, place_lines, lines_told, placed_line}
@@ -87,13 +89,16 @@ placed-answer a (happens.Flush p) answer none = none
 placed-answer a (happens.Trace caller call d p) answer none = none
 
 abbrev Onward : Sheet → List Step → Type 0
-Onward sheet steps = (a : Account) (logging : Bool) (lines : List (List ℕ)) (final : Account) → a.placed ≡ 0 → (logging ≡ true → NoEntry lines) → PassAll sheet (state a steps logging) lines final → Coursed sheet a steps lines
+Onward sheet steps = (a : Account) (logging : Bool) (lines : List (List ℕ)) (final : Account) → a.placed ≡ 0
+    → (logging ≡ true → NoEntry lines) → PassAll sheet (state a steps logging) lines final → Coursed sheet a steps lines
 
 -- lines of the log come where they belong to what was before, or for deliveries
-plain-here : (sheet : Sheet) (a : Account) (step : Step) (steps : List Step) (logging : Bool) (lines : List (List ℕ)) (final : Account) → step ≢ Deliveries → (logging ≡ true → NoEntry lines)
+plain-here : (sheet : Sheet) (a : Account) (step : Step) (steps : List Step) (logging : Bool) (lines : List (List ℕ))
+    (final : Account) → step ≢ Deliveries → (logging ≡ true → NoEntry lines)
     → PassAll sheet (state a (step ∷ steps) logging) lines final → NoEntry lines
 plain-here sheet a step steps true lines final other plain passes = plain refl
-plain-here sheet a step steps false lines final other plain passes = no_entry sheet (state a (step ∷ steps) false) lines final (λ may. elim may [ inl log ↦ cc log | inr more ↦ other (let e = more.1 in cc e) ]) passes
+plain-here sheet a step steps false lines final other plain passes = no_entry sheet (state a (step ∷ steps) false) lines
+    final (λ may. elim may [ inl log ↦ cc log | inr more ↦ other (let e = more.1 in cc e) ]) passes
 
 made : (sheet : Sheet) (event : Event) (steps : List Step) → Onward sheet steps → Onward sheet (Make event ∷ steps)
 made sheet event steps onward a logging lines final none plain passes =
@@ -103,7 +108,9 @@ made sheet event steps onward a logging lines final none plain passes =
     let next : Account = after_answer a event answer in
     let more = subst (λ (n : State). PassAll sheet n t.rest final) t.passes.2 t.onward in
     let logs = logs_ahead sheet t.rest (state next steps true) final (inl refl) more in
-    let course = onward logs.account true logs.rest final (placed-logs sheet logs.entries next logs.account logs.logs (placed-answer a event answer none)) (λ log. logs.plain) logs.passes in
+    let course = onward logs.account true logs.rest final
+    (placed-logs sheet logs.entries next logs.account logs.logs (placed-answer a event answer none))
+    (λ log. logs.plain) logs.passes in
     let turn : Turn = record { event = event; answer = answer; logged = logs.entries } in
     let lines_are = t.lines_are in
     let line_is = answers.text in
@@ -113,7 +120,19 @@ made sheet event steps onward a logging lines final none plain passes =
       told = Made turn ∷ course.told;
       final = course.final;
       text = cc (lines_are, line_is, rest_is, told_is);
-      course = (logs.account, record { event_is = refl; can = answers.can; fits = answers.fits; rest = logs.rest; plain = logs.plain; right = rw rest_is at answers.right; logs = logs.logs }, course.course);
+      course = (
+        logs.account,
+        record {
+          event_is = refl;
+          can = answers.can;
+          fits = answers.fits;
+          rest = logs.rest;
+          plain = logs.plain;
+          right = rw rest_is at answers.right;
+          logs = logs.logs;
+        },
+        course.course,
+      );
     }
 
 deliveries : (sheet : Sheet) (steps : List Step) → Onward sheet steps → Onward sheet (Deliveries ∷ steps)
@@ -132,7 +151,9 @@ deliveries sheet steps onward a logging lines final none plain passes =
     record {
       told = Drained (delivered entries ∷ []) n ∷ course.told;
       final = course.final;
-      text = text ∙ rw log_is (let tail : logs.rest ≡ drained_line n ∷ lines_told course.told = cc (rest_is, line_is, told_is) in ap (λ (x : List (List ℕ)). map entry_text entries ++ x) tail ∙ sym (append_assoc (map entry_text entries) (drained_line n ∷ []) (lines_told course.told)));
+      text = text ∙ rw log_is (let tail : logs.rest ≡ drained_line n ∷ lines_told course.told = cc
+          (rest_is, line_is, told_is) in ap (λ (x : List (List ℕ)). map entry_text entries ++ x) tail
+          ∙ sym (append_assoc (map entry_text entries) (drained_line n ∷ []) (lines_told course.told)));
       course = (logs.account, (entries, refl, t.passes.1, logs.logs), course.course);
     }
 
@@ -149,7 +170,9 @@ look sheet p run steps onward a logging lines final none plain passes = by t.pas
         let line_is = bytes.text in
         let told_is = course.text in
         record {
-          told = Shown bytes.stamp (shown_at sheet.script.shape (λ d n. space_behind sheet.script.shape (take n (changes_at a d))) p run bytes.stamp) ∷ course.told;
+          told = Shown bytes.stamp
+              (shown_at sheet.script.shape (λ d n. space_behind sheet.script.shape (take n (changes_at a d))) p run
+              bytes.stamp) ∷ course.told;
           final = course.final;
           text = cc (lines_are, line_is, told_is);
           course = (with_shown a, record { can = bytes.can; bytes_are = refl; next_is = refl }, course.course);
@@ -177,7 +200,8 @@ ended sheet a (line ∷ lines) final (next, first, passes) = by (begins_entry li
 placing : (sheet : Sheet) (steps : List Step) → steps ≡ [] → Onward sheet (Placing ∷ steps)
 placing sheet [] last a logging lines final none plain passes =
     let dues : List Due = dues_from a 0 sheet.script.shape.k in
-    let places = places_ahead sheet dues a [] logging lines final (plain-here sheet a Placing [] logging lines final (λ e. cc e) plain passes) (rw none refl) passes in
+    let places = places_ahead sheet dues a [] logging lines final
+    (plain-here sheet a Placing [] logging lines final (λ e. cc e) plain passes) (rw none refl) passes in
     let over = ended sheet places.account places.rest final places.passes in
     let all = all_lined sheet.script.shape a 0 sheet.script.shape.k places.places places.told in
     let runs : List (List (Option Run)) = runs_of a 0 sheet.script.shape.k in
@@ -208,8 +232,11 @@ tells-step sheet a (Make event) Lost next by = absurd by
 tells-step sheet a (Make event) Down next by = absurd by
 tells-step sheet a (Make event) (Placed runs) next by = absurd by
 tells-step sheet a Deliveries (Made turn) next by = absurd by
-tells-step sheet a Deliveries (Drained turns n) next (entries, same, fits, logs) =
-    (subst (λ (ts : List Turn). All (λ turn. IsDelivery turn.event) ts) (sym same) (All-cons (λ turn. IsDelivery turn.event) (delivered entries) [] tt (All-nil (λ turn. IsDelivery turn.event))), fits)
+tells-step sheet a Deliveries (Drained turns n) next (entries, same, fits, logs) = (
+  subst (λ (ts : List Turn). All (λ turn. IsDelivery turn.event) ts) (sym same)
+      (All-cons (λ turn. IsDelivery turn.event) (delivered entries) [] tt (All-nil (λ turn. IsDelivery turn.event))),
+  fits,
+)
 tells-step sheet a Deliveries (Shown stamp bytes) next by = absurd by
 tells-step sheet a Deliveries Lost next by = absurd by
 tells-step sheet a Deliveries Down next by = absurd by

@@ -1,5 +1,7 @@
 -- A turn that passes is answered within its time.
-use Rattle.std.proofs.Common.{◌≡◌, ◌≢◌, ◌<◌, ◌≤◌, ◌+◌, ◌^◌, ℕ, zero, suc, List, [], ◌∷◌, ◌++◌, ◌∙◌, map, take, length, slice_get, slice_index_or, Option, Some, None, option_and_then, append_assoc, refl, sym, ap, subst, arith}
+use Rattle.std.proofs.Common.{◌≡◌, ◌≢◌, ◌<◌, ◌≤◌, ◌+◌, ◌^◌, ℕ, zero, suc, List, [], ◌∷◌, ◌++◌, ◌∙◌, map, take, length}
+use Rattle.std.proofs.Common.{slice_get, slice_index_or, Option, Some, None, option_and_then, append_assoc, refl, sym}
+use Rattle.std.proofs.Common.{ap, subst, arith}
 use Rattle.std.proofs.lemmas.List.{append-nil, take_all}
 use Rattle.std.proofs.lemmas.Bool.Decides.{nat_tests}
 use Rattle.std.specs.Prelude.{Contains}
@@ -41,7 +43,9 @@ pub record LoggedSince (before : List Turn) (t : Turn) (name : CallName) (reply 
 -- a turn behind others is right
 pub record TurnRight (before : List Turn) (t : Turn) : Type 0 where
   pub asked : (e : Entry) → Contains t.logged e → (j : ℕ) × (ask : Turn) × IsAsk (before ++ t ∷ []) j ask (name_of e) e.op
-  pub at_once : (name : CallName) (op : Asked) (p : ProcessId) (reply : Reply) → t.event ≡ happens.Ask name.caller op p → asks_of name.caller before ≡ name.call → t.answer ≡ answered.Reply reply → Contains t.logged (entry_of name op reply)
+  pub at_once : (name : CallName) (op : Asked) (p : ProcessId) (reply : Reply) → t.event ≡ happens.Ask name.caller op p
+      → asks_of name.caller before ≡ name.call → t.answer ≡ answered.Reply reply
+      → Contains t.logged (entry_of name op reply)
   pub later : (name : CallName) (reply : Reply) → Fetches t.event name → t.answer ≡ answered.Reply reply → LoggedSince before t name reply
 
 -- the account says what it says of turns
@@ -52,27 +56,40 @@ pub log-push : (before : List Turn) (t : Turn) → log_of (before ++ t ∷ []) �
 log-push [] t = append-nil t.logged
 log-push (u ∷ before) t = ap (λ (es : List Entry). u.logged ++ es) (log-push before t) ∙ sym (append_assoc u.logged (log_of before) t.logged)
 
-stands-logs : (sheet : Sheet) (es : List Entry) (a b : Account) (hs : List Head) (log : List Entry) → LogsTo sheet a es b → Stands a hs log → Stands b hs (log ++ es)
+stands-logs : (sheet : Sheet) (es : List Entry) (a b : Account) (hs : List Head) (log : List Entry)
+    → LogsTo sheet a es b → Stands a hs log → Stands b hs (log ++ es)
 stands-logs sheet [] a b hs log same s = subst (λ (c : Account). Stands c hs (log ++ [])) same (rw (append-nil log) s)
 stands-logs sheet (e ∷ es) a b hs log (run, tells, logs) s =
-    subst (Stands b hs) (append_assoc log (e ∷ []) es) (stands-logs sheet es (after_entry sheet a e run) b hs (log ++ e ∷ []) logs (stands-entry sheet a hs log (entry_text e) e run s tells))
+    subst (Stands b hs) (append_assoc log (e ∷ []) es)
+    (stands-logs sheet es (after_entry sheet a e run) b hs (log ++ e ∷ []) logs
+    (stands-entry sheet a hs log (entry_text e) e run s tells))
 
 -- behind a turn the account says it of one turn more
 pub stands-turn : (sheet : Sheet) (a : Account) (event : Event) (answer : Answer) (es : List Entry) (next : Account) (before : List Turn)
-    → StandsFor a before → LogsTo sheet (after_answer a event answer) es next → StandsFor next (before ++ record { event = event; answer = answer; logged = es } ∷ [])
+    → StandsFor a before → LogsTo sheet (after_answer a event answer) es next
+    → StandsFor next (before ++ record { event = event; answer = answer; logged = es } ∷ [])
 stands-turn sheet a event answer es next before s logs =
     let t : Turn = record { event = event; answer = answer; logged = es } in
     let start : 0 + length (log_of before) ≡ length (log_of before) = omega arith in
     let heads = rw start at (heads-push 0 before t) in
-    let behind = stands-logs sheet es (after_answer a event answer) next (heads_of 0 before ++ record { event = event; answer = answer; start = length (log_of before) } ∷ []) (log_of before) logs (stands-event a (heads_of 0 before) (log_of before) event answer s) in
-    subst (λ (hs : List Head). Stands next hs (log_of (before ++ t ∷ []))) (sym heads) (subst (Stands next (heads_of 0 before ++ record { event = event; answer = answer; start = length (log_of before) } ∷ [])) (sym (log-push before t)) behind)
+    let behind = stands-logs sheet es (after_answer a event answer) next
+    (heads_of 0 before ++ record { event = event; answer = answer; start = length (log_of before) } ∷ [])
+    (log_of before) logs (stands-event a (heads_of 0 before) (log_of before) event answer s) in
+    subst (λ (hs : List Head). Stands next hs (log_of (before ++ t ∷ []))) (sym heads)
+    (subst (Stands next
+    (heads_of 0 before ++ record { event = event; answer = answer; start = length (log_of before) } ∷ []))
+    (sym (log-push before t)) behind)
 
 pub fits-logs : (sheet : Sheet) (es : List Entry) (a b : Account) → LogsTo sheet a es b → AllFit es
 fits-logs sheet [] a b logs = tt
-fits-logs sheet (e ∷ es) a b (run, tells, logs) = (record { caller = tells.named.0; call = tells.named.1; reply = tells.fits }, fits-logs sheet es (after_entry sheet a e run) b logs)
+fits-logs sheet (e ∷ es) a b (run, tells, logs) = (
+  record { caller = tells.named.0; call = tells.named.1; reply = tells.fits },
+  fits-logs sheet es (after_entry sheet a e run) b logs,
+)
 
 -- a reply that was logged stays
-kept-logs : (sheet : Sheet) (es : List Entry) (a b : Account) (name : CallName) (call : Call) (reply : Reply) → LogsTo sheet a es b → call_of a name ≡ Some call → call.reply ≡ Some reply → call_of b name ≡ Some call
+kept-logs : (sheet : Sheet) (es : List Entry) (a b : Account) (name : CallName) (call : Call) (reply : Reply)
+    → LogsTo sheet a es b → call_of a name ≡ Some call → call.reply ≡ Some reply → call_of b name ≡ Some call
 kept-logs sheet [] a b name call reply same is replied = subst (λ (c : Account). call_of c name ≡ Some call) same is
 kept-logs sheet (e ∷ es) a b name call reply (run, tells, logs) is replied =
     kept-logs sheet es (after_entry sheet a e run) b name call reply logs (entry-other sheet a e run name other ∙ is) replied
@@ -110,7 +127,9 @@ among-call b before t name reply s among =
     )
 
 -- a call that was logged with a reply is logged since its ask
-since-call : (b : Account) (before : List Turn) (t : Turn) (name : CallName) (call : Call) (reply : Reply) → StandsFor b (before ++ t ∷ []) → call_of b name ≡ Some call → call.reply ≡ Some reply → LoggedSince before t name reply
+since-call : (b : Account) (before : List Turn) (t : Turn) (name : CallName) (call : Call) (reply : Reply)
+    → StandsFor b (before ++ t ∷ []) → call_of b name ≡ Some call → call.reply ≡ Some reply
+    → LoggedSince before t name reply
 since-call b before t name call reply s is replied =
     let by = s.asked name call is in
     let ask = head-ask (before ++ t ∷ []) by.j by.head name call.op by.ask in
@@ -141,8 +160,10 @@ pub record Replied (b : Account) (name : CallName) (reply : Reply) : Type 0 wher
   pub is : call_of b name ≡ Some call
   pub replied : call.reply ≡ Some reply
 
-there-call : (sheet : Sheet) (a b : Account) (before : List Turn) (t : Turn) (name : CallName) (reply : Reply) (rest : List (List ℕ)) → LogsTo sheet a t.logged b → StandsFor b (before ++ t ∷ [])
-    → name.caller < callers → name.call < 2 ^ 64 → FitsReply reply → NoEntry rest → IsThere (logged_reply a name) name reply (map entry_text t.logged ++ rest) → Replied b name reply
+there-call : (sheet : Sheet) (a b : Account) (before : List Turn) (t : Turn) (name : CallName) (reply : Reply)
+    (rest : List (List ℕ)) → LogsTo sheet a t.logged b → StandsFor b (before ++ t ∷ [])
+    → name.caller < callers → name.call < 2 ^ 64 → FitsReply reply → NoEntry rest
+    → IsThere (logged_reply a name) name reply (map entry_text t.logged ++ rest) → Replied b name reply
 there-call sheet a b before t name reply rest logs s fc fn fr plain there = by (call_of a name) refl there
   where
     ahead : IsThere None name reply (map entry_text t.logged ++ rest) → Replied b name reply
@@ -151,15 +172,24 @@ there-call sheet a b before t name reply rest logs s fc fn fr plain there = by (
         let all = among-call b before t name reply s among in
         record { call = call_with all.0 (Some reply); is = all.4; replied = refl }
 
-    replied : (call : Call) → call_of a name ≡ Some call → (r : Option Reply) → call.reply ≡ r → IsThere r name reply (map entry_text t.logged ++ rest) → Replied b name reply
-    replied call is (Some logged) has same = record { call = call; is = kept-logs sheet t.logged a b name call logged logs is has; replied = has ∙ ap (λ (r : Reply). Some r) same }
+    replied : (call : Call) → call_of a name ≡ Some call → (r : Option Reply) → call.reply ≡ r
+        → IsThere r name reply (map entry_text t.logged ++ rest) → Replied b name reply
+    replied call is (Some logged) has same =
+        record {
+          call = call;
+          is = kept-logs sheet t.logged a b name call logged logs is has;
+          replied = has
+              ∙ ap (λ (r : Reply). Some r) same;
+        }
     replied call is None has found = ahead found
 
-    by : (o : Option Call) → call_of a name ≡ o → IsThere (option_and_then (λ call. call.reply) o) name reply (map entry_text t.logged ++ rest) → Replied b name reply
+    by : (o : Option Call) → call_of a name ≡ o → IsThere (option_and_then (λ call. call.reply) o) name reply
+        (map entry_text t.logged ++ rest) → Replied b name reply
     by (Some call) is there' = replied call is call.reply refl there'
     by None is found = ahead found
 
-pub turn-right : (sheet : Sheet) (a : Account) (t : Turn) (next : Account) (before : List Turn) → FitsEvent t.event → length before < 2 ^ 64 → StandsFor a before → MadeBy sheet a t.event t next → TurnRight before t
+pub turn-right : (sheet : Sheet) (a : Account) (t : Turn) (next : Account) (before : List Turn) → FitsEvent t.event
+    → length before < 2 ^ 64 → StandsFor a before → MadeBy sheet a t.event t next → TurnRight before t
 turn-right sheet a t next before fits few s by = record {
   asked = λ e within.
       let at = get-contains t.logged e within in
@@ -170,14 +200,20 @@ turn-right sheet a t next before fits few s by = record {
       (asked.j, ask.0, ask.1);
   at_once = λ name op p reply event_is place answer_is.
       let right : IsRight a (happens.Ask name.caller op p) (answered.Reply reply) (map entry_text t.logged ++ by.rest) =
-      subst (λ (x : Answer). IsRight a (happens.Ask name.caller op p) x (map entry_text t.logged ++ by.rest)) answer_is (subst (λ (x : Event). IsRight a x t.answer (map entry_text t.logged ++ by.rest)) event_is by.right) in
+      subst (λ (x : Answer). IsRight a (happens.Ask name.caller op p) x (map entry_text t.logged ++ by.rest)) answer_is
+      (subst (λ (x : Event). IsRight a x t.answer (map entry_text t.logged ++ by.rest)) event_is by.right) in
       let many : length (at [] a.calls name.caller) ≡ name.call = s.many name.caller ∙ asks-heads name.caller 0 before ∙ place in
-      let next_is : next_name a name.caller ≡ name = (let eq : record { caller = name.caller; call = length (at [] a.calls name.caller) } ≡ record { caller = name.caller; call = name.call } = cc many in eq) in
+      let next_is : next_name a name.caller ≡ name =
+      (let eq : record { caller = name.caller; call = length (at [] a.calls name.caller) }
+      ≡ record { caller = name.caller; call = name.call } = cc many in eq) in
       let found = subst (λ (n : CallName). LogsAhead (front_of n) (reply_text reply) (map entry_text t.logged ++ by.rest)) next_is right in
       let below = asks-le name.caller before in
-      let among = ahead_is t.logged by.rest name reply (fits-logs sheet t.logged (after_answer a t.event t.answer) next by.logs) (subst FitsEvent event_is fits) (omega (arith, few, place, below)) (subst FitsAnswer answer_is by.fits) by.plain found in
+      let among = ahead_is t.logged by.rest name reply (fits-logs sheet t.logged (after_answer a t.event t.answer) next
+      by.logs) (subst FitsEvent event_is fits) (omega (arith, few, place, below)) (subst FitsAnswer answer_is by.fits)
+      by.plain found in
       let all = among-call next before t name reply stands among in
-      let last : take (length before) (before ++ t ∷ []) ≡ before = take-push before t (length before) (omega arith) ∙ take_all (length before) before (omega arith) in
+      let last : take (length before) (before ++ t ∷ []) ≡ before = take-push before t (length before) (omega arith)
+      ∙ take_all (length before) before (omega arith) in
       let ask : IsAsk (before ++ t ∷ []) (length before) t name op = record { there = get-last before t; at = p; event = event_is; place = rw last place } in
       let head = ask-head (before ++ t ∷ []) (length before) t name op ask in
       let called = stands.called (length before) head.0 name op head.1 in
@@ -197,25 +233,35 @@ turn-right sheet a t next before fits few s by = record {
         let eq : record { caller = e.caller; call = e.call; op = e.op; reply = e.reply } ≡ entry_of name op reply = cc (caller, call, o, r) in
         eq
 
-    answer-right : (event : Event) (reply : Reply) → t.event ≡ event → t.answer ≡ answered.Reply reply → IsReplyTo a event reply (map entry_text t.logged ++ by.rest)
+    answer-right : (event : Event) (reply : Reply) → t.event ≡ event → t.answer ≡ answered.Reply reply
+        → IsReplyTo a event reply (map entry_text t.logged ++ by.rest)
     answer-right event reply event_is answer_is =
-        subst (λ (x : Answer). IsRight a event x (map entry_text t.logged ++ by.rest)) answer_is (subst (λ (x : Event). IsRight a x t.answer (map entry_text t.logged ++ by.rest)) event_is by.right)
+        subst (λ (x : Answer). IsRight a event x (map entry_text t.logged ++ by.rest)) answer_is
+        (subst (λ (x : Event). IsRight a x t.answer (map entry_text t.logged ++ by.rest)) event_is by.right)
 
-    there : (name : CallName) (reply : Reply) → after_answer a t.event t.answer ≡ a → t.answer ≡ answered.Reply reply → name.caller < callers → name.call < 2 ^ 64
+    there : (name : CallName) (reply : Reply) → after_answer a t.event t.answer ≡ a → t.answer ≡ answered.Reply reply
+        → name.caller < callers → name.call < 2 ^ 64
         → IsThere (logged_reply a name) name reply (map entry_text t.logged ++ by.rest) → LoggedSince before t name reply
     there name reply same answer_is fc fn found =
-        let r = there-call sheet a next before t name reply by.rest (subst (λ (x : Account). LogsTo sheet x t.logged next) same by.logs) stands fc fn (subst FitsAnswer answer_is by.fits) by.plain found in
+        let r = there-call sheet a next before t name reply by.rest
+        (subst (λ (x : Account). LogsTo sheet x t.logged next) same by.logs) stands fc fn
+        (subst FitsAnswer answer_is by.fits) by.plain found in
         since-call next before t name r.call reply stands r.is r.replied
 
-    later : (name : CallName) (reply : Reply) (event : Event) → t.event ≡ event → Fetches event name → t.answer ≡ answered.Reply reply → LoggedSince before t name reply
+    later : (name : CallName) (reply : Reply) (event : Event) → t.event ≡ event → Fetches event name
+        → t.answer ≡ answered.Reply reply → LoggedSince before t name reply
     later name reply (happens.Collect caller call p) is (c, k) answer_is =
         let same : record { caller = caller; call = call } ≡ record { caller = name.caller; call = name.call } = cc (c, k) in
         let f = subst FitsEvent is fits in
-        subst (λ (n : CallName). LoggedSince before t n reply) same (there (record { caller = caller; call = call }) reply (ap (λ (e : Event). after_answer a e t.answer) is) answer_is f.0 f.1 (answer-right (happens.Collect caller call p) reply is answer_is))
+        subst (λ (n : CallName). LoggedSince before t n reply) same
+        (there (record { caller = caller; call = call }) reply (ap (λ (e : Event). after_answer a e t.answer) is)
+        answer_is f.0 f.1 (answer-right (happens.Collect caller call p) reply is answer_is))
     later name reply (happens.Trace caller call d p) is (c, k) answer_is =
         let same : record { caller = caller; call = call } ≡ record { caller = name.caller; call = name.call } = cc (c, k) in
         let f = subst FitsEvent is fits in
-        subst (λ (n : CallName). LoggedSince before t n reply) same (there (record { caller = caller; call = call }) reply (ap (λ (e : Event). after_answer a e t.answer) is) answer_is f.0 f.1 (answer-right (happens.Trace caller call d p) reply is answer_is))
+        subst (λ (n : CallName). LoggedSince before t n reply) same
+        (there (record { caller = caller; call = call }) reply (ap (λ (e : Event). after_answer a e t.answer) is)
+        answer_is f.0 f.1 (answer-right (happens.Trace caller call d p) reply is answer_is))
     later name reply (happens.Ask caller op p) is fetches answer_is = absurd fetches
     later name reply (happens.Deliver from to) is fetches answer_is = absurd fetches
     later name reply (happens.Fail p keep) is fetches answer_is = absurd fetches

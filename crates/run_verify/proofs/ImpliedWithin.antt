@@ -1,5 +1,6 @@
 -- A course of steps is legal, and answered within its time.
-use Rattle.std.proofs.Common.{◌≡◌, inl, inr, ◌<◌, ◌≤◌, ◌+◌, ◌^◌, ℕ, zero, suc, false, List, [], ◌∷◌, ◌++◌, ◌∙◌, take, length, slice_get, Some, append_assoc, refl, sym, ap, subst, arith}
+use Rattle.std.proofs.Common.{◌≡◌, inl, inr, ◌<◌, ◌≤◌, ◌+◌, ◌^◌, ℕ, zero, suc, false, List, [], ◌∷◌, ◌++◌, ◌∙◌, take}
+use Rattle.std.proofs.Common.{length, slice_get, Some, append_assoc, refl, sym, ap, subst, arith}
 use Rattle.std.proofs.lemmas.List.{append-nil, length-append}
 use Rattle.memc_table.specs.Asked.{Asked}
 use Rattle.memc_table.specs.Contents.{Contents}
@@ -41,13 +42,15 @@ table-answer a (happens.Fail p keep) answer = refl
 table-answer a (happens.Flush p) answer = refl
 table-answer a (happens.Trace caller call d p) answer = refl
 
-pub legal-course : (sheet : Sheet) (a : Account) (steps : List Step) (told : List Told) (final : Account) → Course sheet a steps told final → IsLegalFrom a.table (log_of (turns_told told))
+pub legal-course : (sheet : Sheet) (a : Account) (steps : List Step) (told : List Told) (final : Account)
+    → Course sheet a steps told final → IsLegalFrom a.table (log_of (turns_told told))
 legal-course sheet a [] [] final course = tt
 legal-course sheet a [] (told ∷ more) final course = absurd course
 legal-course sheet a (step ∷ steps) [] final course = absurd course
 legal-course sheet a (Make event ∷ steps) (Made t ∷ more) final (next, by, course) =
     let onward = legal-course sheet next steps more final course in
-    subst (λ (c : Contents). IsLegalFrom c (t.logged ++ log_of (turns_told more))) (table-answer a event t.answer) (legal-logs sheet t.logged (log_of (turns_told more)) (after_answer a event t.answer) next by.logs onward)
+    subst (λ (c : Contents). IsLegalFrom c (t.logged ++ log_of (turns_told more))) (table-answer a event t.answer)
+    (legal-logs sheet t.logged (log_of (turns_told more)) (after_answer a event t.answer) next by.logs onward)
 legal-course sheet a (Make event ∷ steps) (Drained turns n ∷ more) final (next, by, course) = absurd by
 legal-course sheet a (Make event ∷ steps) (Shown stamp bytes ∷ more) final (next, by, course) = absurd by
 legal-course sheet a (Make event ∷ steps) (Lost ∷ more) final (next, by, course) = absurd by
@@ -56,23 +59,32 @@ legal-course sheet a (Make event ∷ steps) (Placed runs ∷ more) final (next, 
 legal-course sheet a (Deliveries ∷ steps) (Made t ∷ more) final (next, by, course) = absurd by
 legal-course sheet a (Deliveries ∷ steps) (Drained turns n ∷ more) final (next, (entries, same, fits, logs), course) =
     let onward = legal-course sheet next steps more final course in
-    subst (λ (ts : List Turn). IsLegalFrom a.table (log_of (ts ++ turns_told more))) (sym same) (legal-logs sheet entries (log_of (turns_told more)) a next logs onward)
+    subst (λ (ts : List Turn). IsLegalFrom a.table (log_of (ts ++ turns_told more))) (sym same)
+    (legal-logs sheet entries (log_of (turns_told more)) a next logs onward)
 legal-course sheet a (Deliveries ∷ steps) (Shown stamp bytes ∷ more) final (next, by, course) = absurd by
 legal-course sheet a (Deliveries ∷ steps) (Lost ∷ more) final (next, by, course) = absurd by
 legal-course sheet a (Deliveries ∷ steps) (Down ∷ more) final (next, by, course) = absurd by
 legal-course sheet a (Deliveries ∷ steps) (Placed runs ∷ more) final (next, by, course) = absurd by
 legal-course sheet a (Look p run ∷ steps) (Made t ∷ more) final (next, by, course) = absurd by
 legal-course sheet a (Look p run ∷ steps) (Drained turns n ∷ more) final (next, by, course) = absurd by
-legal-course sheet a (Look p run ∷ steps) (Shown stamp bytes ∷ more) final (next, by, course) = subst (λ (c : Account). IsLegalFrom c.table (log_of (turns_told more))) by.next_is (legal-course sheet next steps more final course)
-legal-course sheet a (Look p run ∷ steps) (Lost ∷ more) final (next, by, course) = subst (λ (c : Account). IsLegalFrom c.table (log_of (turns_told more))) by (legal-course sheet next steps more final course)
-legal-course sheet a (Look p run ∷ steps) (Down ∷ more) final (next, by, course) = subst (λ (c : Account). IsLegalFrom c.table (log_of (turns_told more))) by (legal-course sheet next steps more final course)
+legal-course sheet a (Look p run ∷ steps) (Shown stamp bytes ∷ more) final (next, by, course) =
+    subst (λ (c : Account). IsLegalFrom c.table (log_of (turns_told more))) by.next_is
+    (legal-course sheet next steps more final course)
+legal-course sheet a (Look p run ∷ steps) (Lost ∷ more) final (next, by, course) =
+    subst (λ (c : Account). IsLegalFrom c.table (log_of (turns_told more))) by
+    (legal-course sheet next steps more final course)
+legal-course sheet a (Look p run ∷ steps) (Down ∷ more) final (next, by, course) =
+    subst (λ (c : Account). IsLegalFrom c.table (log_of (turns_told more))) by
+    (legal-course sheet next steps more final course)
 legal-course sheet a (Look p run ∷ steps) (Placed runs ∷ more) final (next, by, course) = absurd by
 legal-course sheet a (Placing ∷ steps) (Made t ∷ more) final (next, by, course) = absurd by
 legal-course sheet a (Placing ∷ steps) (Drained turns n ∷ more) final (next, by, course) = absurd by
 legal-course sheet a (Placing ∷ steps) (Shown stamp bytes ∷ more) final (next, by, course) = absurd by
 legal-course sheet a (Placing ∷ steps) (Lost ∷ more) final (next, by, course) = absurd by
 legal-course sheet a (Placing ∷ steps) (Down ∷ more) final (next, by, course) = absurd by
-legal-course sheet a (Placing ∷ steps) (Placed runs ∷ more) final (next, by, course) = subst (λ (c : Account). IsLegalFrom c.table (log_of (turns_told more))) by.next_is (legal-course sheet next steps more final course)
+legal-course sheet a (Placing ∷ steps) (Placed runs ∷ more) final (next, by, course) =
+    subst (λ (c : Account). IsLegalFrom c.table (log_of (turns_told more))) by.next_is
+    (legal-course sheet next steps more final course)
 
 -- ---- every turn is right
 
@@ -87,7 +99,11 @@ pub record AllRight (before turns : List Turn) : Type 0 where
   pub stands : StandsFor account (before ++ turns)
 
 one-right : (before : List Turn) (t : Turn) (ts : List Turn) → TurnRight before t → AllRight (before ++ t ∷ []) ts → AllRight before (t ∷ ts)
-one-right before t ts right rest = record { each = (right, rest.each); account = rest.account; stands = subst (StandsFor rest.account) (append_assoc before (t ∷ []) ts) rest.stands }
+one-right before t ts right rest = record {
+  each = (right, rest.each);
+  account = rest.account;
+  stands = subst (StandsFor rest.account) (append_assoc before (t ∷ []) ts) rest.stands;
+}
 
 few-more : (before : List Turn) (t : Turn) (n : ℕ) → length before + suc n < 2 ^ 64 → length (before ++ t ∷ []) + n < 2 ^ 64
 few-more before t n few = omega (arith, few, length-append before (t ∷ []))
@@ -95,15 +111,19 @@ few-more before t n few = omega (arith, few, length-append before (t ∷ []))
 fewer : (before : List Turn) (n : ℕ) → length before + suc n < 2 ^ 64 → length before + n < 2 ^ 64
 fewer before n few = omega (arith, few)
 
-pub right-course : (sheet : Sheet) (a : Account) (steps : List Step) (told : List Told) (final : Account) (before : List Turn) → FitSteps sheet.script.shape steps → length before + length steps < 2 ^ 64
+pub right-course : (sheet : Sheet) (a : Account) (steps : List Step) (told : List Told) (final : Account)
+    (before : List Turn) → FitSteps sheet.script.shape steps → length before + length steps < 2 ^ 64
     → StandsFor a before → Course sheet a steps told final → AllRight before (turns_told told)
 right-course sheet a [] [] final before fits few s course = record { each = tt; account = a; stands = rw (append-nil before) s }
 right-course sheet a [] (told ∷ more) final before fits few s course = absurd course
 right-course sheet a (step ∷ steps) [] final before fits few s course = absurd course
 right-course sheet a (Make event ∷ steps) (Made t ∷ more) final before (fit, fits) few s (next, by, course) =
     let mine : MadeBy sheet a t.event t next = subst (λ (e : Event). MadeBy sheet a e t next) (sym by.event_is) by in
-    one-right before t (turns_told more) (turn-right sheet a t next before (subst (λ (e : Event). FitsEvent e) (sym by.event_is) fit) (omega (arith, few)) s mine)
-    (right-course sheet next steps more final (before ++ t ∷ []) fits (few-more before t (length steps) few) (stands-turn sheet a t.event t.answer t.logged next before s mine.logs) course)
+    one-right before t (turns_told more)
+    (turn-right sheet a t next before (subst (λ (e : Event). FitsEvent e) (sym by.event_is) fit)
+    (omega (arith, few)) s mine)
+    (right-course sheet next steps more final (before ++ t ∷ []) fits (few-more before t (length steps) few)
+    (stands-turn sheet a t.event t.answer t.logged next before s mine.logs) course)
 right-course sheet a (Make event ∷ steps) (Drained turns n ∷ more) final before fits few s (next, by, course) = absurd by
 right-course sheet a (Make event ∷ steps) (Shown stamp bytes ∷ more) final before fits few s (next, by, course) = absurd by
 right-course sheet a (Make event ∷ steps) (Lost ∷ more) final before fits few s (next, by, course) = absurd by
@@ -115,7 +135,8 @@ right-course sheet a (Deliveries ∷ steps) (Drained turns n ∷ more) final bef
     let mine : MadeBy sheet a t.event t next = record { event_is = refl; can = refl; fits = tt; rest = []; plain = tt; right = tt; logs = logs } in
     subst (λ (ts : List Turn). AllRight before (ts ++ turns_told more)) (sym same)
     (one-right before t (turns_told more) (turn-right sheet a t next before tt (omega (arith, few)) s mine)
-    (right-course sheet next steps more final (before ++ t ∷ []) fits (few-more before t (length steps) few) (stands-turn sheet a t.event t.answer t.logged next before s mine.logs) course))
+    (right-course sheet next steps more final (before ++ t ∷ []) fits (few-more before t (length steps) few)
+    (stands-turn sheet a t.event t.answer t.logged next before s mine.logs) course))
 right-course sheet a (Deliveries ∷ steps) (Shown stamp bytes ∷ more) final before fits few s (next, by, course) = absurd by
 right-course sheet a (Deliveries ∷ steps) (Lost ∷ more) final before fits few s (next, by, course) = absurd by
 right-course sheet a (Deliveries ∷ steps) (Down ∷ more) final before fits few s (next, by, course) = absurd by
@@ -126,7 +147,17 @@ right-course sheet a (Look p run ∷ steps) (Shown stamp bytes ∷ more) final b
     right-course sheet next steps more final before fits (fewer before (length steps) few) (shown-stands a next before by.next_is s) course
   where
     shown-stands : (a next : Account) (before : List Turn) → next ≡ with_shown a → StandsFor a before → StandsFor next before
-    shown-stands a next before same s = subst (λ (c : Account). StandsFor c before) (sym same) (record { many = s.many; starts = s.starts; asked = s.asked; called = λ j h name op ask. let c = s.called j h name op ask in record { call = c.call; is = c.is; op_is = c.op_is; taken = c.taken }; logged = s.logged; once = s.once })
+    shown-stands a next before same s = subst (λ (c : Account). StandsFor c before) (sym same)
+        (record {
+          many = s.many;
+          starts = s.starts;
+          asked = s.asked;
+          called = λ j h name op ask. let c = s.called j h
+              name op ask in record { call = c.call; is = c.is; op_is = c.op_is; taken = c.taken };
+          logged = s.logged;
+          once =
+              s.once;
+        })
 right-course sheet a (Look p run ∷ steps) (Lost ∷ more) final before (fit, fits) few s (next, by, course) =
     right-course sheet next steps more final before fits (fewer before (length steps) few) (subst (λ (c : Account). StandsFor c before) (sym by) s) course
 right-course sheet a (Look p run ∷ steps) (Down ∷ more) final before (fit, fits) few s (next, by, course) =
@@ -138,14 +169,16 @@ right-course sheet a (Placing ∷ steps) (Shown stamp bytes ∷ more) final befo
 right-course sheet a (Placing ∷ steps) (Lost ∷ more) final before fits few s (next, by, course) = absurd by
 right-course sheet a (Placing ∷ steps) (Down ∷ more) final before fits few s (next, by, course) = absurd by
 right-course sheet a (Placing ∷ steps) (Placed runs ∷ more) final before (fit, fits) few s (next, by, course) =
-    right-course sheet next steps more final before fits (fewer before (length steps) few) (subst (λ (c : Account). StandsFor c before) (sym by.next_is) s) course
+    right-course sheet next steps more final before fits (fewer before (length steps) few)
+    (subst (λ (c : Account). StandsFor c before) (sym by.next_is) s) course
 
 -- ---- within their time
 
 at-turn : (before turns : List Turn) (i : ℕ) (t : Turn) → EachRight before turns → slice_get turns i ≡ Some t → TurnRight (before ++ take i turns) t
 at-turn before [] i t each is = cc is
 at-turn before (u ∷ turns) zero t each is = let same : u ≡ t = cc is in subst (TurnRight (before ++ [])) same (rw (append-nil before) each.0)
-at-turn before (u ∷ turns) (suc i) t each is = subst (λ (b : List Turn). TurnRight b t) (append_assoc before (u ∷ []) (take i turns)) (at-turn (before ++ u ∷ []) turns i t each.1 is)
+at-turn before (u ∷ turns) (suc i) t each is = subst (λ (b : List Turn). TurnRight b t)
+    (append_assoc before (u ∷ []) (take i turns)) (at-turn (before ++ u ∷ []) turns i t each.1 is)
 
 take-next : {A : Type 0} (xs : List A) (i : ℕ) (x : A) → slice_get xs i ≡ Some x → take (suc i) xs ≡ take i xs ++ x ∷ []
 take-next [] i x is = cc is
@@ -174,8 +207,15 @@ ask-take : (turns : List Turn) (n j : ℕ) (t : Turn) (name : CallName) (op : As
 ask-take turns n j t name op ask =
     let within = get-within (take n turns) j t ask.there in
     let below = length-take-le turns n in
-    let small : j < n = omega (arith, within, below) in
-    (small, record { there = get-take turns n j t ask.there; at = ask.at; event = ask.event; place = ap (asks_of name.caller) (sym (take-take turns n j (omega (arith, small)))) ∙ ask.place })
+    let small : j < n = omega (arith, within, below) in (
+      small,
+      record {
+        there = get-take turns n j t ask.there;
+        at = ask.at;
+        event = ask.event;
+        place = ap (asks_of name.caller) (sym (take-take turns n j (omega (arith, small)))) ∙ ask.place;
+      },
+    )
 
 not-taken : (answer : Answer) → ¬ (IsTaken answer) → is_taken answer ≡ false
 not-taken (answered.Reply reply) never = absurd (never (inl (reply, refl)))
@@ -198,14 +238,17 @@ replies-within turns all = record {
   once = s.once;
   asked = λ i t e there within.
       let asked = (at-turn [] turns i t all.each there).asked e within in
-      let lifted = ask-take turns (suc i) asked.0 asked.1 (name_of e) e.op (subst (λ (ts : List Turn). IsAsk ts asked.0 asked.1 (name_of e) e.op) (sym (take-next turns i t there)) asked.2) in
+      let lifted = ask-take turns (suc i) asked.0 asked.1 (name_of e) e.op
+      (subst (λ (ts : List Turn). IsAsk ts asked.0 asked.1 (name_of e) e.op) (sym (take-next turns i t there))
+      asked.2) in
       let small = lifted.0 in
       (asked.0, asked.1, omega (arith, small), lifted.1);
   at_once = λ i t name op reply ask answer_is. (at-turn [] turns i t all.each ask.there).at_once name op ask.at reply ask.event ask.place answer_is;
   later = λ i t name reply there fetches answer_is.
       let since = (at-turn [] turns i t all.each there).later name reply fetches answer_is in
       let next = take-next turns i t there in
-      let lifted = ask-take turns (suc i) since.j since.ask name since.op (subst (λ (ts : List Turn). IsAsk ts since.j since.ask name since.op) (sym next) since.asked) in
+      let lifted = ask-take turns (suc i) since.j since.ask name since.op
+      (subst (λ (ts : List Turn). IsAsk ts since.j since.ask name since.op) (sym next) since.asked) in
       let small = lifted.0 in
       let one : i + 1 ≡ suc i = omega arith in
       record {
@@ -215,7 +258,9 @@ replies-within turns all = record {
         asked = lifted.1;
         place = since.place;
         entry = rw (one, next) since.entry;
-        since = subst (λ (ts : List Turn). length (log_of ts) ≤ since.place) (take-take turns (suc i) since.j (omega (arith, small))) (subst (λ (ts : List Turn). length (log_of (take since.j ts)) ≤ since.place) (sym next) since.since);
+        since = subst (λ (ts : List Turn). length (log_of ts) ≤ since.place)
+            (take-take turns (suc i) since.j (omega (arith, small)))
+            (subst (λ (ts : List Turn). length (log_of (take since.j ts)) ≤ since.place) (sym next) since.since);
       };
   refused = λ i t name op e ask never within same.
       let head = ask-head turns i t name op ask in

@@ -1,5 +1,6 @@
 -- What holds of the lines behind a line holds of all.
-use Rattle.std.proofs.Common.{◌≡◌, ◌≢◌, ◌⊎◌, inl, inr, ◌≤◌, ◌+◌, ◌==◌, ℕ, zero, suc, Bool, true, false, List, [], ◌∷◌, Some, None, length, refl, sym, subst, arith}
+use Rattle.std.proofs.Common.{◌≡◌, ◌≢◌, ◌⊎◌, inl, inr, ◌≤◌, ◌+◌, ◌==◌, ℕ, zero, suc, Bool, true, false, List, [], ◌∷◌}
+use Rattle.std.proofs.Common.{Some, None, length, refl, sym, subst, arith}
 use Rattle.std.proofs.lemmas.List.Elements.{All-tail}
 use Rattle.std.proofs.lemmas.List.Splits.{length-slice_split}
 use Rattle.std.proofs.lemmas.List.Sums.{count_by-le-length}
@@ -29,13 +30,16 @@ Goes p = (p ≢ found.Places) × (p ≢ found.Fails)
 -- what holds where a line passes
 module _ (sheet : Sheet) (s : State) (line : List ℕ) (ahead : List (List ℕ)) (next : State) where
   -- what is judged of the lines behind it is judged of all
-  pub judged_on : PassesBy (begins_entry line) sheet s line ahead next → (done : ℕ) (v : Verdict) → IsJudgedBehind (done + 1) sheet next ahead v → IsJudgedBehind done sheet s (line ∷ ahead) v
+  pub judged_on : PassesBy (begins_entry line) sheet s line ahead next → (done : ℕ) (v : Verdict)
+      → IsJudgedBehind (done + 1) sheet next ahead v → IsJudgedBehind done sheet s (line ∷ ahead) v
   judged_on first done (Verified many shows) (b, pass, entries, shown) = (b, (next, first, pass), entries, shown)
   judged_on first done (Refused n) (zero, is, fails) = absurd fails
   judged_on first done (Refused n) (suc m, is, fails) = (suc (suc m), omega (arith, is), (next, first, fails))
 
 -- the first line fails
-pub judged_fails : (sheet : Sheet) (s : State) (line : List ℕ) (ahead : List (List ℕ)) (done : ℕ) → ((next : State) → ¬ (PassesBy (begins_entry line) sheet s line ahead next)) → IsJudgedBehind done sheet s (line ∷ ahead) (Refused (done + 1))
+pub judged_fails : (sheet : Sheet) (s : State) (line : List ℕ) (ahead : List (List ℕ)) (done : ℕ)
+    → ((next : State) → ¬ (PassesBy (begins_entry line) sheet s line ahead next))
+    → IsJudgedBehind done sheet s (line ∷ ahead) (Refused (done + 1))
 judged_fails sheet s line ahead done none = (1, refl, none)
 
 some-steps : (steps : List Step) → EndsPlacing steps → steps ≢ []
@@ -43,8 +47,11 @@ some-steps [] ends none = absurd ends
 some-steps (step ∷ steps) ends none = cc none
 
 -- the first line is lacking
-pub judged_lacks : (sheet : Sheet) (a : Account) (steps : List Step) (logging : Bool) (lines : List (List ℕ)) (done : ℕ) → EndsPlacing steps → lines ≡ [] → IsJudgedBehind done sheet (state_of a steps logging) lines (Refused (done + 1))
-judged_lacks sheet a steps logging lines done ends none = subst (λ (ls : List (List ℕ)). IsJudgedBehind done sheet (state_of a steps logging) ls (Refused (done + 1))) (sym none) (1, refl, some-steps steps ends)
+pub judged_lacks : (sheet : Sheet) (a : Account) (steps : List Step) (logging : Bool) (lines : List (List ℕ)) (done : ℕ)
+    → EndsPlacing steps → lines ≡ [] → IsJudgedBehind done sheet (state_of a steps logging) lines (Refused (done + 1))
+judged_lacks sheet a steps logging lines done ends none =
+    subst (λ (ls : List (List ℕ)). IsJudgedBehind done sheet (state_of a steps logging) ls (Refused (done + 1)))
+    (sym none) (1, refl, some-steps steps ends)
 
 ends-behind : (step : Step) (steps : List Step) → step ≢ Placing → EndsPlacing (step ∷ steps) → EndsPlacing steps
 ends-behind (Make event) steps other ends = ends
@@ -53,7 +60,8 @@ ends-behind (Look p run) steps other ends = ends
 ends-behind Placing steps other ends = absurd (other refl)
 
 -- a line passed that isn't for the places
-module _ (is_log : Bool) (sheet : Sheet) (a : Account) (step : Step) (steps : List Step) (logging : Bool) (line : List ℕ) (ahead : List (List ℕ)) (now : Account) where
+module _ (is_log : Bool) (sheet : Sheet) (a : Account) (step : Step) (steps : List Step) (logging : Bool)
+    (line : List ℕ) (ahead : List (List ℕ)) (now : Account) where
   pub goes_passes : (p : Found) → Goes p → HasFoundBy is_log sheet a step steps logging line ahead now p
       → PassesBy is_log sheet (state_of a (step ∷ steps) logging) line ahead (state_of now (turn_by p (step ∷ steps) steps) (logging_by p logging))
   goes_passes found.Entry goes is = is.1
@@ -69,7 +77,8 @@ module _ (is_log : Bool) (sheet : Sheet) (a : Account) (step : Step) (steps : Li
   which found.Places goes is = absurd (goes.0 refl)
   which found.Fails goes is = absurd (goes.1 refl)
 
-  pub goes_ends : (p : Found) → Goes p → HasFoundBy is_log sheet a step steps logging line ahead now p → EndsPlacing (step ∷ steps) → EndsPlacing (turn_by p (step ∷ steps) steps)
+  pub goes_ends : (p : Found) → Goes p → HasFoundBy is_log sheet a step steps logging line ahead now p
+      → EndsPlacing (step ∷ steps) → EndsPlacing (turn_by p (step ∷ steps) steps)
   goes_ends found.Entry goes is ends = ends
   goes_ends found.Answer goes is ends = ends-behind step steps is.0 ends
   goes_ends found.Over goes is ends = ends-behind step steps is.0 ends
@@ -83,9 +92,11 @@ module _ (is_log : Bool) (sheet : Sheet) (a : Account) (step : Step) (steps : Li
   goes_fit s found.Places all = all
   goes_fit s found.Fails all = all
 
-  pub goes_within : (n : ℕ) (p : Found) → Goes p → HasFoundBy is_log sheet a step steps logging line ahead now p → IsShape sheet.script.shape → IsWithin sheet.script.shape n a → IsWithin sheet.script.shape (n + 1) now
+  pub goes_within : (n : ℕ) (p : Found) → Goes p → HasFoundBy is_log sheet a step steps logging line ahead now p
+      → IsShape sheet.script.shape → IsWithin sheet.script.shape n a → IsWithin sheet.script.shape (n + 1) now
   goes_within n p goes is shape within =
-      within_next sheet shape n a within is_log step steps logging line ahead (state_of now (turn_by p (step ∷ steps) steps) (logging_by p logging)) (which p goes is) (goes_passes p goes is)
+      within_next sheet shape n a within is_log step steps logging line ahead
+      (state_of now (turn_by p (step ∷ steps) steps) (logging_by p logging)) (which p goes is) (goes_passes p goes is)
 
 -- ---- the places are in turn
 
@@ -93,25 +104,31 @@ module _ (sheet : Sheet) (a : Account) (logging : Bool) (line : List ℕ) (ahead
   one-step : List Step
   one-step = Placing ∷ []
 
-  turned : (next : State) → PassesBy (begins_entry line) sheet (placing a) line ahead next → PassesBy (begins_entry line) sheet (state_of a one-step logging) line ahead next
+  turned : (next : State) → PassesBy (begins_entry line) sheet (placing a) line ahead next
+      → PassesBy (begins_entry line) sheet (state_of a one-step logging) line ahead next
   unfolding one-step
-  turned next is = subst (λ (b : Bool). PassesBy b sheet (state_of a (Placing ∷ []) logging) line ahead next) (sym other) (subst (λ (b : Bool). PassesBy b sheet (placing a) line ahead next) other is)
+  turned next is = subst (λ (b : Bool). PassesBy b sheet (state_of a (Placing ∷ []) logging) line ahead next)
+      (sym other) (subst (λ (b : Bool). PassesBy b sheet (placing a) line ahead next) other is)
 
-  turned-back : (next : State) → PassesBy (begins_entry line) sheet (state_of a one-step logging) line ahead next → PassesBy (begins_entry line) sheet (placing a) line ahead next
+  turned-back : (next : State) → PassesBy (begins_entry line) sheet (state_of a one-step logging) line ahead next
+      → PassesBy (begins_entry line) sheet (placing a) line ahead next
   unfolding one-step
-  turned-back next is = subst (λ (b : Bool). PassesBy b sheet (placing a) line ahead next) (sym other) (subst (λ (b : Bool). PassesBy b sheet (state_of a (Placing ∷ []) logging) line ahead next) other is)
+  turned-back next is = subst (λ (b : Bool). PassesBy b sheet (placing a) line ahead next) (sym other)
+      (subst (λ (b : Bool). PassesBy b sheet (state_of a (Placing ∷ []) logging) line ahead next) other is)
 
   fails-turned : (m : ℕ) → FailsAt sheet m (placing a) (line ∷ ahead) → FailsAt sheet m (state_of a one-step logging) (line ∷ ahead)
   fails-turned zero fails = absurd fails
   fails-turned (suc zero) fails = λ next is. fails next (turned-back next is)
   fails-turned (suc (suc m)) (next, first, fails) = (next, turned next first, fails)
 
-  judged-turned : (done : ℕ) (v : Verdict) → IsJudgedBehind done sheet (placing a) (line ∷ ahead) v → IsJudgedBehind done sheet (state_of a one-step logging) (line ∷ ahead) v
+  judged-turned : (done : ℕ) (v : Verdict) → IsJudgedBehind done sheet (placing a) (line ∷ ahead) v
+      → IsJudgedBehind done sheet (state_of a one-step logging) (line ∷ ahead) v
   judged-turned done (Verified many shows) (b, (next, first, pass), entries, shown) = (b, (next, turned next first, pass), entries, shown)
   judged-turned done (Refused n) (m, is, fails) = (m, is, fails-turned m fails)
 
   -- whether lines of the log may come doesn't matter then
-  pub judged_places : (step : Step) (steps : List Step) → step ≡ Placing → EndsPlacing (step ∷ steps) → (done : ℕ) (v : Verdict) → IsJudgedBehind done sheet (placing a) (line ∷ ahead) v
+  pub judged_places : (step : Step) (steps : List Step) → step ≡ Placing → EndsPlacing (step ∷ steps)
+      → (done : ℕ) (v : Verdict) → IsJudgedBehind done sheet (placing a) (line ∷ ahead) v
       → IsJudgedBehind done sheet (state_of a (step ∷ steps) logging) (line ∷ ahead) v
   unfolding one-step
   judged_places step steps is ends done v judged =
@@ -142,7 +159,8 @@ lines-few text =
     omega (arith, short, many, few)
 
 -- so the number of a line that fails is not above this
-pub place_fails : (s : Dimensions) (a : Account) (text : List ℕ) (n : ℕ) → a.placed ≡ 0 → ArePlacedFrom s a.changes 0 (lines_of text) (Some n) → n ≤ length text + 2
+pub place_fails : (s : Dimensions) (a : Account) (text : List ℕ) (n : ℕ) → a.placed ≡ 0
+    → ArePlacedFrom s a.changes 0 (lines_of text) (Some n) → n ≤ length text + 2
 place_fails s a text n none found =
     let sheet : Sheet = sheet_on s [] (lines_of text) in
     let fails = found sheet a refl refl none in
@@ -151,8 +169,10 @@ place_fails s a text n none found =
     omega (arith, bound, few)
 
 -- what is judged of the places on each sheet of the group
-pub placed_verified : (s : Dimensions) (a : Account) (lines : List (List ℕ)) (done : ℕ) → a.placed ≡ 0 → ArePlacedFrom s a.changes 0 lines None → IsPlacedBehind done s a lines (Verified a.entries a.shown)
+pub placed_verified : (s : Dimensions) (a : Account) (lines : List (List ℕ)) (done : ℕ) → a.placed ≡ 0
+    → ArePlacedFrom s a.changes 0 lines None → IsPlacedBehind done s a lines (Verified a.entries a.shown)
 placed_verified s a lines done none found sheet shape = found sheet a shape refl none
 
-pub placed_refused : (s : Dimensions) (a : Account) (lines : List (List ℕ)) (done n : ℕ) → a.placed ≡ 0 → ArePlacedFrom s a.changes 0 lines (Some n) → IsPlacedBehind done s a lines (Refused (done + n))
+pub placed_refused : (s : Dimensions) (a : Account) (lines : List (List ℕ)) (done n : ℕ) → a.placed ≡ 0
+    → ArePlacedFrom s a.changes 0 lines (Some n) → IsPlacedBehind done s a lines (Refused (done + n))
 placed_refused s a lines done n none found sheet shape = (n, refl, found sheet a shape refl none)

@@ -26,17 +26,21 @@ module _ (s : Dimensions) (places : List Place) (a : Account) (e : Entry) where
   )
 
   pub accepted_kept : (next : Account) (change : Change) → accepts e.reply ≡ true → HasEffect s places a e (home_of (key_of e.op.act) s.k) change
-      → next ≡ with_changes a (put [] a.changes (home_of (key_of e.op.act) s.k) (at [] a.changes (home_of (key_of e.op.act) s.k) ++ change ∷ [])) → HasChanged s places a e next
+      → next ≡ with_changes a
+      (put [] a.changes (home_of (key_of e.op.act) s.k) (at [] a.changes (home_of (key_of e.op.act) s.k)
+      ++ change ∷ [])) → HasChanged s places a e next
   accepted_kept next change accepted (run, is, found) same = (
     run,
     subst (λ (b : Bool). IsFoundIf b s places a e run) (sym accepted)
-        (subst (λ (x : Change). IsFound s places (home_of (key_of e.op.act) s.k) (length (changes_at a (home_of (key_of e.op.act) s.k)) + 1) x.effect run) is found),
+        (subst (λ (x : Change). IsFound s places (home_of (key_of e.op.act) s.k)
+        (length (changes_at a (home_of (key_of e.op.act) s.k)) + 1) x.effect run) is found),
     same ∙ ap (λ (x : Change). with_changes a (put [] a.changes (home_of (key_of e.op.act) s.k) (at [] a.changes (home_of (key_of e.op.act) s.k) ++ x ∷ []))) is
         ∙ ap (λ (b : Bool). with_changes a (with_change b (home_of (key_of e.op.act) s.k) (change_by a e run) a.changes)) (sym accepted),
   )
 
   -- an act that isn't a deletion or a touch writes
-  writes : (act : Act) → ((key : List ℕ) → act ≢ Delete key) → ((key : List ℕ) (expiry : _) → act ≢ Touch key expiry) → (value : List ℕ) (run : Option Run) → effect_of act value run ≡ Writes value run
+  writes : (act : Act) → ((key : List ℕ) → act ≢ Delete key) → ((key : List ℕ) (expiry : _) → act ≢ Touch key expiry)
+      → (value : List ℕ) (run : Option Run) → effect_of act value run ≡ Writes value run
   writes (Get key) d t value run = refl
   writes (Set key flags expiry bytes) d t value run = refl
   writes (Add key flags expiry bytes) d t value run = refl
@@ -49,12 +53,17 @@ module _ (s : Dimensions) (places : List Place) (a : Account) (e : Entry) where
   writes (Incr key by) d t value run = refl
   writes (Decr key by) d t value run = refl
 
-  pub written_has : (d : ℕ) (change : Change) → ((key : List ℕ) → e.op.act ≢ Delete key) → ((key : List ℕ) (expiry : _) → e.op.act ≢ Touch key expiry) → IsWritten s places a (key_of e.op.act) d change → HasEffect s places a e d change
+  pub written_has : (d : ℕ) (change : Change) → ((key : List ℕ) → e.op.act ≢ Delete key)
+      → ((key : List ℕ) (expiry : _) → e.op.act ≢ Touch key expiry) → IsWritten s places a (key_of e.op.act) d change
+      → HasEffect s places a e d change
   written_has d change not_delete not_touch (run, is, found) =
       let value : List ℕ = value_in (a.table.items (key_of e.op.act)) in
-      let same : change ≡ change_by a e run = is ∙ ap (λ (x : Effect). record { key = key_of e.op.act; effect = x }) (sym (writes e.op.act not_delete not_touch value run)) in
+      let same : change ≡ change_by a e run = is ∙ ap (λ (x : Effect). record { key = key_of e.op.act; effect = x })
+      (sym (writes e.op.act not_delete not_touch value run)) in
       (run, same, subst (λ (x : Change). IsFound s places d (length (changes_at a d) + 1) x.effect run) (sym is) found)
 
-  pub written_ok : {E : Type 0} (d : ℕ) (r : Result Change E) → ((key : List ℕ) → e.op.act ≢ Delete key) → ((key : List ℕ) (expiry : _) → e.op.act ≢ Touch key expiry) → IfOk r (IsWritten s places a (key_of e.op.act) d) → IfOk r (HasEffect s places a e d)
+  pub written_ok : {E : Type 0} (d : ℕ) (r : Result Change E) → ((key : List ℕ) → e.op.act ≢ Delete key)
+      → ((key : List ℕ) (expiry : _) → e.op.act ≢ Touch key expiry) → IfOk r (IsWritten s places a (key_of e.op.act) d)
+      → IfOk r (HasEffect s places a e d)
   written_ok d (Ok change) nd nt is = written_has d change nd nt is
   written_ok d (Err x) nd nt is = tt

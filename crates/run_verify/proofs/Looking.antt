@@ -16,17 +16,21 @@ use Rattle.run_verify.specs.Updates.{IsStampOf}
 use Rattle.run_verify.specs.declared.change.Change.{Change}
 use Rattle.run_verify.proofs.Stamping.{shows_same}
 
-below-at : (changes : List (List Change)) (a : ℕ) (stamp : List ℕ) → AreBelow changes a stamp → (d : ℕ) → d < length stamp → at 0 stamp d ≤ length (at [] changes (a + d))
+below-at : (changes : List (List Change)) (a : ℕ) (stamp : List ℕ) → AreBelow changes a stamp → (d : ℕ)
+    → d < length stamp → at 0 stamp d ≤ length (at [] changes (a + d))
 below-at changes a [] below d within = absurd (omega arith)
 below-at changes a (n ∷ ns) below zero within = subst (λ (k : ℕ). n ≤ length (at [] changes k)) (sym (add-zero a)) below.0
 below-at changes a (n ∷ ns) below (suc d) within =
-    subst (λ (k : ℕ). at 0 ns d ≤ length (at [] changes k)) (let e : a + 1 + d ≡ a + suc d = omega arith in e) (below-at changes (a + 1) ns below.1 d (omega arith))
+    subst (λ (k : ℕ). at 0 ns d ≤ length (at [] changes k)) (let e : a + 1 + d ≡ a + suc d = omega arith in e)
+    (below-at changes (a + 1) ns below.1 d (omega arith))
 
-at-below : (changes : List (List Change)) (a : ℕ) (stamp : List ℕ) → ((d : ℕ) → d < length stamp → at 0 stamp d ≤ length (at [] changes (a + d))) → AreBelow changes a stamp
+at-below : (changes : List (List Change)) (a : ℕ) (stamp : List ℕ)
+    → ((d : ℕ) → d < length stamp → at 0 stamp d ≤ length (at [] changes (a + d))) → AreBelow changes a stamp
 at-below changes a [] all = tt
 at-below changes a (n ∷ ns) all = (
   subst (λ (k : ℕ). n ≤ length (at [] changes k)) (add-zero a) (all 0 (omega arith)),
-  at-below changes (a + 1) ns (λ d within. subst (λ (k : ℕ). at 0 ns d ≤ length (at [] changes k)) (let e : a + suc d ≡ a + 1 + d = omega arith in e) (all (suc d) (omega (arith, within)))),
+  at-below changes (a + 1) ns (λ d within. subst (λ (k : ℕ). at 0 ns d ≤ length (at [] changes k))
+      (let e : a + suc d ≡ a + 1 + d = omega arith in e) (all (suc d) (omega (arith, within)))),
 )
 
 module _ (s : Dimensions) (changes : List (List Change)) where
@@ -37,11 +41,19 @@ module _ (s : Dimensions) (changes : List (List Change)) where
 
   stamp-of : (p : ProcessId) (stamp : List ℕ) → length stamp ≡ stamp_len s p → IsStamped changes p stamp → IsStampOf s (λ d. length (at [] changes d)) p stamp
   stamp-of (DataNode d) stamp long below = one-number d stamp long below
-  stamp-of (ParityNode i) stamp long below = (long, λ d within. subst (λ (k : ℕ). at 0 stamp d ≤ length (at [] changes k)) (let e : 0 + d ≡ d = omega arith in e) (below-at changes 0 stamp below d (omega (arith, within, long))))
+  stamp-of (ParityNode i) stamp long below = (
+    long,
+    λ d within. subst (λ (k : ℕ). at 0 stamp d ≤ length (at [] changes k)) (let e : 0 + d ≡ d = omega arith in
+        e) (below-at changes 0 stamp below d (omega (arith, within, long))),
+  )
 
   of-stamp : (p : ProcessId) (stamp : List ℕ) → IsStampOf s (λ d. length (at [] changes d)) p stamp → (length stamp ≡ stamp_len s p) × IsStamped changes p stamp
   of-stamp (DataNode d) stamp (n, is, few) = (ap length is, subst (AreBelow changes d) (sym is) (few, tt))
-  of-stamp (ParityNode i) stamp (long, all) = (long, at-below changes 0 stamp (λ d within. subst (λ (k : ℕ). at 0 stamp d ≤ length (at [] changes k)) (let e : d ≡ 0 + d = omega arith in e) (all d (omega (arith, within, long)))))
+  of-stamp (ParityNode i) stamp (long, all) = (
+    long,
+    at-below changes 0 stamp (λ d within. subst (λ (k : ℕ). at 0 stamp d ≤ length (at [] changes k))
+        (let e : d ≡ 0 + d = omega arith in e) (all d (omega (arith, within, long)))),
+  )
 
 module _ (s : Dimensions) (a : Account) (p : ProcessId) (run : Run) (line : List ℕ) where
   text-of : (stamp : List ℕ) → List ℕ
@@ -54,7 +66,8 @@ module _ (s : Dimensions) (a : Account) (p : ProcessId) (run : Run) (line : List
   pub shows_nothing : ShowsNone line (stamp_len s p) → ¬ (TellsBytes s a p run line)
   shows_nothing none t = none t.stamp (text-of t.stamp) (of-stamp s a.changes p t.stamp t.can).0 t.fits (shows-it t)
 
-  pub shows_told : (stamp word : List ℕ) → length stamp ≡ stamp_len s p → All FitsNumber stamp → Shows line stamp word → IsTold s a.changes p run stamp word ↔ TellsBytes s a p run line
+  pub shows_told : (stamp word : List ℕ) → length stamp ≡ stamp_len s p → All FitsNumber stamp → Shows line stamp word
+      → IsTold s a.changes p run stamp word ↔ TellsBytes s a p run line
   unfolding text-of
   shows_told stamp word long fits shows = (
     λ told. record {

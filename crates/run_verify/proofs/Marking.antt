@@ -1,8 +1,10 @@
 -- Marks at the addresses of runs.
-use Rattle.std.proofs.Common.{◌≡◌, ◌≢◌, ◌<◌, ◌≤◌, ◌+◌, ◌-◌, ◌⊎◌, inl, inr, ℕ, Bool, true, false, List, ◌++◌, Option, Some, None, drop, get_or, length, replicate, take, refl, sym, ap, ◌∙◌, subst, arith}
+use Rattle.std.proofs.Common.{◌≡◌, ◌≢◌, ◌<◌, ◌≤◌, ◌+◌, ◌-◌, ◌⊎◌, inl, inr, ℕ, Bool, true, false, List, ◌++◌, Option}
+use Rattle.std.proofs.Common.{Some, None, drop, get_or, length, replicate, take, refl, sym, ap, ◌∙◌, subst, arith}
 use Rattle.std.proofs.lemmas.Bool.{cases_lt}
 use Rattle.std.proofs.lemmas.Grind.{common_steps}
-use Rattle.std.proofs.lemmas.List.{get_or-append_right, get_or_append_left, get_or-drop, get_or-replicate, get_or-take, length-append, length-drop, length-replicate, length-take-le}
+use Rattle.std.proofs.lemmas.List.{get_or-append_right, get_or_append_left, get_or-drop, get_or-replicate, get_or-take}
+use Rattle.std.proofs.lemmas.List.{length-append, length-drop, length-replicate, length-take-le}
 use Rattle.std.specs.Prelude.{◌↔◌, IfSome, IsTrue, if◌then◌else◌, is_none, is_some, not, slice_index}
 use Rattle.erasure_code.proofs.Lists.{get_or-zeros}
 use Rattle.group_types.specs.Lists.{same_key}
@@ -58,7 +60,8 @@ module _ (mark : ℕ) (run : Run) (marks : List ℕ) (inside : run.at + run.len 
   pub filled-in : (x : ℕ) → in_run x run ≡ true → get_or (filled mark run marks) x 0 ≡ mark
   filled-in x is =
       let (low, high) = in-run x run is in
-      get_or_append_left (take run.at marks ++ replicate run.len mark) (drop (run.at + run.len) marks) 0 x (let whole = long-filled in omega (arith, whole, high))
+      get_or_append_left (take run.at marks ++ replicate run.len mark) (drop (run.at + run.len) marks) 0 x
+      (let whole = long-filled in omega (arith, whole, high))
       ∙ get_or-append_right (take run.at marks) (replicate run.len mark) run.at x 0 long-front low
       ∙ get_or-replicate run.len (x - run.at) mark 0 (omega (arith, low, high))
 
@@ -66,7 +69,8 @@ module _ (mark : ℕ) (run : Run) (marks : List ℕ) (inside : run.at + run.len 
   filled-out x is = by (out-of-run x run is) where
     by : (x < run.at) ⊎ (run.at + run.len ≤ x) → get_or (filled mark run marks) x 0 ≡ get_or marks x 0
     by (inl low) =
-        get_or_append_left (take run.at marks ++ replicate run.len mark) (drop (run.at + run.len) marks) 0 x (let whole = long-filled in omega (arith, whole, low))
+        get_or_append_left (take run.at marks ++ replicate run.len mark) (drop (run.at + run.len) marks) 0 x
+        (let whole = long-filled in omega (arith, whole, low))
         ∙ get_or_append_left (take run.at marks) (replicate run.len mark) 0 x (let front = long-front in omega (arith, front, low))
         ∙ get_or-take run.at marks x 0 low
     by (inr high) =
@@ -80,7 +84,8 @@ abbrev With : List ℕ → List ℕ → Option Run → Option Run → Run → Ty
 With key other new old run = ((key ≡ other) × (new ≡ Some run)) ⊎ ((same_key key other ≡ false) × (old ≡ Some run))
 
 -- what there is with a run is the new one, or one of another key
-with-is : (key other : List ℕ) (new : Option Run) (runs : List ℕ → Option Run) (run : Run) → with_run key new runs other ≡ Some run → With key other new (runs other) run
+with-is : (key other : List ℕ) (new : Option Run) (runs : List ℕ → Option Run) (run : Run) → with_run key new runs other
+    ≡ Some run → With key other new (runs other) run
 with-is key other new runs run is = by (same_key key other) refl is where
   by : (b : Bool) → same_key key other ≡ b → (if b then new else runs other) ≡ Some run → With key other new (runs other) run
   by true same here = inl (key_is key other same, here)
@@ -111,7 +116,8 @@ none-of other is = absurd (cc is)
 some-is : (a b : Run) (o : Option Run) → o ≡ Some a → o ≡ Some b → a ≡ b
 some-is a b o x y = cc (x, y)
 
-pub marked_same : (space : ℕ) (f g : List ℕ → Option Run) (marks : List ℕ) → ((key : List ℕ) → g key ≡ f key) → AreMarked space f marks → AreMarked space g marks
+pub marked_same : (space : ℕ) (f g : List ℕ → Option Run) (marks : List ℕ) → ((key : List ℕ) → g key ≡ f key)
+    → AreMarked space f marks → AreMarked space g marks
 marked_same space f g marks same m = record {
   long = m.long;
   inside = λ key run is. m.inside key run (sym (same key) ∙ is);
@@ -126,30 +132,39 @@ module _ (space : ℕ) (runs : List ℕ → Option Run) (marks : List ℕ) (m : 
 
   -- without the run of a key
   module _ (old : Run) (here : runs key ≡ Some old) where
-    gone-only : (x : ℕ) → slice_index (filled 0 old marks) x ≡ 1 → (other : List ℕ) × (run : Run) × (with_run key None runs other ≡ Some run) × (in_run x run ≡ true)
+    gone-only : (x : ℕ) → slice_index (filled 0 old marks) x ≡ 1 → (other : List ℕ) × (run : Run)
+        × (with_run key None runs other ≡ Some run) × (in_run x run ≡ true)
     gone-only x one = by (which (in_run x old)) where
       by : (in_run x old ≡ true) ⊎ (in_run x old ≡ false) → (other : List ℕ) × (run : Run) × (with_run key None runs other ≡ Some run) × (in_run x run ≡ true)
       by (inl hit) = let zero-there = filled-in 0 old marks (fits old (m.inside key old here)) x hit in absurd (cc (zero-there, one))
       by (inr miss) =
           let found = m.only x (sym (filled-out 0 old marks (fits old (m.inside key old here)) x miss) ∙ one) in
-          let apart : same_key key found.0 ≡ false = other-key key found.0 runs found.1 found.2 (λ same. let e = some-is old found.1 (runs key) here same in cc (miss, found.3, e)) in
+          let apart : same_key key found.0 ≡ false = other-key key found.0 runs found.1 found.2
+          (λ same. let e = some-is old found.1 (runs key) here same in cc (miss, found.3, e)) in
           (found.0, found.1, with-other key found.0 None runs apart ∙ found.2, found.3)
 
     gone : AreMarked space (with_run key None runs) (filled 0 old marks)
     gone = record {
       long = length-filled 0 old marks (fits old (m.inside key old here)) ∙ m.long;
       inside = λ other run is. elim (with-is key other None runs run is) [ inl a ↦ none-of run a.1 | inr b ↦ m.inside other run b.1 ];
-      apart = λ a b r q x y differs. elim (with-is key a None runs r x) [ inl c ↦ none-of r c.1 | inr c ↦ elim (with-is key b None runs q y) [ inl d ↦ none-of q d.1 | inr d ↦ m.apart a b r q c.1 d.1 differs ] ];
+      apart = λ a b r q x y differs. elim (with-is key a None runs r x) [
+        | inl c ↦ none-of r c.1
+        | inr c ↦ elim (with-is key b None runs q y)
+            [ inl d ↦ none-of q d.1 | inr d ↦ m.apart a b r q c.1 d.1 differs ]
+      ];
       marked = λ other run x is at. elim (with-is key other None runs run is) [
         | inl a ↦ none-of run a.1
-        | inr b ↦ filled-out 0 old marks (fits old (m.inside key old here)) x (m.apart other key run old b.1 here (λ same. differ key other b.0 (sym same)) x at) ∙ m.marked other run x b.1 at
+        | inr b ↦ filled-out 0 old marks (fits old (m.inside key old here)) x
+            (m.apart other key run old b.1 here (λ same. differ key other b.0 (sym same)) x at)
+            ∙ m.marked other run x b.1 at
       ];
       only = gone-only;
     }
 
   -- with a run of a key that had none
   module _ (run : Run) (none : runs key ≡ None) (inside : run.at + run.len ≤ space) (off : IsOff runs run) where
-    added-only : (x : ℕ) → slice_index (filled 1 run marks) x ≡ 1 → (other : List ℕ) × (r : Run) × (with_run key (Some run) runs other ≡ Some r) × (in_run x r ≡ true)
+    added-only : (x : ℕ) → slice_index (filled 1 run marks) x ≡ 1 → (other : List ℕ) × (r : Run)
+        × (with_run key (Some run) runs other ≡ Some r) × (in_run x r ≡ true)
     added-only x one = by (which (in_run x run)) where
       by : (in_run x run ≡ true) ⊎ (in_run x run ≡ false) → (other : List ℕ) × (r : Run) × (with_run key (Some run) runs other ≡ Some r) × (in_run x r ≡ true)
       by (inl hit) = (key, run, with-here key (Some run) runs, hit)
@@ -174,7 +189,11 @@ module _ (space : ℕ) (runs : List ℕ → Option Run) (marks : List ℕ) (m : 
     added : AreMarked space (with_run key (Some run) runs) (filled 1 run marks)
     added = record {
       long = length-filled 1 run marks (fits run inside) ∙ m.long;
-      inside = λ other r is. elim (with-is key other (Some run) runs r is) [ inl a ↦ subst (λ (p : Run). p.at + p.len ≤ space) (some-is run r (Some run) refl a.1) inside | inr b ↦ m.inside other r b.1 ];
+      inside = λ other r is. elim (with-is key other (Some run) runs r is) [
+        | inl a ↦ subst (λ (p : Run). p.at + p.len ≤ space) (some-is run r (Some run) refl a.1) inside
+        | inr b ↦
+            m.inside other r b.1
+      ];
       apart = λ a b r q x y differs. added-apart a b r q differs (with-is key a (Some run) runs r x) (with-is key b (Some run) runs q y);
       marked = added-marked;
       only = added-only;
@@ -201,18 +220,22 @@ off-more key runs run off other r is = by (with-is key other None runs r is) whe
   by (inl a) = none-of r a.1
   by (inr b) = off other r b.1
 
-twice : (key : List ℕ) (new : Option Run) (runs : List ℕ → Option Run) (other : List ℕ) → with_run key new runs other ≡ with_run key new (with_run key None runs) other
+twice : (key : List ℕ) (new : Option Run) (runs : List ℕ → Option Run) (other : List ℕ) → with_run key new runs other
+    ≡ with_run key new (with_run key None runs) other
 twice key new runs other = by (which (same_key key other)) where
   by : (same_key key other ≡ true) ⊎ (same_key key other ≡ false) → with_run key new runs other ≡ with_run key new (with_run key None runs) other
   by (inl hit) = ap (λ (b : Bool). if b then new else runs other) hit ∙ sym (ap (λ (b : Bool). if b then new else with_run key None runs other) hit)
   by (inr miss) = with-other key other new runs miss ∙ sym (with-other key other None runs miss) ∙ sym (with-other key other new (with_run key None runs) miss)
 
 -- the item on a key has another run than it had, or than none
-pub replaced : (space : ℕ) (runs : List ℕ → Option Run) (marks : List ℕ) → AreMarked space runs marks → (key : List ℕ) (old : Option Run) → old ≡ runs key → (run : Run) → run.at + run.len ≤ space → IsOff runs run
+pub replaced : (space : ℕ) (runs : List ℕ → Option Run) (marks : List ℕ) → AreMarked space runs marks
+    → (key : List ℕ) (old : Option Run) → old ≡ runs key → (run : Run) → run.at + run.len ≤ space → IsOff runs run
     → AreMarked space (with_run key (Some run) runs) (filled 1 run (cleared old marks))
 replaced space runs marks m key old is run inside off =
-    marked_same space (with_run key (Some run) (with_run key None runs)) (with_run key (Some run) runs) (filled 1 run (cleared old marks)) (twice key (Some run) runs)
-    (added space (with_run key None runs) (cleared old marks) (removed space runs marks m key old is) key run (with-here key None runs) inside (off-more key runs run off))
+    marked_same space (with_run key (Some run) (with_run key None runs)) (with_run key (Some run) runs)
+    (filled 1 run (cleared old marks)) (twice key (Some run) runs)
+    (added space (with_run key None runs) (cleared old marks) (removed space runs marks m key old is) key run
+    (with-here key None runs) inside (off-more key runs run off))
 
 -- ---- a run is off where none of its addresses is marked
 
@@ -236,7 +259,8 @@ module _ (space : ℕ) (runs : List ℕ → Option Run) (marks : List ℕ) (m : 
           let (low, high) = in-run x run at in
           let below : x - run.at < run.len = omega (arith, low, high) in
           let here : run.at + (x - run.at) ≡ x = omega (arith, low) in
-          let one : slice_index (take run.len (drop run.at marks)) (x - run.at) ≡ 1 = part-at (x - run.at) below ∙ ap (λ (k : ℕ). get_or marks k 0) here ∙ m.marked key other x is hit in
+          let one : slice_index (take run.len (drop run.at marks)) (x - run.at) ≡ 1 = part-at (x - run.at) below
+          ∙ ap (λ (k : ℕ). get_or marks k 0) here ∙ m.marked key other x is hit in
           absurd (none (x - run.at) (omega arith) (let long = length-part in omega (arith, long, below)) (rw one refl))
   off-found (Some k) (before, one) = (λ hit. absurd (cc hit), λ off. absurd (from off)) where
     from : IsOff runs run → ⊥
@@ -252,7 +276,8 @@ module _ (space : ℕ) (runs : List ℕ → Option Run) (marks : List ℕ) (m : 
 off-part : (space : ℕ) (runs : List ℕ → Option Run) (marks : List ℕ) → AreMarked space runs marks → (run : Run) → run.at + run.len ≤ space → (r : Option ℕ)
     → IsFirstByte (is_byte 1) (take (run.at + run.len - run.at) (drop run.at marks)) r → IsTrue (is_none r) ↔ IsOff runs run
 off-part space runs marks m run inside r found =
-    off-found space runs marks m run inside r (subst (λ (n : ℕ). IsFirstByte (is_byte 1) (take n (drop run.at marks)) r) (let e : run.at + run.len - run.at ≡ run.len = omega arith in e) found)
+    off-found space runs marks m run inside r (subst (λ (n : ℕ). IsFirstByte (is_byte 1) (take n (drop run.at marks)) r)
+    (let e : run.at + run.len - run.at ≡ run.len = omega arith in e) found)
 
 none-is : (P : Type 0) (r : Option ℕ) (none : Bool) → is_some r ≡ not none → IsTrue (is_none r) ↔ P → IsTrue none ↔ P
 none-is P None true is same = same
@@ -261,7 +286,8 @@ none-is P (Some k) true is same = absurd (cc is)
 none-is P (Some k) false is same = same
 
 -- and where it is asked whether nothing was found
-pub off_asked : (space : ℕ) (runs : List ℕ → Option Run) (marks : List ℕ) → AreMarked space runs marks → (run : Run) → run.at + run.len ≤ space → (r : Option ℕ) (none : Bool) → is_some r ≡ not none
+pub off_asked : (space : ℕ) (runs : List ℕ → Option Run) (marks : List ℕ) → AreMarked space runs marks → (run : Run)
+    → run.at + run.len ≤ space → (r : Option ℕ) (none : Bool) → is_some r ≡ not none
     → IsFirstByte (is_byte 1) (take (run.at + run.len - run.at) (drop run.at marks)) r → IsTrue none ↔ IsOff runs run
 off_asked space runs marks m run inside r none is found = none-is (IsOff runs run) r none is (off-part space runs marks m run inside r found)
 
@@ -279,10 +305,16 @@ none_marked space runs none = record {
 
 -- ---- the next runs and marks
 
-module _ (space : ℕ) (runs next : List ℕ → Option Run) (marks : List ℕ) (m : AreMarked space runs marks) (key : List ℕ) (old : Option Run) (was : old ≡ runs key) where
-  pub put_marked : (now : List ℕ) (run : Run) → run.at + run.len ≤ space → IsOff runs run → ((other : List ℕ) → next other ≡ with_run key (Some run) runs other) → now ≡ filled 1 run (cleared old marks) → AreMarked space next now
+module _ (space : ℕ) (runs next : List ℕ → Option Run) (marks : List ℕ) (m : AreMarked space runs marks) (key : List ℕ)
+    (old : Option Run) (was : old ≡ runs key) where
+  pub put_marked : (now : List ℕ) (run : Run) → run.at + run.len ≤ space → IsOff runs run
+      → ((other : List ℕ) → next other ≡ with_run key (Some run) runs other) → now ≡ filled 1 run (cleared old marks)
+      → AreMarked space next now
   put_marked now run inside off same is =
-      marked_same space (with_run key (Some run) runs) next now same (subst (AreMarked space (with_run key (Some run) runs)) (sym is) (replaced space runs marks m key old was run inside off))
+      marked_same space (with_run key (Some run) runs) next now same
+      (subst (AreMarked space (with_run key (Some run) runs)) (sym is)
+      (replaced space runs marks m key old was run inside off))
 
   pub remove_marked : (now : List ℕ) → ((other : List ℕ) → next other ≡ with_run key None runs other) → now ≡ cleared old marks → AreMarked space next now
-  remove_marked now same is = marked_same space (with_run key None runs) next now same (subst (AreMarked space (with_run key None runs)) (sym is) (removed space runs marks m key old was))
+  remove_marked now same is = marked_same space (with_run key None runs) next now same
+      (subst (AreMarked space (with_run key None runs)) (sym is) (removed space runs marks m key old was))

@@ -10,7 +10,8 @@ use Rattle.run_verify.specs.declared.step.Step.{Step}
 use Rattle.run_verify.specs.declared.step.Step.TheVariants.{Make, Deliveries, Look, Placing}
 
 unmet : (sheet : Sheet) (a : Account) (step : Step) (steps : List Step) (logging : Bool) (line : List ℕ) (ahead : List (List ℕ)) → step ≢ Placing
-    → ((next : Account) → ¬ (IsMet sheet.script.shape a step line ahead next)) → (next : State) → ¬ (PassesBy false sheet (state_of a (step ∷ steps) logging) line ahead next)
+    → ((next : Account) → ¬ (IsMet sheet.script.shape a step line ahead next)) → (next : State)
+    → ¬ (PassesBy false sheet (state_of a (step ∷ steps) logging) line ahead next)
 unmet sheet a (Make event) steps logging line ahead other none next (answer, answers, same) = none (after_answer a event answer) (answer, answers, refl)
 unmet sheet a Deliveries steps logging line ahead other none next (n, low, is, same) = none a ((n, low, is), refl)
 unmet sheet a (Look p run) steps logging line ahead other none next (inl (tells, same)) = none (with_shown a) (inl (tells, refl))
@@ -19,6 +20,7 @@ unmet sheet a Placing steps logging line ahead other none next passes = absurd (
 
 module _ (s : Dimensions) (places : List Place) (a : Account) (step : Step) (logging : Bool) (line : List ℕ) (ahead : List (List ℕ)) where
   -- a line that doesn't tell what the step asks for
-  pub meets_nothing : (now : Account) → step ≢ Placing → ((next : Account) → ¬ (IsMet s a step line ahead next)) → HasFoundOn false s places a step logging line ahead now found.Fails
+  pub meets_nothing : (now : Account) → step ≢ Placing → ((next : Account) → ¬ (IsMet s a step line ahead next))
+      → HasFoundOn false s places a step logging line ahead now found.Fails
   meets_nothing now other none sheet steps of =
       unmet sheet a step steps logging line ahead other (λ next is. none next (subst (λ (d : Dimensions). IsMet d a step line ahead next) of.shape is))

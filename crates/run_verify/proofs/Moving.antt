@@ -26,15 +26,18 @@ pub ok_else : {X E : Type 0} (P Q : X → Type 0) (r : Result X E) → ((x : X) 
 ok_else P Q (Ok x) onward is = onward x is
 ok_else P Q (Err e) onward is = tt
 
-module _ (sheet : Sheet) (a : Account) (turn : List Step) (step : Step) (logging : Bool) (line : List ℕ) (ahead : List (List ℕ)) (now : Account) (split : turn ≡ step ∷ drop 1 turn) where
+module _ (sheet : Sheet) (a : Account) (turn : List Step) (step : Step) (logging : Bool) (line : List ℕ)
+    (ahead : List (List ℕ)) (now : Account) (split : turn ≡ step ∷ drop 1 turn) where
   -- the line fails
-  pub moved_fails : HasFoundBy (begins_entry line) sheet a step (drop 1 turn) logging line ahead now found.Fails → (done : ℕ) → IsJudgedBehind done sheet (state_of a turn logging) (line ∷ ahead) (Refused (done + 1))
+  pub moved_fails : HasFoundBy (begins_entry line) sheet a step (drop 1 turn) logging line ahead now found.Fails
+      → (done : ℕ) → IsJudgedBehind done sheet (state_of a turn logging) (line ∷ ahead) (Refused (done + 1))
   moved_fails none done =
       subst (λ (t : List Step). IsJudgedBehind done sheet (state_of a t logging) (line ∷ ahead) (Refused (done + 1))) (sym split)
       (judged_fails sheet (state_of a (step ∷ drop 1 turn) logging) line ahead done none)
 
   -- it is one for the places
-  pub moved_places : HasFoundBy (begins_entry line) sheet a step (drop 1 turn) logging line ahead now found.Places → EndsPlacing turn → (s : Dimensions) → sheet.script.shape ≡ s → (done : ℕ) (v : Verdict)
+  pub moved_places : HasFoundBy (begins_entry line) sheet a step (drop 1 turn) logging line ahead now found.Places
+      → EndsPlacing turn → (s : Dimensions) → sheet.script.shape ≡ s → (done : ℕ) (v : Verdict)
       → IsPlacedBehind done s now (line ∷ ahead) v → IsJudgedBehind done sheet (state_of a turn logging) (line ∷ ahead) v
   moved_places (is, other, same) ends s shape done v placed =
       let here = subst (λ (x : Account). IsJudgedBehind done sheet (placing x) (line ∷ ahead) v) same (placed sheet shape) in
@@ -47,19 +50,26 @@ module _ (sheet : Sheet) (a : Account) (turn : List Step) (step : Step) (logging
     next-split : next ≡ turn_by p (step ∷ drop 1 turn) (drop 1 turn)
     next-split = next_is ∙ ap (λ (t : List Step). turn_by p t (drop 1 turn)) split
 
-    pub moved_judged : (done : ℕ) (v : Verdict) → IsJudgedBehind (done + 1) sheet (state_of now next may) ahead v → IsJudgedBehind done sheet (state_of a turn logging) (line ∷ ahead) v
+    pub moved_judged : (done : ℕ) (v : Verdict) → IsJudgedBehind (done + 1) sheet (state_of now next may) ahead v
+        → IsJudgedBehind done sheet (state_of a turn logging) (line ∷ ahead) v
     moved_judged done v judged =
         let after : State = state_of now (turn_by p (step ∷ drop 1 turn) (drop 1 turn)) (logging_by p logging) in
-        let same : state_of now next may ≡ after = ap (λ (t : List Step). state_of now t may) next-split ∙ ap (state_of now (turn_by p (step ∷ drop 1 turn) (drop 1 turn))) may_is in
+        let same : state_of now next may ≡ after = ap (λ (t : List Step). state_of now t may) next-split
+        ∙ ap (state_of now (turn_by p (step ∷ drop 1 turn) (drop 1 turn))) may_is in
         let here = subst (λ (x : State). IsJudgedBehind (done + 1) sheet x ahead v) same judged in
         subst (λ (t : List Step). IsJudgedBehind done sheet (state_of a t logging) (line ∷ ahead) v) (sym split)
-        (judged_on sheet (state_of a (step ∷ drop 1 turn) logging) line ahead after (goes_passes (begins_entry line) sheet a step (drop 1 turn) logging line ahead now p goes is) done v here)
+        (judged_on sheet (state_of a (step ∷ drop 1 turn) logging) line ahead after
+        (goes_passes (begins_entry line) sheet a step (drop 1 turn) logging line ahead now p goes is) done v here)
 
     pub moved_ends : EndsPlacing turn → EndsPlacing next
-    moved_ends ends = subst EndsPlacing (sym next-split) (goes_ends (begins_entry line) sheet a step (drop 1 turn) logging line ahead now p goes is (subst EndsPlacing split ends))
+    moved_ends ends =
+        subst EndsPlacing (sym next-split) (goes_ends (begins_entry line) sheet a step (drop 1 turn) logging line ahead
+        now p goes is (subst EndsPlacing split ends))
 
     pub moved_fit : (s : Dimensions) → All (IsStepOf s) turn → All (IsStepOf s) next
-    moved_fit s fit = subst (All (IsStepOf s)) (sym next-split) (goes_fit (begins_entry line) sheet a step (drop 1 turn) logging line ahead now s p (subst (All (IsStepOf s)) split fit))
+    moved_fit s fit = subst (All (IsStepOf s)) (sym next-split)
+        (goes_fit (begins_entry line) sheet a step (drop 1 turn) logging line ahead now s p
+        (subst (All (IsStepOf s)) split fit))
 
     pub moved_within : (n : ℕ) → IsShape sheet.script.shape → IsWithin sheet.script.shape n a → IsWithin sheet.script.shape (n + 1) now
     moved_within n shape within = goes_within (begins_entry line) sheet a step (drop 1 turn) logging line ahead now n p goes is shape within

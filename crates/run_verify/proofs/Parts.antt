@@ -29,7 +29,8 @@ module _ (m i size : ℕ) (run : Run) (inside : run.at + run.len ≤ size) (spac
       let same : length whole ≡ length (scale (coefficient m i d) space) = long ∙ sym size_is ∙ sym scaled in (
         add_bytes whole (scale (coefficient m i d) space),
         length-add_bytes whole (scale (coefficient m i d) space) same ∙ long,
-        chunk-add_bytes run.at run.len whole (scale (coefficient m i d) space) same ∙ ap (add_bytes (bytes_at run.at run.len whole)) (chunk-scale (coefficient m i d) run.at run.len space)
+        chunk-add_bytes run.at run.len whole (scale (coefficient m i d) space) same
+            ∙ ap (add_bytes (bytes_at run.at run.len whole)) (chunk-scale (coefficient m i d) run.at run.len space)
             ∙ ap (λ (bytes : List ℕ). add_bytes bytes (scale (coefficient m i d) (bytes_at run.at run.len space))) part ∙ sym added,
         ap (λ (x : List ℕ). coded_from m i (d + 1) (add_bytes whole (scale (coefficient m i d) x)) (spaces_by spaces (d + 1) ns)) is ∙ rest,
       )

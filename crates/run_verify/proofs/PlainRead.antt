@@ -1,5 +1,6 @@
 -- A script that is read from a text ends with the line `places`, and has no other one.
-use Rattle.std.proofs.Common.{◌≡◌, ◌≢◌, ◌⊎◌, inl, inr, ◌+◌, ◌^◌, ℕ, Bool, true, false, List, [], ◌∷◌, ◌∙◌, codes, Some, None, if◌then◌else◌, refl, sym, ap, subst}
+use Rattle.std.proofs.Common.{◌≡◌, ◌≢◌, ◌⊎◌, inl, inr, ◌+◌, ◌^◌, ℕ, Bool, true, false, List, [], ◌∷◌, ◌∙◌, codes, Some}
+use Rattle.std.proofs.Common.{None, if◌then◌else◌, refl, sym, ap, subst}
 use Rattle.std.proofs.lemmas.List.Splits.{join_with_byte-slice_split}
 use Rattle.std.proofs.lemmas.Slice.Eq.{bytes_eq-Decides}
 use Rattle.std.specs.List.{join_with_byte}
@@ -103,7 +104,8 @@ line_by-keyword s keyword.Show (a ∷ b ∷ d ∷ e ∷ ws) l is = cc is
 line_by-keyword s keyword.Places [] l is = as-line keyword.Places [] Places l is (refl, refl)
 line_by-keyword s keyword.Places (a ∷ ws) l is = cc is
 line_by-keyword s keyword.Time [] l is = cc is
-line_by-keyword s keyword.Time (moment ∷ []) l is = let n = mapped Time (number_below (2 ^ 62 + 1) moment) l is in subst (IsKeyword keyword.Time (moment ∷ [])) n.2 tt
+line_by-keyword s keyword.Time (moment ∷ []) l is = let n = mapped Time (number_below (2 ^ 62 + 1) moment) l is in
+    subst (IsKeyword keyword.Time (moment ∷ [])) n.2 tt
 line_by-keyword s keyword.Time (a ∷ b ∷ ws) l is = cc is
 line_by-keyword s keyword.Stop [] l is = as-line keyword.Stop [] Stop l is (refl, refl)
 line_by-keyword s keyword.Stop (a ∷ ws) l is = cc is
@@ -116,15 +118,25 @@ word_of _ = []
 
 same-word : (k : Keyword) (name : List ℕ) → (k ≡ keyword.Places) ⊎ (k ≡ keyword.Stop) → keyword_of name ≡ Some k → name ≡ word_of k
 unfolding keyword_of
-same-word k name which is = by (bytes_eq name (codes "ask")) (bytes_eq name (codes "collect")) (bytes_eq name (codes "deliver")) (bytes_eq name (codes "fail")) (bytes_eq name (codes "flush")) (bytes_eq name (codes "trace"))
-    (bytes_eq name (codes "drain")) (bytes_eq name (codes "show")) (bytes_eq name (codes "places")) refl (bytes_eq name (codes "time")) (bytes_eq name (codes "stop")) refl is
+same-word k name which is = by (bytes_eq name (codes "ask")) (bytes_eq name (codes "collect"))
+    (bytes_eq name (codes "deliver")) (bytes_eq name (codes "fail")) (bytes_eq name (codes "flush"))
+    (bytes_eq name (codes "trace"))
+    (bytes_eq name (codes "drain")) (bytes_eq name (codes "show")) (bytes_eq name (codes "places")) refl
+    (bytes_eq name (codes "time")) (bytes_eq name (codes "stop")) refl is
   where
     other : (j : Keyword) → (j ≢ keyword.Places) → (j ≢ keyword.Stop) → Some j ≡ Some k → name ≡ word_of k
     other j no_places no_stop same = let eq : j ≡ k = cc same in absurd (elim which [ inl p ↦ no_places (eq ∙ p) | inr s ↦ no_stop (eq ∙ s) ])
 
     by : (a b c d e f g h i : Bool) → bytes_eq name (codes "places") ≡ i → (j l : Bool) → bytes_eq name (codes "stop") ≡ l
-        → (if a then Some keyword.Ask else (if b then Some keyword.Collect else (if c then Some keyword.Deliver else (if d then Some keyword.Fail else (if e then Some keyword.Flush else (if f then Some keyword.Trace
-        else (if g then Some keyword.Drain else (if h then Some keyword.Show else (if i then Some keyword.Places else (if j then Some keyword.Time else (if l then Some keyword.Stop else None))))))))))) ≡ Some k → name ≡ word_of k
+        → (if a then Some keyword.Ask else
+        (if b then Some keyword.Collect else
+        (if c then Some keyword.Deliver else
+        (if d then Some keyword.Fail else (if e then Some keyword.Flush else (if f then Some keyword.Trace
+        else (if g then Some keyword.Drain else
+        (if h then Some keyword.Show else
+        (if i then Some keyword.Places else
+        (if j then Some keyword.Time else (if l then Some keyword.Stop else None))))))))))) ≡ Some k → name
+        ≡ word_of k
     by true b c d e f g h i places j l stop same = other keyword.Ask (λ x. cc x) (λ x. cc x) same
     by false true c d e f g h i places j l stop same = other keyword.Collect (λ x. cc x) (λ x. cc x) same
     by false false true d e f g h i places j l stop same = other keyword.Deliver (λ x. cc x) (λ x. cc x) same
@@ -133,9 +145,11 @@ same-word k name which is = by (bytes_eq name (codes "ask")) (bytes_eq name (cod
     by false false false false false true g h i places j l stop same = other keyword.Trace (λ x. cc x) (λ x. cc x) same
     by false false false false false false true h i places j l stop same = other keyword.Drain (λ x. cc x) (λ x. cc x) same
     by false false false false false false false true i places j l stop same = other keyword.Show (λ x. cc x) (λ x. cc x) same
-    by false false false false false false false false true places j l stop same = let eq : keyword.Places ≡ k = cc same in subst (λ (x : Keyword). name ≡ word_of x) eq ((bytes_eq-Decides name (codes "places")).0 places)
+    by false false false false false false false false true places j l stop same = let eq : keyword.Places ≡ k =
+        cc same in subst (λ (x : Keyword). name ≡ word_of x) eq ((bytes_eq-Decides name (codes "places")).0 places)
     by false false false false false false false false false places true l stop same = other keyword.Time (λ x. cc x) (λ x. cc x) same
-    by false false false false false false false false false places false true stop same = let eq : keyword.Stop ≡ k = cc same in subst (λ (x : Keyword). name ≡ word_of x) eq ((bytes_eq-Decides name (codes "stop")).0 stop)
+    by false false false false false false false false false places false true stop same = let eq : keyword.Stop ≡ k =
+        cc same in subst (λ (x : Keyword). name ≡ word_of x) eq ((bytes_eq-Decides name (codes "stop")).0 stop)
     by false false false false false false false false false places false false stop same = cc same
 
 one-word : (name : List ℕ) (words : List (List ℕ)) (l : Line) (s : Dimensions) → event_line s (name ∷ words) ≡ Some l → IsWord name words l

@@ -1,5 +1,7 @@
 -- The steps of a script that is read end with the one that asks for the places.
-use Rattle.std.proofs.Common.{◌≡◌, ◌⊎◌, inl, inr, ◌+◌, ℕ, Bool, true, false, not, nat_lt, List, [], ◌∷◌, ◌++◌, ◌∙◌, codes, length, slice_index, Option, Some, None, Result, Ok, Err, if◌then◌else◌, refl, sym, ap, subst}
+use Rattle.std.proofs.Common.{◌≡◌, ◌⊎◌, inl, inr, ◌+◌, ℕ, Bool, true, false, not, nat_lt, List, [], ◌∷◌, ◌++◌, ◌∙◌}
+use Rattle.std.proofs.Common.{codes, length, slice_index, Option, Some, None, Result, Ok, Err, if◌then◌else◌, refl, sym}
+use Rattle.std.proofs.Common.{ap, subst}
 use Rattle.std.proofs.lemmas.Slice.Eq.{bytes_eq-Decides}
 use Rattle.std.proofs.lemmas.List.Elements.{All-head, All-tail}
 use Rattle.std.specs.Prelude.{⊤, All}
@@ -96,8 +98,14 @@ abbrev Outcome : Type 0
 Outcome = Result Script (Fault LineFault)
 
 -- what is behind steps
-behind-ok : (steps : List Step) (r : Outcome) (script : Script) → behind steps r ≡ Ok script → (rest : Script) × (r ≡ Ok rest) × (steps ++ rest.steps ≡ script.steps)
-behind-ok steps (Ok rest) script is = (rest, refl, let same : record { shape = rest.shape; steps = steps ++ rest.steps } ≡ script = cc is in ap (λ (x : Script). x.steps) same)
+behind-ok : (steps : List Step) (r : Outcome) (script : Script) → behind steps r ≡ Ok script → (rest : Script)
+    × (r ≡ Ok rest) × (steps ++ rest.steps ≡ script.steps)
+behind-ok steps (Ok rest) script is = (
+  rest,
+  refl,
+  let same : record { shape = rest.shape; steps = steps ++ rest.steps }
+      ≡ script = cc is in ap (λ (x : Script). x.steps) same,
+)
 behind-ok steps (Err fault) script is = cc is
 
 -- the test of whether a line stands well, passed
@@ -113,7 +121,9 @@ abbrev Goal : List (List ℕ) → Type 0
 Goal lines = (n : ℕ) (s : Setting) (script : Script) → script_in n (Some s) lines ≡ Ok script → EndsBy (is_over lines) script.steps
 
 -- a line that goes on
-goes-on : (line : List ℕ) (lines : List (List ℕ)) (steps : List Step) (next : Setting) (n : ℕ) (script : Script) → Goal lines → NoPlacing steps ⊎ ((line ≡ codes "places") × (steps ≡ Placing ∷ [])) → (line ≡ codes "places" → steps ≡ Placing ∷ [])
+goes-on : (line : List ℕ) (lines : List (List ℕ)) (steps : List Step) (next : Setting) (n : ℕ) (script : Script)
+    → Goal lines → NoPlacing steps ⊎ ((line ≡ codes "places") × (steps ≡ Placing ∷ []))
+    → (line ≡ codes "places" → steps ≡ Placing ∷ [])
     → stands_well line lines ≡ true → behind steps (script_in (n + 1) (Some next) lines) ≡ Ok script → EndsPlacing script.steps
 goes-on line lines steps next n script onward kind placing well is = by (is_over lines) refl kind
   where
@@ -131,11 +141,17 @@ goes-on line lines steps next n script onward kind placing well is = by (is_over
         let word = (bytes_eq-Decides line (codes "places")).0 (is_places true over) in
         absurd (subst NoPlacing (placing word) none)
     by false over (inr (word, one)) = absurd (let other = is_places false over in cc (sym other ∙ (bytes_eq-Decides line (codes "places")).1 word))
-    by false over (inl none) = subst EndsPlacing rest.2 (ends-behind steps rest.0.steps none (subst (λ (b : Bool). EndsBy b rest.0.steps) over (onward (n + 1) next rest.0 rest.1)))
+    by false over (inl none) =
+        subst EndsPlacing rest.2
+        (ends-behind steps rest.0.steps none
+        (subst (λ (b : Bool). EndsBy b rest.0.steps) over (onward (n + 1) next rest.0 rest.1)))
 
 -- what a step of reading comes to
-ends-line : (n : ℕ) (s : Setting) (line : List ℕ) (lines : List (List ℕ)) (script : Script) → Goal lines → (next : StepNext) → next_of (Some s) line ≡ next → is_skipped line ≡ false → Does line next
-    → (well : Bool) → stands_well line lines ≡ well → from_line false well n (Some s) next (λ setting. script_in (n + 1) setting lines) ≡ Ok script → EndsBy (bytes_eq line (codes "stop")) script.steps
+ends-line : (n : ℕ) (s : Setting) (line : List ℕ) (lines : List (List ℕ)) (script : Script) → Goal lines
+    → (next : StepNext) → next_of (Some s) line ≡ next → is_skipped line ≡ false → Does line next
+    → (well : Bool) → stands_well line lines ≡ well
+    → from_line false well n (Some s) next (λ setting. script_in (n + 1) setting lines) ≡ Ok script
+    → EndsBy (bytes_eq line (codes "stop")) script.steps
 ends-line n s line lines script onward (Goes None steps text) is written does well stands is_ok = absurd does
 ends-line n s line lines script onward (Goes (Some next) steps text) is written does false stands is_ok = cc is_ok
 ends-line n s line lines script onward (Goes (Some next) steps text) is written does true stands is_ok = by (bytes_eq line (codes "stop")) refl
@@ -145,7 +161,8 @@ ends-line n s line lines script onward (Goes (Some next) steps text) is written 
 
     by : (b : Bool) → bytes_eq line (codes "stop") ≡ b → EndsBy b script.steps
     by false other = goes-on line lines steps next n script onward does placing stands is_ok
-    by true stop = absurd (let word = (bytes_eq-Decides line (codes "stop")).0 stop in let both : Goes (Some next) steps text ≡ Ends = sym is ∙ ap (next_of (Some s)) word ∙ stop-line s in cc both)
+    by true stop = absurd (let word = (bytes_eq-Decides line (codes "stop")).0 stop in
+        let both : Goes (Some next) steps text ≡ Ends = sym is ∙ ap (next_of (Some s)) word ∙ stop-line s in cc both)
 ends-line n s line lines script onward Ends is written word well stands is_ok =
     let same : record { shape = s.shape; steps = [] } ≡ script = cc is_ok in
     let stop = (bytes_eq-Decides line (codes "stop")).1 word in
@@ -158,12 +175,16 @@ ends-script (line ∷ lines) n s script is = by (is_skipped line) refl (ends-scr
   where
     by : (b : Bool) → is_skipped line ≡ b → Goal lines → EndsBy (is_over (line ∷ lines)) script.steps
     by true skipped onward =
-        let read : script_in (n + 1) (Some s) lines ≡ Ok script = sym (ap (λ (x : StepNext). from_line true (stands_well line lines) n (Some s) x (λ setting. script_in (n + 1) setting lines)) (skips line (Some s) skipped))
-        ∙ sym (ap (λ (b : Bool). from_line b (stands_well line lines) n (Some s) (next_of (Some s) line) (λ setting. script_in (n + 1) setting lines)) skipped) ∙ is in
+        let read : script_in (n + 1) (Some s) lines ≡ Ok script =
+        sym (ap (λ (x : StepNext). from_line true (stands_well line lines) n (Some s) x
+        (λ setting. script_in (n + 1) setting lines)) (skips line (Some s) skipped))
+        ∙ sym (ap (λ (b : Bool). from_line b (stands_well line lines) n (Some s) (next_of (Some s) line)
+        (λ setting. script_in (n + 1) setting lines)) skipped) ∙ is in
         rw skipped (onward (n + 1) s script read)
     by false written onward =
         rw written (ends-line n s line lines script onward (next_of (Some s) line) refl written (does line s written) (stands_well line lines) refl
-        (sym (ap (λ (b : Bool). from_line b (stands_well line lines) n (Some s) (next_of (Some s) line) (λ setting. script_in (n + 1) setting lines)) written) ∙ is))
+        (sym (ap (λ (b : Bool). from_line b (stands_well line lines) n (Some s) (next_of (Some s) line)
+        (λ setting. script_in (n + 1) setting lines)) written) ∙ is))
 
 -- ---- before the group line
 
@@ -194,7 +215,8 @@ places-first = refl
 abbrev pub GoalFirst : List (List ℕ) → Type 0
 GoalFirst lines = (n : ℕ) (script : Script) → script_in n None lines ≡ Ok script → EndsPlacing script.steps
 
-first-line : (n : ℕ) (line : List ℕ) (lines : List (List ℕ)) (script : Script) → GoalFirst lines → (next : StepNext) → next_of None line ≡ next → DoesFirst next → (well : Bool) → stands_well line lines ≡ well
+first-line : (n : ℕ) (line : List ℕ) (lines : List (List ℕ)) (script : Script) → GoalFirst lines → (next : StepNext)
+    → next_of None line ≡ next → DoesFirst next → (well : Bool) → stands_well line lines ≡ well
     → from_line false well n None next (λ setting. script_in (n + 1) setting lines) ≡ Ok script → EndsPlacing script.steps
 first-line n line lines script onward Ends is does well stands is_ok = absurd does
 first-line n line lines script onward (Refused cause) is does well stands is_ok = cc is_ok
@@ -208,7 +230,9 @@ first-line n line lines script onward (Goes (Some s) steps text) is does true we
     rest = behind-ok steps (script_in (n + 1) (Some s) lines) script is_ok
 
     by : (b : Bool) → is_over lines ≡ b → EndsPlacing script.steps
-    by true over = absurd (let word = (bytes_eq-Decides line (codes "places")).0 (stands line lines true over well) in let both : Goes (Some s) steps text ≡ Refused BadLine = sym is ∙ ap (next_of None) word ∙ places-first in cc both)
+    by true over = absurd (let word = (bytes_eq-Decides line (codes "places")).0 (stands line lines true over well) in
+        let both : Goes (Some s) steps text ≡ Refused BadLine = sym is ∙ ap (next_of None) word ∙ places-first in
+        cc both)
     by false over =
         let ends : EndsPlacing rest.0.steps = subst (λ (b : Bool). EndsBy b rest.0.steps) over (ends-script lines (n + 1) s rest.0 rest.1) in
         subst EndsPlacing rest.2 (subst (λ (st : List Step). EndsPlacing (st ++ rest.0.steps)) (sym does) ends)
@@ -218,7 +242,10 @@ ends-first [] n script is = cc is
 ends-first (line ∷ lines) n script is = by (is_skipped line) refl (ends-first lines)
   where
     by : (b : Bool) → is_skipped line ≡ b → GoalFirst lines → EndsPlacing script.steps
-    by true skipped onward = onward (n + 1) script (sym (ap (λ (x : StepNext). from_line true (stands_well line lines) n None x (λ setting. script_in (n + 1) setting lines)) (skips line None skipped))
+    by true skipped onward =
+        onward (n + 1) script
+        (sym (ap (λ (x : StepNext). from_line true (stands_well line lines) n None x
+        (λ setting. script_in (n + 1) setting lines)) (skips line None skipped))
         ∙ sym (ap (λ (b : Bool). from_line b (stands_well line lines) n None (next_of None line) (λ setting. script_in (n + 1) setting lines)) skipped) ∙ is)
     by false written onward = first-line n line lines script onward (next_of None line) refl (does-first (line_of None line)) (stands_well line lines) refl
         (sym (ap (λ (b : Bool). from_line b (stands_well line lines) n None (next_of None line) (λ setting. script_in (n + 1) setting lines)) written) ∙ is)
@@ -232,7 +259,8 @@ joined-ok n (Ok script) (Some lines) sheet is = let same : record { script = scr
 pub ends-read : (text : List ℕ) (sheet : Sheet) → sheet_of text ≡ Ok sheet → EndsPlacing sheet.script.steps
 ends-read text sheet is =
     let lines : List (List ℕ) = lines_of text in
-    ends-first (before_separator lines) 1 sheet.script (joined-ok (length lines + 1) (script_in 1 None (before_separator lines)) (behind_separator lines) sheet is)
+    ends-first (before_separator lines) 1 sheet.script
+    (joined-ok (length lines + 1) (script_in 1 None (before_separator lines)) (behind_separator lines) sheet is)
 
 -- steps each of which keeps to what is wanted of it
 pub fit-all : (s : Dimensions) (P : Step → Type 0) → ((step : Step) → P step → FitsStep s step) → (steps : List Step) → All P steps → FitSteps s steps

@@ -28,14 +28,20 @@ no_reply : (line text other : List ℕ) → line ≡ other → line ≡ codes "r
 no_reply line text other is l differs = differs (ap third (sym is ∙ l))
 
 -- the same reply, told by its text
-there-of : (o : Option Reply) (name : CallName) (r : Reply) (text : List ℕ) (ahead : List (List ℕ)) → FitsReply r → reply_text r ≡ text → IsThere o name r ahead → IsTextThere o (front_of name) text ahead
+there-of : (o : Option Reply) (name : CallName) (r : Reply) (text : List ℕ) (ahead : List (List ℕ)) → FitsReply r
+    → reply_text r ≡ text → IsThere o name r ahead → IsTextThere o (front_of name) text ahead
 there-of (Some logged) name r text ahead fits same is = (subst FitsReply (sym is) fits, ap reply_text is ∙ same)
 there-of None name r text ahead fits same is = subst (λ (t : List ℕ). LogsAhead (front_of name) t ahead) same is
 
-tells-of : (a : Account) (e : Event) (r : Reply) (text : List ℕ) (ahead : List (List ℕ)) → FitsReply r → reply_text r ≡ text → IsReplyTo a e r ahead → TellsReplyTo a e text ahead
+tells-of : (a : Account) (e : Event) (r : Reply) (text : List ℕ) (ahead : List (List ℕ)) → FitsReply r
+    → reply_text r ≡ text → IsReplyTo a e r ahead → TellsReplyTo a e text ahead
 tells-of a (happens.Ask caller op at) r text ahead fits same is = subst (λ (t : List ℕ). LogsAhead (front_of (next_name a caller)) t ahead) same is
-tells-of a (happens.Collect caller call at) r text ahead fits same is = there-of (logged_reply a (record { caller = caller; call = call })) (record { caller = caller; call = call }) r text ahead fits same is
-tells-of a (happens.Trace caller call partition at) r text ahead fits same is = there-of (logged_reply a (record { caller = caller; call = call })) (record { caller = caller; call = call }) r text ahead fits same is
+tells-of a (happens.Collect caller call at) r text ahead fits same is =
+    there-of (logged_reply a (record { caller = caller; call = call })) (record { caller = caller; call = call }) r text
+    ahead fits same is
+tells-of a (happens.Trace caller call partition at) r text ahead fits same is =
+    there-of (logged_reply a (record { caller = caller; call = call })) (record { caller = caller; call = call }) r text
+    ahead fits same is
 tells-of a (happens.Deliver from to) r text ahead fits same is = absurd is
 tells-of a (happens.Fail at keep) r text ahead fits same is = absurd is
 tells-of a (happens.Flush at) r text ahead fits same is = absurd is
@@ -44,26 +50,37 @@ tells-of a (happens.Flush at) r text ahead fits same is = absurd is
 abbrev HasRight : Account → Event → List ℕ → List (List ℕ) → Type 0
 HasRight a e text ahead = (r : Reply) × FitsReply r × (reply_text r ≡ text) × IsReplyTo a e r ahead
 
-right-there : (o : Option Reply) (name : CallName) (r : Reply) (text : List ℕ) (ahead : List (List ℕ)) → FitsReply r → reply_text r ≡ text → IsTextThere o (front_of name) text ahead
+right-there : (o : Option Reply) (name : CallName) (r : Reply) (text : List ℕ) (ahead : List (List ℕ)) → FitsReply r
+    → reply_text r ≡ text → IsTextThere o (front_of name) text ahead
     → (x : Reply) × FitsReply x × (reply_text x ≡ text) × IsThere o name x ahead
 right-there (Some logged) name r text ahead fits same is = (logged, is.0, is.1, refl)
 right-there None name r text ahead fits same is = (r, fits, same, subst (λ (t : List ℕ). LogsAhead (front_of name) t ahead) (sym same) is)
 
-has-right : (a : Account) (e : Event) (r : Reply) (text : List ℕ) (ahead : List (List ℕ)) → FitsReply r → reply_text r ≡ text → TellsReplyTo a e text ahead → HasRight a e text ahead
-has-right a (happens.Ask caller op at) r text ahead fits same is = (r, fits, same, subst (λ (t : List ℕ). LogsAhead (front_of (next_name a caller)) t ahead) (sym same) is)
-has-right a (happens.Collect caller call at) r text ahead fits same is = right-there (logged_reply a (record { caller = caller; call = call })) (record { caller = caller; call = call }) r text ahead fits same is
-has-right a (happens.Trace caller call partition at) r text ahead fits same is = right-there (logged_reply a (record { caller = caller; call = call })) (record { caller = caller; call = call }) r text ahead fits same is
+has-right : (a : Account) (e : Event) (r : Reply) (text : List ℕ) (ahead : List (List ℕ)) → FitsReply r
+    → reply_text r ≡ text → TellsReplyTo a e text ahead → HasRight a e text ahead
+has-right a (happens.Ask caller op at) r text ahead fits same is =
+    (r, fits, same, subst (λ (t : List ℕ). LogsAhead (front_of (next_name a caller)) t ahead) (sym same) is)
+has-right a (happens.Collect caller call at) r text ahead fits same is =
+    right-there (logged_reply a (record { caller = caller; call = call })) (record { caller = caller; call = call }) r
+    text ahead fits same is
+has-right a (happens.Trace caller call partition at) r text ahead fits same is =
+    right-there (logged_reply a (record { caller = caller; call = call })) (record { caller = caller; call = call }) r
+    text ahead fits same is
 has-right a (happens.Deliver from to) r text ahead fits same is = absurd is
 has-right a (happens.Fail at keep) r text ahead fits same is = absurd is
 has-right a (happens.Flush at) r text ahead fits same is = absurd is
 
 -- no answer that the event can have has the line
-pub none_said : (a : Account) (e : Event) (line : List ℕ) (ahead : List (List ℕ)) → IsSaid (kind_of e) line None → (next : Account) → ¬ (IsAnswered a e line ahead next)
+pub none_said : (a : Account) (e : Event) (line : List ℕ) (ahead : List (List ℕ)) → IsSaid (kind_of e) line None
+    → (next : Account) → ¬ (IsAnswered a e line ahead next)
 none_said a e line ahead none next (answer, is, same) = none answer is.can is.fits (sym is.text)
 
 -- an answer whose line begins with `reply ` is that reply
-only_reply : (a : Account) (e : Event) (line text : List ℕ) (ahead : List (List ℕ)) (answer : Answer) → line ≡ codes "reply " ++ text → Answers a e line ahead answer → TellsReplyTo a e text ahead
-only_reply a e line text ahead (answered.Reply r) l is = tells-of a e r text ahead is.fits (append_cancel_left (codes "reply ") (reply_text r) text (sym is.text ∙ l)) is.right
+only_reply : (a : Account) (e : Event) (line text : List ℕ) (ahead : List (List ℕ)) (answer : Answer)
+    → line ≡ codes "reply " ++ text → Answers a e line ahead answer → TellsReplyTo a e text ahead
+only_reply a e line text ahead (answered.Reply r) l is =
+    tells-of a e r text ahead is.fits (append_cancel_left (codes "reply ") (reply_text r) text (sym is.text ∙ l))
+    is.right
 only_reply a e line text ahead (answered.Ticket n) l is = absurd (no_reply line text _ is.text l (λ same. omega (arith, same)))
 only_reply a e line text ahead (answered.Retry (Pending d n)) l is = absurd (no_reply line text _ is.text l (λ same. omega (arith, same)))
 only_reply a e line text ahead (answered.Retry (Block b)) l is = absurd (no_reply line text _ is.text l (λ same. omega (arith, same)))
@@ -92,7 +109,13 @@ module _ (a : Account) (e : Event) (line : List ℕ) (ahead : List (List ℕ)) (
       let (answer, may, fits, same, (r, is, word)) = says in
       let (x, x_fits, x_text, right) = has-right a e r text.now ahead (subst FitsAnswer is fits) word tells in (
         answered.Reply x,
-        record { can = subst (MayAnswer (kind_of e)) is may; fits = x_fits; text = the-line ∙ ap (λ (t : List ℕ). codes "reply " ++ t) (sym x_text); right = right },
+        record {
+          can = subst (MayAnswer (kind_of e)) is may;
+          fits = x_fits;
+          text = the-line
+              ∙ ap (λ (t : List ℕ). codes "reply " ++ t) (sym x_text);
+          right = right;
+        },
         refl,
       )
 
@@ -129,16 +152,35 @@ taken-else answered.Done other = refl
 taken-else answered.AlreadyDead other = refl
 taken-else answered.Gone other = refl
 
-pub ticket_said : (a : Account) (e : Event) (line : List ℕ) (ahead : List (List ℕ)) → IsSaid (kind_of e) line (Some said.Ticket) → IsAnswered a e line ahead (after_event a e true)
-ticket_said a e line ahead (answer, may, fits, same, (n, is)) =
-    (answered.Ticket n, record { can = subst (MayAnswer (kind_of e)) is may; fits = subst FitsAnswer is fits; text = sym same ∙ ap answer_text is; right = tt }, refl)
+pub ticket_said : (a : Account) (e : Event) (line : List ℕ) (ahead : List (List ℕ))
+    → IsSaid (kind_of e) line (Some said.Ticket) → IsAnswered a e line ahead (after_event a e true)
+ticket_said a e line ahead (answer, may, fits, same, (n, is)) = (
+  answered.Ticket n,
+  record {
+    can = subst (MayAnswer (kind_of e)) is may;
+    fits = subst FitsAnswer is fits;
+    text = sym same ∙ ap answer_text is;
+    right = tt;
+  },
+  refl,
+)
 
-pub other_said : (a : Account) (e : Event) (line : List ℕ) (ahead : List (List ℕ)) → IsSaid (kind_of e) line (Some said.Other) → IsAnswered a e line ahead (after_event a e false)
-other_said a e line ahead (answer, may, fits, same, other) =
-    (answer, record { can = may; fits = fits; text = sym same; right = right-else a e answer ahead (λ r is. other (inl (r, is))) }, ap (after_event a e) (sym (taken-else answer other)))
+pub other_said : (a : Account) (e : Event) (line : List ℕ) (ahead : List (List ℕ))
+    → IsSaid (kind_of e) line (Some said.Other) → IsAnswered a e line ahead (after_event a e false)
+other_said a e line ahead (answer, may, fits, same, other) = (
+  answer,
+  record {
+    can = may;
+    fits = fits;
+    text = sym same;
+    right = right-else a e answer ahead (λ r is. other (inl (r, is)));
+  },
+  ap (after_event a e) (sym (taken-else answer other)),
+)
 
 -- what was done is good
-pub judged : {X E : Type 0} (Good : X → Type 0) (now x : X) (result : Result Bool E) → IfOk result (λ goes. goes ≡ true) → OnOk result (now ≡ x) → Good x → Judges Good now result
+pub judged : {X E : Type 0} (Good : X → Type 0) (now x : X) (result : Result Bool E) → IfOk result (λ goes. goes ≡ true)
+    → OnOk result (now ≡ x) → Good x → Judges Good now result
 judged Good now x (Ok true) goes is good = subst Good (sym is) good
 judged Good now x (Ok false) goes is good = absurd (cc goes)
 judged Good now x (Err e) goes is good = tt

@@ -44,15 +44,24 @@ module _ (s : Dimensions) (d number len : ℕ) where
   among-none (p ∷ ps) none = inr (none zero p (omega arith), among-none ps (λ i e below. none (suc i) e (omega arith)))
 
   -- the one at a place is the first that does
-  among-at : (ps : List Place) (r : ℕ) (p : Place) → r < length ps → p ≡ get_or ps r p → ((i : ℕ) (e : Place) → i < r → ¬ (Names s d number len (get_or ps i e))) → Names s d number len p → IsRunAmong ps s d number len (Some p.run)
+  among-at : (ps : List Place) (r : ℕ) (p : Place) → r < length ps → p ≡ get_or ps r p
+      → ((i : ℕ) (e : Place) → i < r → ¬ (Names s d number len (get_or ps i e))) → Names s d number len p
+      → IsRunAmong ps s d number len (Some p.run)
   among-at [] r p below here none names = absurd (omega arith)
   among-at (q ∷ ps) zero p below here none names = inl (subst (Names s d number len) here names, ap (λ (x : Place). Some x.run) here)
-  among-at (q ∷ ps) (suc r) p below here none names = inr (none zero p (omega arith), among-at ps r p (omega arith) here (λ i e less. none (suc i) e (omega arith)) names)
+  among-at (q ∷ ps) (suc r) p below here none names =
+      inr (
+        none zero p (omega arith),
+        among-at ps r p (omega arith) here (λ i e less. none (suc i) e (omega arith))
+            names,
+      )
 
   rank-is : (p : Place) → Names s d number len p → rank p ≡ rank_of d number
   rank-is p names = cc (names.partition, names.number_is)
 
-  module _ (ps : List Place) (rise : Rise ps) (r : ℕ) (parted : IsPartitionPoint (λ (p : Place). ltb (rank p) (rank_of d number) ≡ true) (λ (p : Place). ltb (rank p) (rank_of d number) ≡ false) ps r) where
+  module _ (ps : List Place) (rise : Rise ps) (r : ℕ)
+      (parted : IsPartitionPoint (λ (p : Place). ltb (rank p) (rank_of d number) ≡ true)
+      (λ (p : Place). ltb (rank p) (rank_of d number) ≡ false) ps r) where
     below-not : (i : ℕ) (e : Place) → i < r → ¬ (Names s d number len (get_or ps i e))
     below-not i e less names = let low = ltb-true _ _ (parted.0 i e (omega arith) less) in let same = rank-is (get_or ps i e) names in omega (arith, low, same)
 
@@ -71,7 +80,9 @@ module _ (s : Dimensions) (d number len : ℕ) where
       by : (i : ℕ) (e : Place) → i < length ps → (i < r) ⊎ (r ≤ i) → (r < i) ⊎ (i ≤ r) → ¬ (Names s d number len (get_or ps i e))
       by i e below (inl less) _ = below-not i e less
       by i e below (inr least) (inl more) = at-not i e more below
-      by i e below (inr least) (inr most) = let same : i ≡ r = omega (arith, least, most) in λ names. not e (omega (arith, same, below)) (subst (λ (k : ℕ). Names s d number len (get_or ps k e)) same names)
+      by i e below (inr least) (inr most) = let same : i ≡ r = omega (arith, least, most) in
+          λ names. not e (omega (arith, same, below)) (subst (λ (k : ℕ). Names s d number len (get_or ps k e)) same
+          names)
 
     pub found_end : r ≡ length ps → IsRunAmong ps s d number len None
     found_end end = found-not (λ e below. absurd (omega (arith, end, below)))

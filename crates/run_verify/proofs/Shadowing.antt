@@ -1,5 +1,6 @@
 -- Shadows of spaces, which follow the changes of their partitions.
-use Rattle.std.proofs.Common.{◌≡◌, ◌≢◌, ◌<◌, ◌≤◌, ◌+◌, ◌-◌, ◌%◌, ◌⊎◌, inl, inr, ℕ, List, [], ◌∷◌, ◌++◌, drop, get_or, length, replicate, set, take, refl, sym, ap, ◌∙◌, subst, arith}
+use Rattle.std.proofs.Common.{◌≡◌, ◌≢◌, ◌<◌, ◌≤◌, ◌+◌, ◌-◌, ◌%◌, ◌⊎◌, inl, inr, ℕ, List, [], ◌∷◌, ◌++◌, drop, get_or}
+use Rattle.std.proofs.Common.{length, replicate, set, take, refl, sym, ap, ◌∙◌, subst, arith}
 use Rattle.std.proofs.Math.Seq.{take-add}
 use Rattle.std.proofs.lemmas.Bool.{cases_lt}
 use Rattle.std.proofs.lemmas.Grind.{get_or-set_at}
@@ -18,16 +19,20 @@ after-append space [] ys = refl
 after-append space (x ∷ xs) ys = after-append (written_by x.effect space) xs ys
 
 -- a space behind some changes, with those written that follow
-pub went_on : (s : Dimensions) (changes : List Change) (a n : ℕ) (old now : List ℕ) → length old ≡ space_of s → a ≤ n → old ≡ space_after (replicate (length old) 0) (take a changes)
+pub went_on : (s : Dimensions) (changes : List Change) (a n : ℕ) (old now : List ℕ) → length old ≡ space_of s → a ≤ n
+    → old ≡ space_after (replicate (length old) 0) (take a changes)
     → now ≡ space_after old (take (n - a) (drop a changes)) → now ≡ space_behind s (take n changes)
 went_on s changes a n old now long low before written =
-    let whole : take a changes ++ take (n - a) (drop a changes) ≡ take n changes = sym (take-add a (n - a) changes) ∙ ap (λ (k : ℕ). take k changes) (let e : a + (n - a) ≡ n = omega (arith, low) in e) in
+    let whole : take a changes ++ take (n - a) (drop a changes) ≡ take n changes = sym (take-add a (n - a) changes)
+    ∙ ap (λ (k : ℕ). take k changes) (let e : a + (n - a) ≡ n = omega (arith, low) in e) in
     written
     ∙ ap (λ (space : List ℕ). space_after space (take (n - a) (drop a changes))) (before ∙ ap (λ (k : ℕ). space_after (replicate k 0) (take a changes)) long)
     ∙ sym (after-append (replicate (space_of s) 0) (take a changes) (take (n - a) (drop a changes)))
     ∙ ap (space_after (replicate (space_of s) 0)) whole
 
-pub follows_on : (s : Dimensions) (changes : List Change) (shadow : Shadow) → shadow.number ≤ length changes → length shadow.space.items ≡ space_of s → shadow.space.items ≡ space_behind s (take shadow.number changes) → Follows changes shadow
+pub follows_on : (s : Dimensions) (changes : List Change) (shadow : Shadow) → shadow.number ≤ length changes
+    → length shadow.space.items ≡ space_of s → shadow.space.items ≡ space_behind s (take shadow.number changes)
+    → Follows changes shadow
 follows_on s changes shadow within long is = record {
   within = within;
   space = is ∙ ap (λ (k : ℕ). space_after (replicate k 0) (take shadow.number changes)) (sym long);
@@ -35,14 +40,16 @@ follows_on s changes shadow within long is = record {
 
 -- ---- all shadows
 
-pub follow_pushed : (changes : List (List Change)) (shadows : List Shadow) (new : Shadow) → ((cs : List Change) → Follows cs new) → AllFollow changes shadows → AllFollow changes (shadows ++ new ∷ [])
+pub follow_pushed : (changes : List (List Change)) (shadows : List Shadow) (new : Shadow)
+    → ((cs : List Change) → Follows cs new) → AllFollow changes shadows → AllFollow changes (shadows ++ new ∷ [])
 follow_pushed changes shadows new fresh all i d below = by (cases_lt i (length shadows)) where
   by : (i < length shadows) ⊎ (length shadows ≤ i) → Follows (at [] changes (i % 16)) (get_or (shadows ++ new ∷ []) i d)
   by (inl less) = subst (Follows (at [] changes (i % 16))) (sym (get_or_append_left shadows (new ∷ []) d i less)) (all i d less)
   by (inr more) =
       let whole = length-append shadows (new ∷ []) in
       let place : i - length shadows ≡ 0 = omega (arith, below, whole, more) in
-      let is : get_or (shadows ++ new ∷ []) i d ≡ new = get_or-append_right shadows (new ∷ []) (length shadows) i d refl more ∙ ap (λ (k : ℕ). get_or (new ∷ []) k d) place in
+      let is : get_or (shadows ++ new ∷ []) i d ≡ new = get_or-append_right shadows (new ∷ []) (length shadows) i d refl
+      more ∙ ap (λ (k : ℕ). get_or (new ∷ []) k d) place in
       subst (Follows (at [] changes (i % 16))) (sym is) (fresh (at [] changes (i % 16)))
 
 module _ (changes : List (List Change)) (shadows : List Shadow) (place : ℕ) (new : Shadow) (there : place < length shadows) where
@@ -59,9 +66,11 @@ module _ (changes : List (List Change)) (shadows : List Shadow) (place : ℕ) (n
     by (inr low) (inl more) = other (λ same. omega (arith, more, same))
     by (inr low) (inr high) =
         let same : i ≡ place = omega (arith, low, high) in
-        subst (Follows (at [] changes (i % 16))) (sym (get_or-set_at shadows place i new d same there)) (subst (λ (k : ℕ). Follows (at [] changes (k % 16)) new) (sym same) fresh)
+        subst (Follows (at [] changes (i % 16))) (sym (get_or-set_at shadows place i new d same there))
+        (subst (λ (k : ℕ). Follows (at [] changes (k % 16)) new) (sym same) fresh)
 
-  pub shadow_there : (s : Dimensions) (d n : ℕ) → new.space.items ≡ spaces_in s changes d n → length new.space.items ≡ space_of s → IsShadowAt s changes d n (set shadows place new) place
+  pub shadow_there : (s : Dimensions) (d n : ℕ) → new.space.items ≡ spaces_in s changes d n
+      → length new.space.items ≡ space_of s → IsShadowAt s changes d n (set shadows place new) place
   shadow_there s d n is long = record {
     within = let same = length-set shadows place new in omega (arith, same, there);
     space = λ e. ap (λ (x : Shadow). x.space.items) (get_or-set_at shadows place place new e refl there) ∙ is;
@@ -83,7 +92,8 @@ follow_more changes now shadows more all i d below =
 
 -- ---- more changes
 
-more-at : (ls : List (List Change)) (i d : ℕ) (xs more : List Change) → xs ≡ at [] ls i ++ more → (d ≡ i) ⊎ (d ≢ i) → (new : List Change) × (at [] (put [] ls i xs) d ≡ at [] ls d ++ new)
+more-at : (ls : List (List Change)) (i d : ℕ) (xs more : List Change) → xs ≡ at [] ls i ++ more → (d ≡ i) ⊎ (d ≢ i)
+    → (new : List Change) × (at [] (put [] ls i xs) d ≡ at [] ls d ++ new)
 more-at ls i d xs more is (inl same) = (
   more,
   ap (λ (k : ℕ). at [] (put [] ls i xs) k) same ∙ at-put [] [] ls i xs ∙ is ∙ ap (λ (k : ℕ). at [] ls k ++ more) (sym same),

@@ -22,14 +22,19 @@ stamp_same (n ∷ []) (m ∷ k ∷ ks) fn fm long same = absurd (omega (arith, l
 stamp_same (n ∷ k ∷ ks) (m ∷ []) fn fm long same = absurd (omega (arith, long))
 stamp_same (n ∷ k ∷ ks) (m ∷ j ∷ js) fn fm long same =
     let a = All-head FitsNumber n (k ∷ ks) fn in let b = All-head FitsNumber m (j ∷ js) fm in
-    let both = cut_same 44 (decimal n) (decimal m) (decimal k ++ behind_commas ks) (decimal j ++ behind_commas js) (Lacks-decimal 44 n (omega arith) a) (Lacks-decimal 44 m (omega arith) b) same in
+    let both = cut_same 44 (decimal n) (decimal m) (decimal k ++ behind_commas ks) (decimal j ++ behind_commas js)
+    (Lacks-decimal 44 n (omega arith) a) (Lacks-decimal 44 m (omega arith) b) same in
     let rest = stamp_same (k ∷ ks) (j ∷ js) (All-tail FitsNumber n (k ∷ ks) fn) (All-tail FitsNumber m (j ∷ js) fm) (omega (arith, long)) both.1 in
     ap (λ (x : ℕ). x ∷ k ∷ ks) (decimal_injective n m a b both.0) ∙ ap (λ (xs : List ℕ). m ∷ xs) rest
 
 -- so of a line
-pub shows_same : (line : List ℕ) (ns ms v w : List ℕ) → All FitsNumber ns → All FitsNumber ms → length ns ≡ length ms → Shows line ns v → Shows line ms w → (ns ≡ ms) × (v ≡ w)
+pub shows_same : (line : List ℕ) (ns ms v w : List ℕ) → All FitsNumber ns → All FitsNumber ms → length ns ≡ length ms
+    → Shows line ns v → Shows line ms w → (ns ≡ ms) × (v ≡ w)
 shows_same line ns ms v w fn fm long a b =
-    let left : codes "shown " ++ (stamp_text ns ++ 32 ∷ v) ≡ line = ap (λ (t : List ℕ). codes "shown " ++ t) (sym (append_assoc (stamp_text ns) (32 ∷ []) v)) ∙ a in
-    let right : codes "shown " ++ (stamp_text ms ++ 32 ∷ w) ≡ line = ap (λ (t : List ℕ). codes "shown " ++ t) (sym (append_assoc (stamp_text ms) (32 ∷ []) w)) ∙ b in
-    let both = cut_same 32 (stamp_text ns) (stamp_text ms) v w (Lacks-stamp ns fn) (Lacks-stamp ms fm) (append_cancel_left (codes "shown ") _ _ (left ∙ sym right)) in
+    let left : codes "shown " ++ (stamp_text ns ++ 32 ∷ v) ≡ line = ap (λ (t : List ℕ). codes "shown " ++ t)
+    (sym (append_assoc (stamp_text ns) (32 ∷ []) v)) ∙ a in
+    let right : codes "shown " ++ (stamp_text ms ++ 32 ∷ w) ≡ line = ap (λ (t : List ℕ). codes "shown " ++ t)
+    (sym (append_assoc (stamp_text ms) (32 ∷ []) w)) ∙ b in
+    let both = cut_same 32 (stamp_text ns) (stamp_text ms) v w (Lacks-stamp ns fn) (Lacks-stamp ms fm)
+    (append_cancel_left (codes "shown ") _ _ (left ∙ sym right)) in
     (stamp_same ns ms fn fm long both.0, both.1)

@@ -22,11 +22,18 @@ fits-step s (Look p run) is = is.0
 fits-step s Placing is = tt
 
 -- the sheet that was read
-module _ (text : List ℕ) (sheet : Sheet) (read : sheet_of text ≡ Ok sheet) (steps : All (IsStepOf sheet.script.shape) sheet.script.steps) (few : length sheet.script.steps < 2 ^ 64) where
+module _ (text : List ℕ) (sheet : Sheet) (read : sheet_of text ≡ Ok sheet)
+    (steps : All (IsStepOf sheet.script.shape) sheet.script.steps) (few : length sheet.script.steps < 2 ^ 64) where
   plain : IsPlain sheet.script
-  plain = record { fits = fit-all sheet.script.shape (IsStepOf sheet.script.shape) (fits-step sheet.script.shape) sheet.script.steps steps; few = few; ends = ends-read text sheet read }
+  plain = record {
+    fits = fit-all sheet.script.shape (IsStepOf sheet.script.shape) (fits-step sheet.script.shape)
+        sheet.script.steps steps;
+    few = few;
+    ends = ends-read text sheet read;
+  }
 
   pub verdict_of : (v : Verdict) → IsJudged sheet v → IsVerdictOf text (Ok v)
   verdict_of (Verified many shows) (account, passes, entries, shown) =
       (sheet, read, record { account = account; passes = passes; entries = entries; shown = shown; checked = passes-checked sheet account plain passes })
-  verdict_of (Refused n) (m, is, fails) = let same : n ≡ m = omega (arith, is) in (sheet, read, subst (λ (k : ℕ). FailsAt sheet k (first_state sheet.script) sheet.lines) (sym same) fails)
+  verdict_of (Refused n) (m, is, fails) = let same : n ≡ m = omega (arith, is) in
+      (sheet, read, subst (λ (k : ℕ). FailsAt sheet k (first_state sheet.script) sheet.lines) (sym same) fails)

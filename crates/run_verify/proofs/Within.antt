@@ -1,5 +1,6 @@
 -- An account stays right for its group, line by line.
-use Rattle.std.proofs.Common.{◌≡◌, ◌≢◌, ◌⊎◌, inl, inr, ◌<◌, ◌≤◌, ◌+◌, ℕ, zero, suc, Bool, true, false, List, [], ◌∷◌, ◌++◌, ◌∙◌, Option, length, slice_index, refl, sym, ap, subst, arith}
+use Rattle.std.proofs.Common.{◌≡◌, ◌≢◌, ◌⊎◌, inl, inr, ◌<◌, ◌≤◌, ◌+◌, ℕ, zero, suc, Bool, true, false, List, [], ◌∷◌}
+use Rattle.std.proofs.Common.{◌++◌, ◌∙◌, Option, length, slice_index, refl, sym, ap, subst, arith}
 use Rattle.std.proofs.lemmas.List.{length-append, length-replicate}
 use Rattle.std.proofs.lemmas.List.Elements.{All-head, All-nil, All-push, All-replicate, All-set, All-tail, All-weaker}
 use Rattle.std.specs.Prelude.{All}
@@ -19,7 +20,9 @@ use Rattle.group_calls.specs.declared.entry.Entry.{Entry}
 use Rattle.group_calls.specs.declared.event.Event.{Event}
 use Rattle.group_calls.specs.declared.event.Event.TheVariants as happens
 use Rattle.run_verify.specs.Courses.{IsWithin, state_of}
-use Rattle.run_verify.specs.Passing.{Account, IsRunIn, IsToldFor, IsToldRun, PassesBy, State, after_answer, after_entry, after_event, change_of, changes_at, effect_of, first_account, is_taken, part_of, value_in, with_change, with_shown}
+use Rattle.run_verify.specs.Passing.{Account, IsRunIn, IsToldFor, IsToldRun, PassesBy, State, after_answer, after_entry}
+use Rattle.run_verify.specs.Passing.{after_event, change_of, changes_at, effect_of, first_account, is_taken, part_of}
+use Rattle.run_verify.specs.Passing.{value_in, with_change, with_shown}
 use Rattle.run_verify.specs.Sheet.{Sheet}
 use Rattle.run_verify.specs.Showing.{IsFitChange, IsFitEffect}
 use Rattle.run_verify.specs.declared.change.Change.{Change}
@@ -41,11 +44,13 @@ more-low n counts all = All-weaker (λ count. count ≤ n) (λ count. count ≤ 
 ruled-low : (n : ℕ) (t : Contents) (key : List ℕ) (r : Ruling) → All (λ count. count ≤ n) t.counts → All (λ count. count ≤ n + 1) (after_ruling t key r).counts
 ruled-low n t key (Refused reply) all = more-low n t.counts all
 ruled-low n t key (Accepted reply leaves) all =
-    All-set (λ count. count ≤ n + 1) t.counts (partition_of t key) (count_of t key + 1) (let here = low-at n t.counts (partition_of t key) all in omega (arith, here)) (more-low n t.counts all)
+    All-set (λ count. count ≤ n + 1) t.counts (partition_of t key) (count_of t key + 1)
+    (let here = low-at n t.counts (partition_of t key) all in omega (arith, here)) (more-low n t.counts all)
 
 -- ---- the changes
 
-run-fits : (s : Dimensions) (d number : ℕ) (value : List ℕ) (run : Option Run) (lines : List (List ℕ)) → IsRunIn lines s d number (length value) run → IsFitEffect s (Writes value run)
+run-fits : (s : Dimensions) (d number : ℕ) (value : List ℕ) (run : Option Run) (lines : List (List ℕ))
+    → IsRunIn lines s d number (length value) run → IsFitEffect s (Writes value run)
 run-fits s d number value run [] none = subst (λ (r : Option Run). IsFitEffect s (Writes value r)) (sym none) tt
 run-fits s d number value run (line ∷ lines) (inl (r, text, fits, same)) = subst (λ (x : Option Run). IsFitEffect s (Writes value x)) (sym same) fits
 run-fits s d number value run (line ∷ lines) (inr (other, more)) = run-fits s d number value run lines more
@@ -102,7 +107,8 @@ module _ (sheet : Sheet) (shape : IsShape sheet.script.shape) (n : ℕ) (a : Acc
         let value : List ℕ = value_in ((table_after a.table e.op).items (key_of e.op.act)) in
         let here : IsFitChange s (change_of a e run) = effect-fits sheet d (length (changes_at a d) + 1) value run e.op.act told in
         all-put (All (IsFitChange s)) a.changes d (at [] a.changes d ++ change_of a e run ∷ []) below
-        (All-push (IsFitChange s) (at [] a.changes d) (change_of a e run) (all-at (All (IsFitChange s)) a.changes d (All-nil (IsFitChange s)) within.fit) here) within.fit
+        (All-push (IsFitChange s) (at [] a.changes d) (change_of a e run)
+        (all-at (All (IsFitChange s)) a.changes d (All-nil (IsFitChange s)) within.fit) here) within.fit
     fit-kept false told = within.fit
 
     few-kept : (b : Bool) → All (λ (cs : List Change). length cs ≤ n + 1) (with_change b d (change_of a e run) a.changes)
@@ -126,7 +132,8 @@ module _ (sheet : Sheet) (shape : IsShape sheet.script.shape) (n : ℕ) (a : Acc
     }
 
   -- behind a line that changes neither the table nor the changes
-  within-like : (b : Account) → b.table ≡ a.table → b.changes ≡ a.changes → b.entries ≡ a.entries → b.placed ≡ a.placed → b.shown ≤ a.shown + 1 → IsWithin sheet.script.shape (n + 1) b
+  within-like : (b : Account) → b.table ≡ a.table → b.changes ≡ a.changes → b.entries ≡ a.entries → b.placed ≡ a.placed
+      → b.shown ≤ a.shown + 1 → IsWithin sheet.script.shape (n + 1) b
   unfolding s
   within-like b table changes entries placed shown = record {
     partitions = ap length changes ∙ within.partitions;
@@ -150,13 +157,21 @@ module _ (sheet : Sheet) (shape : IsShape sheet.script.shape) (n : ℕ) (a : Acc
   within-state b next here same = subst (IsWithin sheet.script.shape (n + 1)) (sym same) here
 
   -- behind each line that passes where the places aren't in turn, or that is one of the log
-  pub within_next : (is_log : Bool) (step : Step) (steps : List Step) (logging : Bool) (line : List ℕ) (ahead : List (List ℕ)) (next : State) → (is_log ≡ true) ⊎ (step ≢ Placing)
+  pub within_next : (is_log : Bool) (step : Step) (steps : List Step) (logging : Bool) (line : List ℕ)
+      (ahead : List (List ℕ)) (next : State) → (is_log ≡ true) ⊎ (step ≢ Placing)
       → PassesBy is_log sheet (state_of a (step ∷ steps) logging) line ahead next → IsWithin sheet.script.shape (n + 1) next.account
-  within_next true step steps logging line ahead next which (may, e, run, tells, told, same) = within-state (after_entry sheet a e run) next (within_entry e run told) (ap (λ (x : State). x.account) same)
-  within_next false (Make event) steps logging line ahead next which (answer, answers, same) = within-state (after_answer a event answer) next (within-event event (is_taken answer)) (ap (λ (x : State). x.account) same)
-  within_next false Deliveries steps logging line ahead next which (m, low, is, same) = within-state a next (within-like a refl refl refl refl (omega arith)) (ap (λ (x : State). x.account) same)
-  within_next false (Look p run) steps logging line ahead next which (inl (tells, same)) = within-state (with_shown a) next (within-like (with_shown a) refl refl refl refl (omega arith)) (ap (λ (x : State). x.account) same)
-  within_next false (Look p run) steps logging line ahead next which (inr (lost, same)) = within-state a next (within-like a refl refl refl refl (omega arith)) (ap (λ (x : State). x.account) same)
+  within_next true step steps logging line ahead next which (may, e, run, tells, told, same) =
+      within-state (after_entry sheet a e run) next (within_entry e run told) (ap (λ (x : State). x.account) same)
+  within_next false (Make event) steps logging line ahead next which (answer, answers, same) =
+      within-state (after_answer a event answer) next (within-event event (is_taken answer))
+      (ap (λ (x : State). x.account) same)
+  within_next false Deliveries steps logging line ahead next which (m, low, is, same) =
+      within-state a next (within-like a refl refl refl refl (omega arith)) (ap (λ (x : State). x.account) same)
+  within_next false (Look p run) steps logging line ahead next which (inl (tells, same)) =
+      within-state (with_shown a) next (within-like (with_shown a) refl refl refl refl (omega arith))
+      (ap (λ (x : State). x.account) same)
+  within_next false (Look p run) steps logging line ahead next which (inr (lost, same)) =
+      within-state a next (within-like a refl refl refl refl (omega arith)) (ap (λ (x : State). x.account) same)
   within_next false Placing steps logging line ahead next (inl log) passes = absurd (cc log)
   within_next false Placing steps logging line ahead next (inr other) passes = absurd (other refl)
 

@@ -21,7 +21,8 @@ pub one-more : (n past rounds : ℕ) (old new whole : List ℕ) → past < round
     → old ++ flat_map (round_text n) (range_with_len past (rounds - past)) ≡ whole
     → new ++ flat_map (round_text n) (range_with_len (past + 1) (rounds - (past + 1))) ≡ whole
 one-more n past rounds old new whole below adds all =
-    ap (λ (text : List ℕ). text ++ later) (adds.new_is ∙ ap (λ (text : List ℕ). old ++ text ++ adds.written) adds.losses_are ∙ ap (λ (text : List ℕ). old ++ lines_before (past + 1) ++ text) own)
+    ap (λ (text : List ℕ). text ++ later) (adds.new_is ∙ ap (λ (text : List ℕ). old ++ text ++ adds.written)
+    adds.losses_are ∙ ap (λ (text : List ℕ). old ++ lines_before (past + 1) ++ text) own)
     ∙ ap (λ (text : List ℕ). text ++ later) (append_assoc old (lines_before (past + 1)) (line (words_of (past + 1) (round_from (after_rounds n past)))))
     ∙ append_assoc old (round_text n past) later
     ∙ ap (λ (k : ℕ). old ++ flat_map (round_text n) (range_with_len past k)) (sym more) ∙ all

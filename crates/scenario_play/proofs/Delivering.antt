@@ -1,5 +1,7 @@
 -- The deliveries of a drain, one after the other.
-use Rattle.std.proofs.Common.{◌≡◌, ℕ, zero, suc, ◌+◌, ◌-◌, ◌≤◌, ◌<◌, Bool, true, false, if◌then◌else◌, codes, List, [], ◌∷◌, ◌++◌, length, drop, Option, Some, None, refl, sym, ap, ◌∙◌, append_assoc, append-nil, length-append, arith}
+use Rattle.std.proofs.Common.{◌≡◌, ℕ, zero, suc, ◌+◌, ◌-◌, ◌≤◌, ◌<◌, Bool, true, false, if◌then◌else◌, codes, List, []}
+use Rattle.std.proofs.Common.{◌∷◌, ◌++◌, length, drop, Option, Some, None, refl, sym, ap, ◌∙◌, append_assoc, append-nil}
+use Rattle.std.proofs.Common.{length-append, arith}
 use Rattle.std.proofs.Math.Seq.{drop-append_seam}
 use Rattle.std.proofs.lemmas.Bool.Decides.{nat_tests}
 use Rattle.std.specs.Fmt.{decimal}
@@ -35,7 +37,8 @@ last-logged w e =
 
 pub entries-append : (a b : List Entry) → entries_text (a ++ b) ≡ entries_text a ++ entries_text b
 entries-append [] b = refl
-entries-append (x ∷ a) b = ap (λ (ys : List ℕ). entry_text x ++ 10 ∷ ys) (entries-append a b) ∙ sym (append_assoc (entry_text x) (10 ∷ entries_text a) (entries_text b))
+entries-append (x ∷ a) b = ap (λ (ys : List ℕ). entry_text x ++ 10 ∷ ys) (entries-append a b)
+    ∙ sym (append_assoc (entry_text x) (10 ∷ entries_text a) (entries_text b))
 
 -- entries under the mark of one group's log
 pub marked-plain : (es : List Entry) → marked_entries (codes "= ") es ≡ entries_text es
@@ -76,7 +79,8 @@ Delivered-none w text led up = record {
 pub one-left : (n m : ℕ) (v : World) (e : Event) → n ≡ suc m → next_delivery v ≡ Some e → drain_events n v ≡ e ∷ drain_events m (step v e).world
 one-left zero m v e more is = absurd (cc more)
 one-left (suc n) m v e more is = let same : n ≡ m = omega (arith, more) in
-    ap (λ (next : Option Event). elim next [ None ↦ [] | Some x ↦ x ∷ drain_events n (step v x).world ]) is ∙ ap (λ (k : ℕ). e ∷ drain_events k (step v e).world) same
+    ap (λ (next : Option Event). elim next [ None ↦ [] | Some x ↦ x ∷ drain_events n (step v x).world ]) is
+    ∙ ap (λ (k : ℕ). e ∷ drain_events k (step v e).world) same
 
 pub none-left : (n : ℕ) (v : World) → next_delivery v ≡ None → drain_events n v ≡ []
 none-left zero v is = refl
@@ -93,7 +97,10 @@ module _ (w v : World) (before text : List ℕ) (count : ℕ) (d : Delivered w v
     fuel = omega (arith, lower, fuel);
     light = omega (arith, lower, light);
     after = sym (ap (world_after v) split) ∙ d.after;
-    written = append_assoc text (entries_text (step v e).turn.logged) rest ∙ ap (λ (xs : List ℕ). text ++ xs) (sym (entries-append (step v e).turn.logged (log_of (turns_from (step v e).world (left_of w (step v e).world (count + 1))))))
+    written = append_assoc text (entries_text (step v e).turn.logged) rest
+        ∙ ap (λ (xs : List ℕ). text ++ xs)
+        (sym (entries-append (step v e).turn.logged
+        (log_of (turns_from (step v e).world (left_of w (step v e).world (count + 1))))))
         ∙ ap (λ (es : List Event). text ++ entries_text (log_of (turns_from v es))) (sym split) ∙ d.written;
     many = let same = ap length split in let all = d.many in omega (arith, same, all);
   } where
@@ -123,23 +130,28 @@ module _ (w v : World) (before text : List ℕ) (count : ℕ) (d : Delivered w v
   all-delivered is = sym (ap (world_after v) (none-left (load_of w - count) v is)) ∙ d.after
 
   pub all-written : next_delivery v ≡ None → text ≡ before ++ entries_text (log_of (turns_from w (drain_events (load_of w) w)))
-  all-written is = sym (append-nil text) ∙ sym (ap (λ (es : List Event). text ++ entries_text (log_of (turns_from v es))) (none-left (load_of w - count) v is)) ∙ d.written
+  all-written is = sym (append-nil text)
+      ∙ sym (ap (λ (es : List Event). text ++ entries_text (log_of (turns_from v es)))
+      (none-left (load_of w - count) v is)) ∙ d.written
 
   pub all-counted : next_delivery v ≡ None → count ≡ length (drain_events (load_of w) w)
   all-counted is = let none = ap length (none-left (load_of w - count) v is) in let all = d.many in omega (arith, none, all)
 
 -- the last entries of a log behind an event are what it logged
-pub last-of : (w : World) (e : Event) (v : World) (log : List Entry) (n : ℕ) → log ≡ v.log → v ≡ (step w e).world → n ≡ length (step w e).turn.logged → drop (length log - n) log ≡ (step w e).turn.logged
+pub last-of : (w : World) (e : Event) (v : World) (log : List Entry) (n : ℕ) → log ≡ v.log → v ≡ (step w e).world
+    → n ≡ length (step w e).turn.logged → drop (length log - n) log ≡ (step w e).turn.logged
 last-of w e v log n same is few =
     let whole : log ≡ (step w e).world.log = same ∙ ap (λ (x : World). x.log) is in
     ap (λ (xs : List Entry). drop (length xs - n) xs) whole ∙ ap (λ (k : ℕ). drop (length (step w e).world.log - k) (step w e).world.log) few ∙ last-logged w e
 
 -- the answer on a line, and what the event logged
-pub turn-written : (w : World) (e : Event) (answer : Answer) (front line text : List ℕ) (logged : List Entry) → front ≡ answer_text answer → answer ≡ (step w e).turn.answer → line ≡ front ++ 10 ∷ []
+pub turn-written : (w : World) (e : Event) (answer : Answer) (front line text : List ℕ) (logged : List Entry)
+    → front ≡ answer_text answer → answer ≡ (step w e).turn.answer → line ≡ front ++ 10 ∷ []
     → text ≡ line ++ entries_text logged → logged ≡ (step w e).turn.logged → text ≡ turn_text (step w e).turn
 turn-written w e answer front line text logged front_is answer_is line_is text_is logged_is =
     text_is ∙ ap (λ (xs : List ℕ). xs ++ entries_text logged) line_is ∙ append_assoc front (10 ∷ []) (entries_text logged)
-    ∙ ap (λ (xs : List ℕ). xs ++ 10 ∷ entries_text logged) (front_is ∙ ap answer_text answer_is) ∙ ap (λ (xs : List Entry). answer_text (step w e).turn.answer ++ 10 ∷ entries_text xs) logged_is
+    ∙ ap (λ (xs : List ℕ). xs ++ 10 ∷ entries_text logged) (front_is ∙ ap answer_text answer_is)
+    ∙ ap (λ (xs : List Entry). answer_text (step w e).turn.answer ++ 10 ∷ entries_text xs) logged_is
 
 -- the deliveries of a drain, by whether the group is down
 pub draining-down : (w : World) → IsDown w → draining w ≡ []
@@ -159,7 +171,10 @@ turns-many w [] = refl
 turns-many w (e ∷ es) = ap suc (turns-many (step w e).world es)
 
 -- what a drain writes
-pub drained-is : (w : World) (es : List Event) (count : ℕ) (text end all : List ℕ) → count ≡ length es → text ≡ entries_text (log_of (turns_from w es)) → end ≡ codes "drained " ++ (decimal count ++ codes "\n") → all ≡ text ++ end
+pub drained-is : (w : World) (es : List Event) (count : ℕ) (text end all : List ℕ) → count ≡ length es
+    → text ≡ entries_text (log_of (turns_from w es)) → end ≡ codes "drained " ++ (decimal count ++ codes "\n")
+    → all ≡ text ++ end
     → all ≡ drained_text (turns_from w es)
 drained-is w es count text end all many text_is end_is is =
-    is ∙ ap (λ (xs : List ℕ). xs ++ end) text_is ∙ ap (λ (xs : List ℕ). entries_text (log_of (turns_from w es)) ++ xs) (end_is ∙ ap (λ (n : ℕ). codes "drained " ++ (decimal n ++ codes "\n")) (many ∙ sym (turns-many w es)))
+    is ∙ ap (λ (xs : List ℕ). xs ++ end) text_is ∙ ap (λ (xs : List ℕ). entries_text (log_of (turns_from w es)) ++ xs)
+    (end_is ∙ ap (λ (n : ℕ). codes "drained " ++ (decimal n ++ codes "\n")) (many ∙ sym (turns-many w es)))

@@ -1,5 +1,6 @@
 -- How a script ends, from how it was read and how it was played.
-use Rattle.std.proofs.Common.{◌≡◌, ℕ, ◌<◌, ◌≤◌, ◌⊎◌, inl, inr, Bool, true, false, if◌then◌else◌, nat_lt, List, [], length, take, Result, Ok, Err, refl, sym, ◌∙◌, subst, arith}
+use Rattle.std.proofs.Common.{◌≡◌, ℕ, ◌<◌, ◌≤◌, ◌⊎◌, inl, inr, Bool, true, false, if◌then◌else◌, nat_lt, List, []}
+use Rattle.std.proofs.Common.{length, take, Result, Ok, Err, refl, sym, ◌∙◌, subst, arith}
 use Rattle.std.proofs.Math.Seq.{take-length}
 use Rattle.std.proofs.lemmas.Bool.Decides.{nat_tests}
 use Rattle.edge_io.specs.Faults.{Rose}
@@ -14,7 +15,9 @@ use Rattle.scenario_play.specs.Played.{IsPlayed, IsWritten}
 use Rattle.scenario_play.specs.Player.{HasPlayed}
 use Rattle.scenario_play.specs.Status.{HasFaultOf, IsEarly, IsRefusal, IsTold, IsUnread, TellsOfScript, last_line, longest_script}
 use Rattle.scenario_play.specs.declared.status.Status.{Status}
-use Rattle.scenario_play.specs.declared.status.Status.TheVariants.{Done, BadWords, BadLine, BadShape, BadCount, TooLong, ReadFault, WriteFault, Want, Cut, LineTooLong, Worn, BadFrame, Refused, BadConfig, AcceptFault}
+use Rattle.scenario_play.specs.declared.status.Status.TheVariants.{Done, BadWords, BadLine, BadShape, BadCount, TooLong}
+use Rattle.scenario_play.specs.declared.status.Status.TheVariants.{ReadFault, WriteFault, Want, Cut, LineTooLong, Worn}
+use Rattle.scenario_play.specs.declared.status.Status.TheVariants.{BadFrame, Refused, BadConfig, AcceptFault}
 
 short : (n : ℕ) → n ≤ longest_script → nat_lt longest_script n ≡ false
 short n within = grind (arith, nat_tests)
@@ -42,12 +45,14 @@ all-written before now text bytes = record { count = length text; bytes = subst 
 pub nothing-told : (held : List ℕ) (status : Status) → TellsFront held held status
 nothing-told held status = record { said = status; whose = inl refl; written = nothing-written held held (last_line status) refl }
 
-pub in-part : (transcript : List ℕ → List ℕ) (script before now : List ℕ) → IsPlayedInPart transcript script before now → HasWritten before now (transcript script)
+pub in-part : (transcript : List ℕ → List ℕ) (script before now : List ℕ) → IsPlayedInPart transcript script before now
+    → HasWritten before now (transcript script)
 in-part transcript script before now (inl left) = left.written script left.rest left.cut
 in-part transcript script before now (inr part) = record { count = part.count; bytes = part.bytes }
 
 -- what was read to its end and then played
-module _ (l : Language) (a b : Outside) (text : List ℕ) (within : length text ≤ longest_script) (taken : Takes a.input b.input text) (met : IsEnded b.input) where
+module _ (l : Language) (a b : Outside) (text : List ℕ) (within : length text ≤ longest_script)
+    (taken : Takes a.input b.input text) (met : IsEnded b.input) where
   treated : (result : Result (Unit {0}) Status) → HasPlayedScript l text a b result → HasTreated l a b result
   treated result ends = record { script = text; taken = taken; few = omega (arith, within); ends = ends }
 
@@ -81,8 +86,20 @@ module _ (l : Language) (a b : Outside) (text : List ℕ) (within : length text 
 -- what was not read to its end
 module _ (l : Language) (a b : Outside) (same : b.held ≡ a.held) where
   pub treated-unread : (status : Status) → HasRead a.input b.input a.reads b.reads (Err status) → HasTreated l a b (Err status)
-  treated-unread TooLong read = record { script = read.bytes; taken = read.taken; few = let exact = read.exact in omega (arith, exact); ends = (same, read.exact) }
-  treated-unread ReadFault read = record { script = read.1.bytes; taken = read.1.taken; few = let few = read.1.few in omega (arith, few); ends = (same, read.0, read.1.few) }
+  treated-unread TooLong read = record {
+    script = read.bytes;
+    taken = read.taken;
+    few = let exact = read.exact in
+        omega (arith, exact);
+    ends = (same, read.exact);
+  }
+  treated-unread ReadFault read = record {
+    script = read.1.bytes;
+    taken = read.1.taken;
+    few = let few = read.1.few in
+        omega (arith, few);
+    ends = (same, read.0, read.1.few);
+  }
   treated-unread Want read = record { script = read.bytes; taken = read.taken; few = read.few; ends = inl same }
   treated-unread Done read = absurd read
   treated-unread BadWords read = absurd read
@@ -99,7 +116,8 @@ module _ (l : Language) (a b : Outside) (same : b.held ≡ a.held) where
   treated-unread WriteFault read = absurd read
 
 -- who counted a fault
-pub read-fault : (input now : Input) (read_before read_now writes : ℕ) (status : Status) → HasRead input now read_before read_now (Err status) → HasFaultOf read_before read_now writes writes status
+pub read-fault : (input now : Input) (read_before read_now writes : ℕ) (status : Status)
+    → HasRead input now read_before read_now (Err status) → HasFaultOf read_before read_now writes writes status
 read-fault input now read_before read_now writes ReadFault read = read.0
 read-fault input now read_before read_now writes WriteFault read = absurd read
 read-fault input now read_before read_now writes BadWords read = absurd read
@@ -117,8 +135,10 @@ read-fault input now read_before read_now writes (Refused n) read = tt
 read-fault input now read_before read_now writes (BadConfig key) read = tt
 read-fault input now read_before read_now writes AcceptFault read = tt
 
-pub play-fault : (held held_now : List ℕ) (read_before read_now written_before written_now : ℕ) (transcript : List ℕ → List ℕ) (text : List ℕ) (verdict status : Status)
-    → HasPlayed held held_now written_before written_now transcript text verdict (Err status) → HasFaultOf read_before read_now written_before written_now status
+pub play-fault : (held held_now : List ℕ) (read_before read_now written_before written_now : ℕ)
+    (transcript : List ℕ → List ℕ) (text : List ℕ) (verdict status : Status)
+    → HasPlayed held held_now written_before written_now transcript text verdict (Err status)
+    → HasFaultOf read_before read_now written_before written_now status
 play-fault held held_now read_before read_now written_before written_now transcript text verdict WriteFault played = played.0
 play-fault held held_now read_before read_now written_before written_now transcript text verdict ReadFault played = absurd played.0
 play-fault held held_now read_before read_now written_before written_now transcript text verdict BadWords played = absurd played.0
@@ -141,7 +161,8 @@ pub came_from : (s status other : Status) → (status ≡ s) ⊎ (status ≡ Wan
 came_from s status other (inl is) now differs = sym is ∙ now
 came_from s status other (inr want) now differs = absurd (differs (sym now ∙ want))
 
-pub fault-told : (r r' w w' : ℕ) (s status other : Status) → HasFaultOf r r' w w' s → (status ≡ s) ⊎ (status ≡ Want) → status ≡ other → (other ≡ Want → ⊥) → HasFaultOf r r' w w' other
+pub fault-told : (r r' w w' : ℕ) (s status other : Status) → HasFaultOf r r' w w' s → (status ≡ s) ⊎ (status ≡ Want)
+    → status ≡ other → (other ≡ Want → ⊥) → HasFaultOf r r' w w' other
 fault-told r r' w w' s status other fault is now differs = subst (HasFaultOf r r' w w') (came_from s status other is now differs) fault
 
 -- a script of which all is done is not too long
@@ -151,7 +172,8 @@ whole l text is = by (nat_lt longest_script (length text)) is where
   by true is = absurd (cc is)
   by false is = is
 
-pub played-done : (l : Language) → ((text : List ℕ) → l.verdict text ≡ Done → l.Promise text) → (a b : Outside) (done : Unit {0}) → HasTreated l a b (Ok done) → IsPlayed l a b Done
+pub played-done : (l : Language) → ((text : List ℕ) → l.verdict text ≡ Done → l.Promise text)
+    → (a b : Outside) (done : Unit {0}) → HasTreated l a b (Ok done) → IsPlayed l a b Done
 played-done l keeps a b done end = record {
   script = end.script;
   taken = end.taken;
@@ -165,11 +187,19 @@ played-done l keeps a b done end = record {
   promises = λ is. keeps end.script (whole l end.script end.ends.0);
   refused_bytes = λ refusal. absurd refusal;
   unread_bytes = λ unread. absurd unread;
-  bytes = inl (end.ends.1, record { middle = b.held; written = all-written a.held b.held (l.transcript end.script) end.ends.2; told = nothing-told b.held Done });
+  bytes = inl (
+    end.ends.1,
+    record {
+      middle = b.held;
+      written = all-written a.held b.held (l.transcript end.script) end.ends.2;
+      told = nothing-told b.held Done;
+    },
+  );
 }
 
 -- a last line was written behind a text
-behind : (before middle now : List ℕ) (faults_before faults_middle faults_now : ℕ) (text line : List ℕ) → Appends before middle text → faults_before ≤ faults_middle
+behind : (before middle now : List ℕ) (faults_before faults_middle faults_now : ℕ) (text line : List ℕ)
+    → Appends before middle text → faults_before ≤ faults_middle
     → EndsWith middle now faults_middle faults_now [] line → EndsWith before now faults_before faults_now text line
 behind before middle now faults_before faults_middle faults_now text line wrote later ends = record {
   count = ends.count;
@@ -182,7 +212,8 @@ behind before middle now faults_before faults_middle faults_now text line wrote 
     rose_more (inr rose) = inr (omega (arith, rose))
 
 -- after the last line was told
-module _ (l : Language) (script : List ℕ) (a b c : Outside) (kept : c.input ≡ b.input) (reads : c.reads ≡ b.reads) (later : a.writes ≤ b.writes) (more : b.writes ≤ c.writes) where
+module _ (l : Language) (script : List ℕ) (a b c : Outside) (kept : c.input ≡ b.input) (reads : c.reads ≡ b.reads)
+    (later : a.writes ≤ b.writes) (more : b.writes ≤ c.writes) where
   is-told : (s : Status) → HasPlayedScript l script a b (Err s) → IsTold (told_in l script) a.reads c.reads a.writes c.writes s
   is-told (BadLine n) end = inl (sym end.1)
   is-told (BadShape f) end = inl (sym end.1)
@@ -252,10 +283,13 @@ module _ (l : Language) (script : List ℕ) (a b c : Outside) (kept : c.input �
   abbrev Tells : Status → Type 0
   Tells s = EndsWith b.held c.held b.writes c.writes [] (last_line s)
 
-  refused : (s : Status) → HasPlayedScript l script a b (Err s) → IsRefusal s → Tells s → EndsWith a.held c.held a.writes c.writes (l.transcript script) (last_line s)
+  refused : (s : Status) → HasPlayedScript l script a b (Err s) → IsRefusal s → Tells s
+      → EndsWith a.held c.held a.writes c.writes (l.transcript script) (last_line s)
   refused (BadLine n) end refusal tells = behind a.held b.held c.held a.writes b.writes c.writes (l.transcript script) (last_line (BadLine n)) end.3 later tells
-  refused (BadShape f) end refusal tells = behind a.held b.held c.held a.writes b.writes c.writes (l.transcript script) (last_line (BadShape f)) end.3 later tells
-  refused (BadCount n) end refusal tells = behind a.held b.held c.held a.writes b.writes c.writes (l.transcript script) (last_line (BadCount n)) end.3 later tells
+  refused (BadShape f) end refusal tells = behind a.held b.held c.held a.writes b.writes c.writes (l.transcript script)
+      (last_line (BadShape f)) end.3 later tells
+  refused (BadCount n) end refusal tells = behind a.held b.held c.held a.writes b.writes c.writes (l.transcript script)
+      (last_line (BadCount n)) end.3 later tells
   refused Done end refusal tells = absurd refusal
   refused BadWords end refusal tells = absurd refusal
   refused Cut end refusal tells = absurd refusal
@@ -271,7 +305,8 @@ module _ (l : Language) (script : List ℕ) (a b c : Outside) (kept : c.input �
   refused Want end refusal tells = absurd refusal
 
   alone : (s : Status) → b.held ≡ a.held → Tells s → EndsWith a.held c.held a.writes c.writes [] (last_line s)
-  alone s same tells = behind a.held b.held c.held a.writes b.writes c.writes [] (last_line s) (subst (λ (o : List ℕ). Appends a.held o []) (sym same) (Appends-nil a.held)) later tells
+  alone s same tells = behind a.held b.held c.held a.writes b.writes c.writes [] (last_line s)
+      (subst (λ (o : List ℕ). Appends a.held o []) (sym same) (Appends-nil a.held)) later tells
 
   unread-told : (s : Status) → HasPlayedScript l script a b (Err s) → IsUnread s → Tells s → EndsWith a.held c.held a.writes c.writes [] (last_line s)
   unread-told TooLong end unread tells = alone TooLong end.0 tells
@@ -298,7 +333,8 @@ module _ (l : Language) (script : List ℕ) (a b c : Outside) (kept : c.input �
   too-long s end is = (subst (λ (x : Status). HasPlayedScript l script a b (Err x)) is end).1
 
   -- where all of the script is done there was no memory before its end
-  within : (s : Status) → HasPlayedScript l script a b (Err s) → (last_line s ≡ [] → Want ≡ s) → told_in l script ≡ Done → (b.held ≡ a.held) ⊎ IsPlayedInPart l.transcript script a.held b.held
+  within : (s : Status) → HasPlayedScript l script a b (Err s) → (last_line s ≡ [] → Want ≡ s) → told_in l script ≡ Done
+      → (b.held ≡ a.held) ⊎ IsPlayedInPart l.transcript script a.held b.held
   within (BadLine n) end silent done = absurd (cc (sym done ∙ end.1))
   within (BadShape f) end silent done = absurd (cc (sym done ∙ end.1))
   within (BadCount n) end silent done = absurd (cc (sym done ∙ end.1))
@@ -318,7 +354,8 @@ module _ (l : Language) (script : List ℕ) (a b c : Outside) (kept : c.input �
   within AcceptFault end silent done = absurd end.0
 
   -- the status was told as it is
-  same-told : (s : Status) → Takes a.input b.input script → length script ≤ 16777217 → HasPlayedScript l script a b (Err s) → (s ≡ Want) ⊎ Tells s → TellsFront b.held c.held s → IsPlayed l a c s
+  same-told : (s : Status) → Takes a.input b.input script → length script ≤ 16777217
+      → HasPlayedScript l script a b (Err s) → (s ≡ Want) ⊎ Tells s → TellsFront b.held c.held s → IsPlayed l a c s
   same-told s taken few end tells front = record {
     script = script;
     taken = subst (λ (i : Input). Takes a.input i script) (sym kept) taken;
@@ -340,7 +377,9 @@ module _ (l : Language) (script : List ℕ) (a b c : Outside) (kept : c.input �
       surely x (inr tells) never = tells
 
   -- there was no memory to tell it
-  want-told : (s : Status) → Takes a.input b.input script → length script ≤ 16777217 → HasPlayedScript l script a b (Err s) → (last_line s ≡ [] → Want ≡ s) → TellsFront b.held c.held Want → IsPlayed l a c Want
+  want-told : (s : Status) → Takes a.input b.input script → length script ≤ 16777217
+      → HasPlayedScript l script a b (Err s) → (last_line s ≡ [] → Want ≡ s) → TellsFront b.held c.held Want
+      → IsPlayed l a c Want
   want-told s taken few end silent front = record {
     script = script;
     taken = subst (λ (i : Input). Takes a.input i script) (sym kept) taken;
@@ -357,18 +396,27 @@ module _ (l : Language) (script : List ℕ) (a b c : Outside) (kept : c.input �
     bytes = stops s Want (λ early. tt) end front;
   }
 
-  pub played-told : (s status : Status) → Takes a.input b.input script → length script ≤ 16777217 → HasPlayedScript l script a b (Err s) → (status ≡ s) ⊎ (status ≡ Want) → (last_line s ≡ [] → status ≡ s) → (status ≡ s → (status ≡ Want) ⊎ Tells s)
+  pub played-told : (s status : Status) → Takes a.input b.input script → length script ≤ 16777217
+      → HasPlayedScript l script a b (Err s) → (status ≡ s) ⊎ (status ≡ Want) → (last_line s ≡ [] → status ≡ s)
+      → (status ≡ s → (status ≡ Want) ⊎ Tells s)
       → TellsFront b.held c.held status → IsPlayed l a c status
   played-told s status taken few end (inl is) silent tells front = subst (IsPlayed l a c) (sym is)
       (same-told s taken few end (subst (λ (x : Status). (x ≡ Want) ⊎ Tells s) is (tells is)) (subst (TellsFront b.held c.held) is front))
-  played-told s status taken few end (inr want) silent tells front = subst (IsPlayed l a c) (sym want) (want-told s taken few end (λ none. sym want ∙ silent none) (subst (TellsFront b.held c.held) want front))
+  played-told s status taken few end (inr want) silent tells front =
+      subst (IsPlayed l a c) (sym want)
+      (want-told s taken few end (λ none. sym want ∙ silent none) (subst (TellsFront b.held c.held) want front))
 
-pub told-ended : (l : Language) (a b c : Outside) → c.input ≡ b.input → c.reads ≡ b.reads → a.writes ≤ b.writes → b.writes ≤ c.writes → (s status : Status) → HasTreated l a b (Err s)
-    → (status ≡ s) ⊎ (status ≡ Want) → (last_line s ≡ [] → status ≡ s) → (status ≡ s → (status ≡ Want) ⊎ EndsWith b.held c.held b.writes c.writes [] (last_line s)) → TellsFront b.held c.held status → IsPlayed l a c status
-told-ended l a b c kept reads later more s status end is silent tells front = played-told l end.script a b c kept reads later more s status end.taken end.few end.ends is silent tells front
+pub told-ended : (l : Language) (a b c : Outside) → c.input ≡ b.input → c.reads ≡ b.reads → a.writes ≤ b.writes
+    → b.writes ≤ c.writes → (s status : Status) → HasTreated l a b (Err s)
+    → (status ≡ s) ⊎ (status ≡ Want) → (last_line s ≡ [] → status ≡ s)
+    → (status ≡ s → (status ≡ Want) ⊎ EndsWith b.held c.held b.writes c.writes [] (last_line s))
+    → TellsFront b.held c.held status → IsPlayed l a c status
+told-ended l a b c kept reads later more s status end is silent tells front = played-told l end.script a b c kept reads
+    later more s status end.taken end.few end.ends is silent tells front
 
 -- what is promised of a language's scripts may be said in other words
-pub promised : (l : Language) (Promise : List ℕ → Type 0) → ((text : List ℕ) → l.Promise text → Promise text) → (a b : Outside) (status : Status) → IsPlayed l a b status
+pub promised : (l : Language) (Promise : List ℕ → Type 0) → ((text : List ℕ) → l.Promise text → Promise text)
+    → (a b : Outside) (status : Status) → IsPlayed l a b status
     → IsPlayed (record { transcript = l.transcript; verdict = l.verdict; Promise = Promise }) a b status
 promised l Promise keeps a b status played = record {
   script = played.script;
@@ -387,7 +435,8 @@ promised l Promise keeps a b status played = record {
 }
 
 -- a text that was written in whole or in part
-pub written-whole : (wanted : Status) (text : List ℕ) (before now : List ℕ) (faults_before faults_now : ℕ) → wanted ≡ Done → Appends before now text → IsWritten wanted text before now faults_before faults_now Done
+pub written-whole : (wanted : Status) (text : List ℕ) (before now : List ℕ) (faults_before faults_now : ℕ)
+    → wanted ≡ Done → Appends before now text → IsWritten wanted text before now faults_before faults_now Done
 written-whole wanted text before now faults_before faults_now is bytes = record {
   told = inl (sym is);
   short = λ want. absurd (cc want);
@@ -399,8 +448,10 @@ written-whole wanted text before now faults_before faults_now is bytes = record 
 abbrev pub IsFault : Status → ℕ → ℕ → Status → Type 0
 IsFault wanted before now s = ((s ≡ WriteFault) × Rose before now) ⊎ (s ≡ Want) ⊎ (TellsOfScript s × (s ≡ wanted))
 
-pub written-part : (wanted : Status) (text : List ℕ) (before middle now : List ℕ) (faults_before faults_middle faults_now : ℕ) (s status : Status) → IsFault wanted faults_before faults_middle s
-    → HasWritten before middle text → (middle ≡ before) ⊎ HasWrittenPart before middle text → (status ≡ s) ⊎ (status ≡ Want) → TellsFront middle now status → faults_middle ≤ faults_now
+pub written-part : (wanted : Status) (text : List ℕ) (before middle now : List ℕ)
+    (faults_before faults_middle faults_now : ℕ) (s status : Status) → IsFault wanted faults_before faults_middle s
+    → HasWritten before middle text → (middle ≡ before) ⊎ HasWrittenPart before middle text → (status ≡ s)
+    ⊎ (status ≡ Want) → TellsFront middle now status → faults_middle ≤ faults_now
     → IsWritten wanted text before now faults_before faults_now status
 written-part wanted text before middle now faults_before faults_middle faults_now s status fault written unfinished is front more = record {
   told = which fault is;
@@ -409,7 +460,8 @@ written-part wanted text before middle now faults_before faults_middle faults_no
   bytes = record { middle = middle; written = written; told = front };
 }
   where
-    which : IsFault wanted faults_before faults_middle s → (status ≡ s) ⊎ (status ≡ Want) → (status ≡ wanted) ⊎ (status ≡ Want) ⊎ ((status ≡ WriteFault) × Rose faults_before faults_now)
+    which : IsFault wanted faults_before faults_middle s → (status ≡ s) ⊎ (status ≡ Want) → (status ≡ wanted)
+        ⊎ (status ≡ Want) ⊎ ((status ≡ WriteFault) × Rose faults_before faults_now)
     which fault (inr want) = inr (inl want)
     which (inl failed) (inl is) = let rose : Rose faults_before faults_middle = failed.1 in inr (inr (is ∙ failed.0, omega (arith, rose, more)))
     which (inr (inl want)) (inl is) = inr (inl (is ∙ want))

@@ -7,12 +7,16 @@ use Rattle.scenario_play.specs.Status.{told_of}
 use Rattle.scenario_play.specs.declared.status.Status.{Status}
 use Rattle.scenario_play.specs.declared.status.Status.TheVariants.{Done}
 
-module _ {S T F : Type 0} (rules : Rules S T F) (lacking : F) (tell : ℕ → F → Status) (logged : Option S → ℕ) (size : List T → ℕ) (Ready : ℕ → Option S → Type 0) where
+module _ {S T F : Type 0} (rules : Rules S T F) (lacking : F) (tell : ℕ → F → Status) (logged : Option S → ℕ)
+    (size : List T → ℕ) (Ready : ℕ → Option S → Type 0) where
   -- what a player of the language tells
   abbrev pub tells : Telling (Option S)
-  tells = telling (λ state lines. text_in rules state lines) (λ n state lines. told_of tell (fault_in rules lacking n state lines)) (λ state lines. logged state + size (turns_in rules state lines)) Ready
+  tells = telling (λ state lines. text_in rules state lines)
+      (λ n state lines. told_of tell (fault_in rules lacking n state lines))
+      (λ state lines. logged state + size (turns_in rules state lines)) Ready
 
-  pub goes-on : (n : ℕ) (before now : Option S) (line : List ℕ) (turns : List T) (text : List ℕ) → rules before line ≡ Goes now turns text → ((more : List T) → size (turns ++ more) ≡ size turns + size more)
+  pub goes-on : (n : ℕ) (before now : Option S) (line : List ℕ) (turns : List T) (text : List ℕ)
+      → rules before line ≡ Goes now turns text → ((more : List T) → size (turns ++ more) ≡ size turns + size more)
       → logged now ≡ logged before + size turns → Ready (n + 1) now → GoesOn tells n before now line text
   goes-on n before now line turns text next sizes here ready = record {
     text = λ lines. text-line rules before line lines (Goes now turns text) next;
@@ -37,5 +41,7 @@ module _ {S T F : Type 0} (rules : Rules S T F) (lacking : F) (tell : ℕ → F 
   }
 
   -- where the script ends, no more is logged
-  pub ends-entries : (before now : Option S) (line : List ℕ) → rules before line ≡ Ends → now ≡ before → (lines : List (List ℕ)) → tells.entries before (line ∷ lines) ≡ tells.entries now []
-  ends-entries before now line next same lines = ap (λ (ts : List T). logged before + size ts) (turns-line rules before line lines Ends next) ∙ ap (λ (p : Option S). logged p + size []) (sym same)
+  pub ends-entries : (before now : Option S) (line : List ℕ) → rules before line ≡ Ends → now ≡ before
+      → (lines : List (List ℕ)) → tells.entries before (line ∷ lines) ≡ tells.entries now []
+  ends-entries before now line next same lines = ap (λ (ts : List T). logged before + size ts)
+      (turns-line rules before line lines Ends next) ∙ ap (λ (p : Option S). logged p + size []) (sym same)

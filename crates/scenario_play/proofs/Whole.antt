@@ -1,5 +1,6 @@
 -- A script is all that its source had, where the source told that.
-use Rattle.std.proofs.Common.{◌≡◌, ℕ, ◌⊎◌, inl, inr, Bool, true, false, if◌then◌else◌, nat_lt, List, [], ◌++◌, length, drop, Option, Some, None, IfSome, refl, sym, ap, ◌∙◌, subst, length-append, arith}
+use Rattle.std.proofs.Common.{◌≡◌, ℕ, ◌⊎◌, inl, inr, Bool, true, false, if◌then◌else◌, nat_lt, List, [], ◌++◌, length}
+use Rattle.std.proofs.Common.{drop, Option, Some, None, IfSome, refl, sym, ap, ◌∙◌, subst, length-append, arith}
 use Rattle.std.proofs.Math.Seq.{drop-append_seam}
 use Rattle.std.specs.Io.KnownBytes.{Consumes}
 use Rattle.edge_io.specs.Moving.{Appends, IsEnded}
@@ -14,7 +15,9 @@ use Rattle.scenario_play.specs.Played.{IsPlayed}
 use Rattle.scenario_play.specs.Status.{IsEarly, IsRefusal, IsTold, last_line, longest_script, told_at, told_of}
 use Rattle.scenario_play.specs.Whole.{PlaysAll, PlaysAllAlways}
 use Rattle.scenario_play.specs.declared.status.Status.{Status}
-use Rattle.scenario_play.specs.declared.status.Status.TheVariants.{Done, BadWords, BadLine, BadShape, BadCount, TooLong, ReadFault, WriteFault, Want, Cut, LineTooLong, Worn, BadFrame, Refused, BadConfig, AcceptFault}
+use Rattle.scenario_play.specs.declared.status.Status.TheVariants.{Done, BadWords, BadLine, BadShape, BadCount, TooLong}
+use Rattle.scenario_play.specs.declared.status.Status.TheVariants.{ReadFault, WriteFault, Want, Cut, LineTooLong, Worn}
+use Rattle.scenario_play.specs.declared.status.Status.TheVariants.{BadFrame, Refused, BadConfig, AcceptFault}
 use Rattle.scenario_play.proofs.Ending.{nothing-written, told-long}
 
 -- no line of a language's scripts is told by a fault of its source
@@ -46,20 +49,24 @@ not-both (Refused n) refusal early = refusal
 not-both (BadConfig key) refusal early = refusal
 not-both AcceptFault refusal early = refusal
 
-module _ (l : Language) (never : NeverReadFault l) (before now : Outside) (status : Status) (played : IsPlayed l before now status) (all rest : List ℕ) (left : now.input.left ≡ Some rest) (split : all ≡ played.script ++ rest)
+module _ (l : Language) (never : NeverReadFault l) (before now : Outside) (status : Status)
+    (played : IsPlayed l before now status) (all rest : List ℕ) (left : now.input.left ≡ Some rest)
+    (split : all ≡ played.script ++ rest)
     (whole : IsEnded now.input → (played.script ≡ all) × (now.input.left ≡ Some [])) where
   abbrev Told : List ℕ → Status → Type 0
   Told text s = IsTold (told_in l text) before.reads now.reads before.writes now.writes s
 
   refused-ended : IsRefusal status → IsEnded now.input
   refused-ended refusal = by played.bytes where
-    by : (IsEnded now.input × StopsWithin before.held now.held (l.transcript played.script) status) ⊎ (IsEarly status × TellsFront before.held now.held status) → IsEnded now.input
+    by : (IsEnded now.input × StopsWithin before.held now.held (l.transcript played.script) status)
+        ⊎ (IsEarly status × TellsFront before.held now.held status) → IsEnded now.input
     by (inl ended) = ended.0
     by (inr early) = absurd (not-both status refusal early.0)
 
   -- a status that came before the end
   told-early : (s : Status) → status ≡ s → IsEarly s → Told all s
-  told-early TooLong is early = let some = played.too_long is in let long = ap length split ∙ length-append played.script rest in inl (sym (told-long l all (omega (arith, some, long))))
+  told-early TooLong is early = let some = played.too_long is in let long = ap length split
+      ∙ length-append played.script rest in inl (sym (told-long l all (omega (arith, some, long))))
   told-early Want is early = inr (inl refl)
   told-early ReadFault is early = by (subst (Told played.script) is played.told) where
     by : Told played.script ReadFault → Told all ReadFault
@@ -81,11 +88,13 @@ module _ (l : Language) (never : NeverReadFault l) (before now : Outside) (statu
   told-early (BadConfig key) is early = absurd early
   told-early AcceptFault is early = absurd early
 
-  told-all : (IsEnded now.input × StopsWithin before.held now.held (l.transcript played.script) status) ⊎ (IsEarly status × TellsFront before.held now.held status) → Told all status
+  told-all : (IsEnded now.input × StopsWithin before.held now.held (l.transcript played.script) status)
+      ⊎ (IsEarly status × TellsFront before.held now.held status) → Told all status
   told-all (inl ended) = subst (λ (text : List ℕ). Told text status) (whole ended.0).0 played.told
   told-all (inr early) = told-early status refl early.0
 
-  stops-all : (IsEnded now.input × StopsWithin before.held now.held (l.transcript played.script) status) ⊎ (IsEarly status × TellsFront before.held now.held status)
+  stops-all : (IsEnded now.input × StopsWithin before.held now.held (l.transcript played.script) status)
+      ⊎ (IsEarly status × TellsFront before.held now.held status)
       → StopsWithin before.held now.held (l.transcript all) status
   stops-all (inl ended) = subst (λ (text : List ℕ). StopsWithin before.held now.held (l.transcript text) status) (whole ended.0).0 ended.1
   stops-all (inr early) = record { middle = before.held; written = nothing-written before.held before.held (l.transcript all) refl; told = early.1 }
@@ -94,21 +103,29 @@ module _ (l : Language) (never : NeverReadFault l) (before now : Outside) (statu
   of-all = record {
     told = told-all played.bytes;
     done_left = λ done. (whole (played.done_ended done)).1;
-    done_bytes = λ done. subst (λ (text : List ℕ). Appends before.held now.held (l.transcript text)) (whole (played.done_ended done)).0 (played.done_bytes done);
+    done_bytes = λ done. subst (λ (text : List ℕ). Appends before.held now.held (l.transcript text))
+        (whole (played.done_ended done)).0 (played.done_bytes done);
     promises = λ done. subst l.Promise (whole (played.done_ended done)).0 (played.promises done);
     refused_left = λ refusal. (whole (refused-ended refusal)).1;
-    refused_bytes = λ refusal. subst (λ (text : List ℕ). EndsWith before.held now.held before.writes now.writes (l.transcript text) (last_line status)) (whole (refused-ended refusal)).0 (played.refused_bytes refusal);
-    too_long_left = λ is. left ∙ ap (λ (bs : List ℕ). Some bs) (sym (ap (λ (n : ℕ). drop n all) (sym (played.too_long is)) ∙ ap (drop (length played.script)) split ∙ drop-append_seam played.script rest));
+    refused_bytes =
+        λ refusal. subst (λ (text : List ℕ). EndsWith before.held now.held before.writes now.writes (l.transcript text)
+        (last_line status)) (whole (refused-ended refusal)).0 (played.refused_bytes refusal);
+    too_long_left = λ is. left
+        ∙ ap (λ (bs : List ℕ). Some bs)
+        (sym (ap (λ (n : ℕ). drop n all) (sym (played.too_long is)) ∙ ap (drop (length played.script)) split
+        ∙ drop-append_seam played.script rest));
     bytes = stops-all played.bytes;
   }
 
 pub plays-all : (l : Language) → NeverReadFault l → PlaysAllAlways l
-plays-all l never before now status played = by before.input.left now.input.left refl played.taken.left (Takes-all before.input now.input played.script played.taken) where
-  by : (left left_now : Option (List ℕ)) → now.input.left ≡ left_now → Consumes left left_now played.script → (IsEnded now.input → IfSome left (λ all. (played.script ≡ all) × (now.input.left ≡ Some [])))
-      → IfSome left (λ all. PlaysAll l all before now status)
-  by None left_now is consumed whole = tt
-  by (Some all) None is consumed whole = absurd consumed
-  by (Some all) (Some rest) is consumed whole = of-all l never before now status played all rest is consumed whole
+plays-all l never before now status played = by before.input.left now.input.left refl played.taken.left
+    (Takes-all before.input now.input played.script played.taken) where
+      by : (left left_now : Option (List ℕ)) → now.input.left ≡ left_now → Consumes left left_now played.script
+          → (IsEnded now.input → IfSome left (λ all. (played.script ≡ all) × (now.input.left ≡ Some [])))
+          → IfSome left (λ all. PlaysAll l all before now status)
+      by None left_now is consumed whole = tt
+      by (Some all) None is consumed whole = absurd consumed
+      by (Some all) (Some rest) is consumed whole = of-all l never before now status played all rest is consumed whole
 
 pub group-never : NeverReadFault group_scripts
 group-never text is = by (first_fault text) is where

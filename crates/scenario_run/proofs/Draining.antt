@@ -1,5 +1,6 @@
 -- The deliveries of a drain are a run, and each lightens the group: how many events a line makes.
-use Rattle.std.proofs.Common.{ℕ, zero, suc, ◌≡◌, ◌≤◌, ◌<◌, ◌+◌, ◌^◌, Bool, true, false, List, [], ◌∷◌, length, Option, Some, None, if◌then◌else◌, refl, sym, ap, subst, ◌∙◌, arith}
+use Rattle.std.proofs.Common.{ℕ, zero, suc, ◌≡◌, ◌≤◌, ◌<◌, ◌+◌, ◌^◌, Bool, true, false, List, [], ◌∷◌, length, Option}
+use Rattle.std.proofs.Common.{Some, None, if◌then◌else◌, refl, sym, ap, subst, ◌∙◌, arith}
 use Rattle.group_types.specs.Dimensions.{Dimensions}
 use Rattle.group_types.specs.Lists.{at}
 use Rattle.group_types.specs.Names.{IsProcess, index_of, process_at}
@@ -55,13 +56,15 @@ module _ (s : Dimensions) where
   pub event-light : (w : World) (e : Event) → IsLedTo s w → MayCome w e → burden (step w e).world ≤ burden w + line_burden
   event-light w e led may =
       let rises : load_of (step w e).world ≤ load_of w + 131072
-      = subst (λ (v : World). load_of (step v e).world ≤ load_of v + 131072) (sym led.is) (rises-little s led.events led.run e (subst (λ (v : World). MayCome v e) led.is may)) in
+      = subst (λ (v : World). load_of (step v e).world ≤ load_of v + 131072) (sym led.is)
+      (rises-little s led.events led.run e (subst (λ (v : World). MayCome v e) led.is may)) in
       omega (arith, rises)
 
   lower : (w : World) (e : Event) → IsLedTo s w → IsDelivery e → MayCome w e → (step w e).turn.answer ≡ says.Done → load_of (step w e).world < load_of w
   lower w (Deliver from to) led delivery may done =
       subst (λ (v : World). load_of (step v (Deliver from to)).world < load_of v) (sym led.is)
-      (deliveries_lower s led.events led.run from to (subst (λ (v : World). MayCome v (Deliver from to)) led.is may) (subst (λ (v : World). (step v (Deliver from to)).turn.answer ≡ says.Done) led.is done))
+      (deliveries_lower s led.events led.run from to (subst (λ (v : World). MayCome v (Deliver from to)) led.is may)
+      (subst (λ (v : World). (step v (Deliver from to)).turn.answer ≡ says.Done) led.is done))
   lower w (Ask caller op p) led delivery may done = absurd delivery
   lower w (Collect caller call p) led delivery may done = absurd delivery
   lower w (Fail p keep) led delivery may done = absurd delivery
@@ -117,20 +120,23 @@ module _ (s : Dimensions) where
 
 -- nothing is on its way at the start
 pub load-opening : (s : Dimensions) → load_of (opening s) ≡ 0
-load-opening s = load-is (opening s) ∙ sum-zero (everyone s) (way_from s v) (λ p there. sum-zero (everyone s) (on_way v p) (λ q here. quiet p q (everyone-inside s p there))) where
-  v : State
-  v = state_from s (opening s).nodes []
+load-opening s = load-is (opening s) ∙ sum-zero (everyone s) (way_from s v)
+    (λ p there. sum-zero (everyone s) (on_way v p) (λ q here. quiet p q (everyone-inside s p there))) where
+      v : State
+      v = state_from s (opening s).nodes []
 
-  silent : (p q : ProcessId) → IsProcess s p → v.link p q ≡ []
-  silent p q pin =
-      ap (λ (n : Node). at [] n.links (index_of s q)) (at-indices s (opening_node s p) (λ x. opening_node s (process_at s x)) p pin ∙ ap (opening_node s) (process_at-index s p pin))
-      ∙ at-replicate [] (s.k + s.m) (index_of s q)
+      silent : (p q : ProcessId) → IsProcess s p → v.link p q ≡ []
+      silent p q pin =
+          ap (λ (n : Node). at [] n.links (index_of s q))
+          (at-indices s (opening_node s p) (λ x. opening_node s (process_at s x)) p pin
+          ∙ ap (opening_node s) (process_at-index s p pin))
+          ∙ at-replicate [] (s.k + s.m) (index_of s q)
 
-  quiet : (p q : ProcessId) → IsProcess s p → on_way v p q ≡ 0
-  quiet p q pin = quiet-is where
-    by : (b : Bool) → (if b then 0 else weights []) ≡ 0
-    by true = refl
-    by false = refl
+      quiet : (p q : ProcessId) → IsProcess s p → on_way v p q ≡ 0
+      quiet p q pin = quiet-is where
+        by : (b : Bool) → (if b then 0 else weights []) ≡ 0
+        by true = refl
+        by false = refl
 
-    quiet-is : on_way v p q ≡ 0
-    quiet-is = ap (λ (link : List Message). if v.dead q then 0 else weights link) (silent p q pin) ∙ by (v.dead q)
+        quiet-is : on_way v p q ≡ 0
+        quiet-is = ap (λ (link : List Message). if v.dead q then 0 else weights link) (silent p q pin) ∙ by (v.dead q)

@@ -10,9 +10,16 @@ module _ {S T F : Type 0} (rules : Rules S T F) where
   text_after next lines = elim next [ Goes state turns text ↦ text ++ text_in rules state lines | Ends ↦ [] | Refused cause ↦ [] ]
 
   abbrev pub fault_after : F → ℕ → Next S T F → List (List ℕ) → Option (Fault F)
-  fault_after lacking n next lines = elim next [ Goes state turns text ↦ fault_in rules lacking (n + 1) state lines | Ends ↦ None | Refused cause ↦ Some (record { number = n; cause = cause }) ]
+  fault_after lacking n next lines =
+      elim next [
+        | Goes state turns text ↦ fault_in rules lacking (n + 1) state lines
+        | Ends ↦ None
+        | Refused cause ↦
+            Some (record { number = n; cause = cause })
+      ]
 
-  pub text-line : (before : Option S) (bytes : List ℕ) (lines : List (List ℕ)) (next : Next S T F) → rules before bytes ≡ next → text_in rules before (bytes ∷ lines) ≡ text_after next lines
+  pub text-line : (before : Option S) (bytes : List ℕ) (lines : List (List ℕ)) (next : Next S T F)
+      → rules before bytes ≡ next → text_in rules before (bytes ∷ lines) ≡ text_after next lines
   text-line before bytes lines next is = ap (λ (n : Next S T F). text_after n lines) is
 
   pub fault-line : (lacking : F) (n : ℕ) (before : Option S) (bytes : List ℕ) (lines : List (List ℕ)) (next : Next S T F) → rules before bytes ≡ next
@@ -20,12 +27,14 @@ module _ {S T F : Type 0} (rules : Rules S T F) where
   fault-line lacking n None bytes lines next is = ap (λ (x : Next S T F). fault_after lacking n x lines) is
   fault-line lacking n (Some p) bytes lines next is = ap (λ (x : Next S T F). fault_after lacking n x lines) is
 
-  pub turns-line : (before : Option S) (bytes : List ℕ) (lines : List (List ℕ)) (next : Next S T F) → rules before bytes ≡ next → turns_in rules before (bytes ∷ lines) ≡ turns_after next lines
+  pub turns-line : (before : Option S) (bytes : List ℕ) (lines : List (List ℕ)) (next : Next S T F)
+      → rules before bytes ≡ next → turns_in rules before (bytes ∷ lines) ≡ turns_after next lines
   turns-line before bytes lines next is = ap (λ (n : Next S T F). turns_after n lines) is
 
   -- the state that is named first behind a line
   abbrev pub named_after : Next S T F → List (List ℕ) → Option S
   named_after next lines = elim next [ Goes state turns text ↦ named_in rules state lines | Ends ↦ None | Refused cause ↦ None ]
 
-  pub named-line : (bytes : List ℕ) (lines : List (List ℕ)) (next : Next S T F) → rules None bytes ≡ next → named_in rules None (bytes ∷ lines) ≡ named_after next lines
+  pub named-line : (bytes : List ℕ) (lines : List (List ℕ)) (next : Next S T F) → rules None bytes ≡ next
+      → named_in rules None (bytes ∷ lines) ≡ named_after next lines
   named-line bytes lines next is = ap (λ (n : Next S T F). named_after n lines) is

@@ -27,7 +27,8 @@ module _ (bases : List ℕ) (w : World) where
   next-range : (d : ℕ) → d < w.shape.k → range_with_len d (w.shape.k - d) ≡ d ∷ range_with_len (d + 1) (w.shape.k - (d + 1))
   next-range d below = let many : w.shape.k - d ≡ suc (w.shape.k - (d + 1)) = omega (arith, below) in ap (range_with_len d) many
 
-  pub placed-next : (d : ℕ) (text more : List ℕ) (count lines : ℕ) → d < w.shape.k → ArePlaced bases w d text count → more ≡ text ++ places_text d (at 0 bases d) (at [] w.places d)
+  pub placed-next : (d : ℕ) (text more : List ℕ) (count lines : ℕ) → d < w.shape.k → ArePlaced bases w d text count
+      → more ≡ text ++ places_text d (at 0 bases d) (at [] w.places d)
       → lines ≡ many_placed (at [] w.places d) → length text + lines ≤ length more → ArePlaced bases w (d + 1) more (count + lines)
   placed-next d text more count lines below are gained many long =
       let was = are.written in
@@ -36,7 +37,8 @@ module _ (bases : List ℕ) (w : World) where
       let were_split = rw (next-range d below) at were in
       let few = are.few in
       record {
-        written = rw gained (append_assoc text (places_text d (at 0 bases d) (at [] w.places d)) (runs_text bases w (range_with_len (d + 1) (w.shape.k - (d + 1)))) ∙ was_split);
+        written = rw gained (append_assoc text (places_text d (at 0 bases d) (at [] w.places d))
+            (runs_text bases w (range_with_len (d + 1) (w.shape.k - (d + 1)))) ∙ was_split);
         counted = omega (arith, were_split, many);
         few = omega (arith, few, long);
       }

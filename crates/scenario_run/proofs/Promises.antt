@@ -48,7 +48,9 @@ module _ (s : Dimensions) where
   mutual-runs : (p : Play) (lines : List (List ℕ)) → IsLedTo s p.world → Runs p.world (turns_in next_of (Some p) lines)
   mutual-runs p [] led = none p.world
   mutual-runs p (line ∷ lines) led = by (next_of (Some p) line) refl (λ q. mutual-runs q lines) where
-    by : (next : PlayNext) → next_of (Some p) line ≡ next → ((q : Play) → IsLedTo s q.world → Runs q.world (turns_in next_of (Some q) lines)) → Runs p.world (turns_after next_of next lines)
+    by : (next : PlayNext) → next_of (Some p) line ≡ next
+        → ((q : Play) → IsLedTo s q.world → Runs q.world (turns_in next_of (Some q) lines))
+        → Runs p.world (turns_after next_of next lines)
     by Ends is later = none p.world
     by (Refused fault) is later = none p.world
     by (Goes next turns text) is later =
@@ -64,11 +66,13 @@ module _ (s : Dimensions) where
   truth : (w : World) → IsLedTo s w → HoldsTruth w
   truth w led = subst HoldsTruth (sym led.is) (truth_always s led.events led.run)
 
-  true-line : (p : Play) (l : Result Line LineFault) (next : Option Play) (turns : List Turn) (text : List ℕ) → IsLedTo s p.world → ((l' : Line) → l ≡ Ok l' → IsLineOf (Some p.world.shape) l')
+  true-line : (p : Play) (l : Result Line LineFault) (next : Option Play) (turns : List Turn) (text : List ℕ)
+      → IsLedTo s p.world → ((l' : Line) → l ≡ Ok l' → IsLineOf (Some p.world.shape) l')
       → next_by (Some p) l ≡ Goes next turns text → IsTrueLine (Some p) l text
   true-line p (Err fault) next turns text led within is = tt
   true-line p (Ok (Show from run)) next turns text led within is =
-      (parts (Some p) next [] turns (look p.world from (held p.world from run) ++ 10 ∷ []) text is).2 ∙ shows-truth p.world from run (within (Show from run) refl).0 (truth p.world led)
+      (parts (Some p) next [] turns (look p.world from (held p.world from run) ++ 10 ∷ []) text is).2
+      ∙ shows-truth p.world from run (within (Show from run) refl).0 (truth p.world led)
   true-line p (Ok Skipped) next turns text led within is = tt
   true-line p (Ok (Group shape)) next turns text led within is = tt
   true-line p (Ok (Ask caller from act)) next turns text led within is = tt
@@ -105,17 +109,21 @@ record Named (lines : List (List ℕ)) : Type 0 where
 begins : (n : ℕ) (lines : List (List ℕ)) → fault_in next_of BadLine n None lines ≡ None → Named lines
 begins n [] ends = absurd (cc ends)
 begins n (line ∷ lines) ends = by (next_of None line) refl ends (begins (n + 1) lines) where
-  begun : (next : Option Play) (turns : List Turn) (text : List ℕ) → next_of None line ≡ Goes next turns text → Opens next turns text → fault_in next_of BadLine (n + 1) next lines ≡ None
+  begun : (next : Option Play) (turns : List Turn) (text : List ℕ) → next_of None line ≡ Goes next turns text
+      → Opens next turns text → fault_in next_of BadLine (n + 1) next lines ≡ None
       → (fault_in next_of BadLine (n + 1) None lines ≡ None → Named lines) → Named (line ∷ lines)
   begun next turns text is opens rest later = either opens.is where
     turns_are : (q : Option Play) → next ≡ q → turns_in next_of None (line ∷ lines) ≡ turns_in next_of q lines
-    turns_are q same = ap (λ (x : PlayNext). turns_after next_of x lines) is ∙ ap (λ (ts : List Turn). ts ++ turns_in next_of next lines) opens.quiet ∙ ap (λ (x : Option Play). turns_in next_of x lines) same
+    turns_are q same = ap (λ (x : PlayNext). turns_after next_of x lines) is
+        ∙ ap (λ (ts : List Turn). ts ++ turns_in next_of next lines) opens.quiet
+        ∙ ap (λ (x : Option Play). turns_in next_of x lines) same
 
     shape_is : (q : Option Play) → next ≡ q → shape_in (named_in next_of None (line ∷ lines)) ≡ shape_in (named_in next_of q lines)
     shape_is q same = ap shape_in (named-line next_of line lines (Goes next turns text) is ∙ ap (λ (x : Option Play). named_in next_of x lines) same)
 
     true_then : (q : Option Play) → next ≡ q → AreTrueLines q lines → AreTrueLines None (line ∷ lines)
-    true_then q same truth = subst (λ (x : PlayNext). TrueAfter None line x lines) (sym is) (tt, subst (λ (x : Option Play). AreTrueLines x lines) (sym same) truth)
+    true_then q same truth = subst (λ (x : PlayNext). TrueAfter None line x lines) (sym is)
+        (tt, subst (λ (x : Option Play). AreTrueLines x lines) (sym same) truth)
 
     either : (next ≡ None) ⊎ ((s : Dimensions) × IsShape s × (next ≡ Some (record { world = opening s; moment = 0 }))) → Named (line ∷ lines)
     either (inl none) =
@@ -137,10 +145,12 @@ begins n (line ∷ lines) ends = by (next_of None line) refl ends (begins (n + 1
           true_lines = true_then (Some p) some (true-lines s p lines (opened s limits));
         }
 
-  by : (next : PlayNext) → next_of None line ≡ next → fault_in next_of BadLine n None (line ∷ lines) ≡ None → (fault_in next_of BadLine (n + 1) None lines ≡ None → Named lines) → Named (line ∷ lines)
+  by : (next : PlayNext) → next_of None line ≡ next → fault_in next_of BadLine n None (line ∷ lines) ≡ None
+      → (fault_in next_of BadLine (n + 1) None lines ≡ None → Named lines) → Named (line ∷ lines)
   by Ends is ends later = absurd (never-ends line is)
   by (Refused fault) is ends later = absurd (cc (sym (ap (λ (x : PlayNext). fault_after next_of BadLine n x lines) is) ∙ ends))
-  by (Goes next turns text) is ends later = begun next turns text is (line-opens line next turns text is) (sym (ap (λ (x : PlayNext). fault_after next_of BadLine n x lines) is) ∙ ends) later
+  by (Goes next turns text) is ends later = begun next turns text is (line-opens line next turns text is)
+      (sym (ap (λ (x : PlayNext). fault_after next_of BadLine n x lines) is) ∙ ends) later
 
 -- the events of turns
 events-are : (w : World) (es : List Event) → map (λ turn. turn.event) (machine.turns_from w es) ≡ es

@@ -1,5 +1,6 @@
 -- The turns of a script are those of a run of the machine.
-use Rattle.std.proofs.Common.{ℕ, ◌≡◌, ◌≤◌, ◌<◌, ◌+◌, ◌⊎◌, inl, inr, Bool, true, false, nat_lt, List, [], ◌∷◌, Option, Some, None, Result, Ok, Err, if◌then◌else◌, refl, sym, ap, arith}
+use Rattle.std.proofs.Common.{ℕ, ◌≡◌, ◌≤◌, ◌<◌, ◌+◌, ◌⊎◌, inl, inr, Bool, true, false, nat_lt, List, [], ◌∷◌, Option}
+use Rattle.std.proofs.Common.{Some, None, Result, Ok, Err, if◌then◌else◌, refl, sym, ap, arith}
 use Rattle.std.proofs.lemmas.Bool.Decides.{nat_tests}
 use Rattle.group_types.specs.Dimensions.{Dimensions}
 use Rattle.group_types.specs.Lists.{at}
@@ -35,30 +36,48 @@ goes F state turns text = Goes state turns text
 pub parts : {S T F : Type 0} (a b : Option S) (ts us : List T) (x y : List ℕ) → goes F a ts x ≡ goes F b us y → (b ≡ a) × (us ≡ ts) × (y ≡ x)
 parts a b ts us x y is = (cc, cc, cc)
 
-stays : (p q : Play) (next : Option Play) (turns : List Turn) (text : List ℕ) → p.world ≡ q.world → quietly (Some q) ≡ Goes next turns text → GoesOn p.world next turns
+stays : (p q : Play) (next : Option Play) (turns : List Turn) (text : List ℕ) → p.world ≡ q.world
+    → quietly (Some q) ≡ Goes next turns text → GoesOn p.world next turns
 stays p q next turns text same is = let both = parts (Some q) next [] turns [] text is in
-    record { play = q; is = both.0; leads = record { events = []; run = tt; turns_are = sym both.1; to = same }; light = let still = ap burden same in omega (arith, still) }
+    record {
+      play = q;
+      is = both.0;
+      leads = record { events = []; run = tt; turns_are = sym both.1; to = same };
+      light = let still = ap burden same in omega (arith, still);
+    }
 
 -- an event that may come leads on
-comes : (s : Dimensions) (p : Play) (e : Event) (next : Option Play) (turns : List Turn) (text : List ℕ) → IsLedTo s p.world → MayCome p.world e → by_event p e ≡ Goes next turns text → GoesOn p.world next turns
+comes : (s : Dimensions) (p : Play) (e : Event) (next : Option Play) (turns : List Turn) (text : List ℕ)
+    → IsLedTo s p.world → MayCome p.world e → by_event p e ≡ Goes next turns text → GoesOn p.world next turns
 comes s p e next turns text led may is =
-    let both = parts (Some (record { world = (step p.world e).world; moment = p.moment })) next ((step p.world e).turn ∷ []) turns (turn_text (step p.world e).turn) text is in
-    record { play = record { world = (step p.world e).world; moment = p.moment }; is = both.0; leads = record { events = e ∷ []; run = (may, tt); turns_are = sym both.1; to = refl }; light = event-light s p.world e led may }
+    let both = parts (Some (record { world = (step p.world e).world; moment = p.moment })) next
+    ((step p.world e).turn ∷ []) turns (turn_text (step p.world e).turn) text is in
+    record {
+      play = record { world = (step p.world e).world; moment = p.moment };
+      is = both.0;
+      leads = record { events = e ∷ []; run = (may, tt); turns_are = sym both.1; to = refl };
+      light =
+          event-light s p.world e led may;
+    }
 
 -- a call is traced that was asked
-traces : (s : Dimensions) (p : Play) (caller call : ℕ) (e : Event) (next : Option Play) (turns : List Turn) (text : List ℕ) → IsLedTo s p.world → (call < at 0 p.world.asked caller → MayCome p.world e)
+traces : (s : Dimensions) (p : Play) (caller call : ℕ) (e : Event) (next : Option Play) (turns : List Turn)
+    (text : List ℕ) → IsLedTo s p.world → (call < at 0 p.world.asked caller → MayCome p.world e)
     → by_trace p caller call e ≡ Goes next turns text → GoesOn p.world next turns
 traces s p caller call e next turns text led may is = by (nat_lt call (at 0 p.world.asked caller)) refl is where
-  by : (b : Bool) → nat_lt call (at 0 p.world.asked caller) ≡ b → (if b then by_event p e else Refused BadLine) ≡ Goes next turns text → GoesOn p.world next turns
+  by : (b : Bool) → nat_lt call (at 0 p.world.asked caller) ≡ b → (if b then by_event p e else Refused BadLine)
+      ≡ Goes next turns text → GoesOn p.world next turns
   by true less goes = comes s p e next turns text led (may (grind (arith, nat_tests))) goes
   by false less goes = absurd (cc goes)
 
 -- what a line behind the group line does is a run
-pub then-leads : (s : Dimensions) (p : Play) (l : Line) (next : Option Play) (turns : List Turn) (text : List ℕ) → IsLedTo s p.world → IsLineOf (Some p.world.shape) l
+pub then-leads : (s : Dimensions) (p : Play) (l : Line) (next : Option Play) (turns : List Turn) (text : List ℕ)
+    → IsLedTo s p.world → IsLineOf (Some p.world.shape) l
     → then_by p l ≡ Goes next turns text → GoesOn p.world next turns
 then-leads s p Skipped next turns text led within is = stays p p next turns text refl is
 then-leads s p (Group shape) next turns text led within is = absurd within
-then-leads s p (Ask caller from act) next turns text led within is = comes s p (happens.Ask caller (record { moment = p.moment; act = act }) from) next turns text led within is
+then-leads s p (Ask caller from act) next turns text led within is =
+    comes s p (happens.Ask caller (record { moment = p.moment; act = act }) from) next turns text led within is
 then-leads s p (Collect caller call from) next turns text led within is = comes s p (happens.Collect caller call from) next turns text led within is
 then-leads s p (Deliver from to) next turns text led within is = comes s p (happens.Deliver from to) next turns text led within is
 then-leads s p (Fail from keep) next turns text led within is = comes s p (happens.Fail from keep) next turns text led within is
@@ -68,8 +87,16 @@ then-leads s p (Trace caller call d from) next turns text led within is =
 then-leads s p Drain next turns text led within is =
     let drain = drains s p.world led in
     let v : World = world_after p.world (draining p.world) in
-    let both = parts (Some (record { world = v; moment = p.moment })) next (machine.turns_from p.world (draining p.world)) turns (drained_text (machine.turns_from p.world (draining p.world))) text is in
-    record { play = record { world = v; moment = p.moment }; is = both.0; leads = record { events = draining p.world; run = drain.run; turns_are = sym both.1; to = refl }; light = let lighter = drain.light in omega (arith, lighter) }
+    let both = parts (Some (record { world = v; moment = p.moment })) next
+    (machine.turns_from p.world (draining p.world)) turns
+    (drained_text (machine.turns_from p.world (draining p.world))) text is in
+    record {
+      play = record { world = v; moment = p.moment };
+      is = both.0;
+      leads = record { events = draining p.world; run = drain.run; turns_are = sym both.1; to = refl };
+      light =
+          let lighter = drain.light in omega (arith, lighter);
+    }
 then-leads s p (Show from run) next turns text led within is =
     record { play = p; is = cc; leads = record { events = []; run = tt; turns_are = cc; to = refl }; light = omega arith }
 then-leads s p Places next turns text led within is =
@@ -85,7 +112,8 @@ next-leads s p (Ok l) next turns text led within is = then-leads s p l next turn
 
 pub line-leads : (s : Dimensions) (p : Play) (line : List ℕ) (next : Option Play) (turns : List Turn) (text : List ℕ) → IsLedTo s p.world
     → next_of (Some p) line ≡ Goes next turns text → GoesOn p.world next turns
-line-leads s p line next turns text led is = next-leads s p (line_of (Some p.world.shape) line) next turns text led (λ l reads. line_of-within (Some p.world.shape) line l reads) is
+line-leads s p line next turns text led is = next-leads s p (line_of (Some p.world.shape) line) next turns text led
+    (λ l reads. line_of-within (Some p.world.shape) line l reads) is
 
 -- the group line, or a line before it
 pub record Opens (next : Option Play) (turns : List Turn) (text : List ℕ) : Type 0 where
@@ -96,7 +124,8 @@ pub record Opens (next : Option Play) (turns : List Turn) (text : List ℕ) : Ty
 first-opens : (l : Line) (next : Option Play) (turns : List Turn) (text : List ℕ) → IsLineOf None l → first_by l ≡ Goes next turns text → Opens next turns text
 first-opens Skipped next turns text within is = let both = parts None next [] turns [] text is in record { quiet = both.1; silent = both.2; is = inl both.0 }
 first-opens (Group s) next turns text within is =
-    let both = parts (Some (record { world = opening s; moment = 0 })) next [] turns [] text is in record { quiet = both.1; silent = both.2; is = inr (s, within, both.0) }
+    let both = parts (Some (record { world = opening s; moment = 0 })) next [] turns [] text is in
+    record { quiet = both.1; silent = both.2; is = inr (s, within, both.0) }
 first-opens (Ask caller from act) next turns text within is = absurd within
 first-opens (Collect caller call from) next turns text within is = absurd within
 first-opens (Deliver from to) next turns text within is = absurd within
@@ -109,7 +138,8 @@ first-opens Places next turns text within is = absurd within
 first-opens (Time moment) next turns text within is = absurd within
 first-opens Stop next turns text within is = absurd within
 
-next-opens : (l : Result Line LineFault) (next : Option Play) (turns : List Turn) (text : List ℕ) → ((l' : Line) → l ≡ Ok l' → IsLineOf None l') → next_by None l ≡ Goes next turns text → Opens next turns text
+next-opens : (l : Result Line LineFault) (next : Option Play) (turns : List Turn) (text : List ℕ)
+    → ((l' : Line) → l ≡ Ok l' → IsLineOf None l') → next_by None l ≡ Goes next turns text → Opens next turns text
 next-opens (Err fault) next turns text within is = absurd (cc is)
 next-opens (Ok l) next turns text within is = first-opens l next turns text (within l refl) is
 

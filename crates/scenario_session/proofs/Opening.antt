@@ -43,11 +43,13 @@ abbrev first_of : World → Caller
 first_of w = record { world = w; caller = 0; control = true }
 
 -- the group was made, and its first caller served the connection
-pub served-by : (s : Dimensions) (told : Option ℕ) (input input_now : Input) (held held_now : List ℕ) (world : World) (before after : Caller) (connection : Result End ConnectionFault)
+pub served-by : (s : Dimensions) (told : Option ℕ) (input input_now : Input) (held held_now : List ℕ) (world : World)
+    (before after : Caller) (connection : Result End ConnectionFault)
     → IsShape s → world ≡ opening s → before ≡ record { world = world; caller = 0; control = true }
     → HasServed group_ways told input input_now (stand before held) (stand after held_now) connection → IsServed s told input input_now held held_now connection
 served-by s told input input_now held held_now world before after connection shape fresh_world made served = record {
   after = after;
-  served = subst (λ (c : Caller). HasServed group_ways told input input_now (stand c held) (stand after held_now) connection) (made ∙ ap first_of fresh_world) served;
+  served = subst (λ (c : Caller). HasServed group_ways told input input_now (stand c held) (stand after held_now)
+      connection) (made ∙ ap first_of fresh_world) served;
   one_table = one_table_always s shape;
 }

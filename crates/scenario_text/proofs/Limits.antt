@@ -59,7 +59,8 @@ first_of true true false blocks = Some Block
 first_of true true true false = Some Blocks
 first_of true true true true = None
 
-first_is : (d : Dimensions) → (k m block blocks : Bool) → is_in_range d K ≡ k → is_in_range d M ≡ m → is_in_range d Block ≡ block → is_in_range d Blocks ≡ blocks
+first_is : (d : Dimensions) → (k m block blocks : Bool) → is_in_range d K ≡ k → is_in_range d M ≡ m
+    → is_in_range d Block ≡ block → is_in_range d Blocks ≡ blocks
     → first_out_of_range d ≡ first_of k m block blocks
 first_is d false m block blocks isk ism isblock isblocks = rw isk refl
 first_is d true false block blocks isk ism isblock isblocks = rw (isk, ism) refl
@@ -70,7 +71,13 @@ first_is d true true true true isk ism isblock isblocks = rw (isk, ism, isblock,
 pub shape-of : (d : Dimensions) → first_out_of_range d ≡ None → IsShape d
 shape-of d none = by (is_in_range d K) (is_in_range d M) (is_in_range d Block) (is_in_range d Blocks) refl refl refl refl where
   by : (k m block blocks : Bool) → is_in_range d K ≡ k → is_in_range d M ≡ m → is_in_range d Block ≡ block → is_in_range d Blocks ≡ blocks → IsShape d
-  by true true true true isk ism isblock isblocks = record { k = passes d K isk; m = passes d M ism; block = passes d Block isblock; blocks = passes d Blocks isblocks }
+  by true true true true isk ism isblock isblocks =
+      record {
+        k = passes d K isk;
+        m = passes d M ism;
+        block = passes d Block isblock;
+        blocks = passes d Blocks isblocks;
+      }
   by false m block blocks isk ism isblock isblocks = absurd (cc (sym (first_is d false m block blocks isk ism isblock isblocks) ∙ none))
   by true false block blocks isk ism isblock isblocks = absurd (cc (sym (first_is d true false block blocks isk ism isblock isblocks) ∙ none))
   by true true false blocks isk ism isblock isblocks = absurd (cc (sym (first_is d true true false blocks isk ism isblock isblocks) ∙ none))

@@ -121,7 +121,11 @@ line_by-within s keyword.Trace (caller ∷ call ∷ partition ∷ at ∷ []) l i
     let n = bound (number_of call) _ l c.2 in
     let d = bound (partition_of_word s partition) _ l n.2 in
     let p = bound (process_of_word s at) _ l d.2 in
-    within_as s (Trace c.0 n.0 d.0 p.0) l p.2 (number_below-under callers caller c.0 c.1, partition-under s partition d.0 d.1, process_of_word-within s at p.0 p.1)
+    within_as s (Trace c.0 n.0 d.0 p.0) l p.2 (
+      number_below-under callers caller c.0 c.1,
+      partition-under s partition d.0 d.1,
+      process_of_word-within s at p.0 p.1,
+    )
 line_by-within s keyword.Trace (a ∷ b ∷ d ∷ e ∷ f ∷ ws) l is = cc is
 line_by-within s keyword.Drain [] l is = within_as s Drain l is tt
 line_by-within s keyword.Drain (a ∷ ws) l is = cc is

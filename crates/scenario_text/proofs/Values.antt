@@ -1,5 +1,6 @@
 -- The value of an op that is read consists of bytes.
-use Rattle.std.proofs.Common.{◌≡◌, inl, inr, ◌+◌, ◌^◌, ◌<◌, ◌==◌, ℕ, zero, suc, nat_lt, nat_le, List, [], ◌∷◌, All, length, replicate, codes, Option, Some, None, Result, Ok, Err, subst, ap}
+use Rattle.std.proofs.Common.{◌≡◌, inl, inr, ◌+◌, ◌^◌, ◌<◌, ◌==◌, ℕ, zero, suc, nat_lt, nat_le, List, [], ◌∷◌, All}
+use Rattle.std.proofs.Common.{length, replicate, codes, Option, Some, None, Result, Ok, Err, subst, ap}
 use Rattle.std.proofs.lemmas.List.Elements.{All-nil, All-cons}
 use Rattle.std.specs.List.{slice_split}
 use Rattle.std.specs.Result.{result_ok}

@@ -96,7 +96,8 @@ traced-in n k says.AlreadyDead low = low
 traced-in n k says.Gone low = tt
 traced-in n k (says.Stale number) low = low
 
-own-in : (wish : Wish) (n : ℕ) (phase : Phase) (e : Event) (a : Answer) (next : Next) → IsOwn wish n phase e a next → IsAsked n phase → InTime (n + ask_by wish.caller e) next
+own-in : (wish : Wish) (n : ℕ) (phase : Phase) (e : Event) (a : Answer) (next : Next) → IsOwn wish n phase e a next
+    → IsAsked n phase → InTime (n + ask_by wish.caller e) next
 own-in wish n phase (Ask caller op p) a next own time =
     subst (InTime (n + ask_by wish.caller (Ask caller op p))) (sym own.3)
     (subst (λ (k : ℕ). InTime (n + k) (asked_to n a)) (sym (ap (λ (c : ℕ). ask_by wish.caller (Ask c op p)) own.1 ∙ own-ask wish.caller op p)) (asked-in n a))
@@ -112,7 +113,8 @@ own-in wish n phase (Deliver from to) a next own time = subst (InTime (n + 0)) (
 own-in wish n phase (Fail p keep) a next own time = absurd own
 own-in wish n phase (Flush p) a next own time = absurd own
 
-brings-in : (wish : Wish) (n : ℕ) (next last : Next) (xs : List Numbered) → Brings wish n next xs last → InTime n next → InTime (n + asks_by wish.caller xs) last
+brings-in : (wish : Wish) (n : ℕ) (next last : Next) (xs : List Numbered) → Brings wish n next xs last → InTime n next
+    → InTime (n + asks_by wish.caller xs) last
 brings-in wish n next last [] brings time = subst (InTime (n + 0)) (sym brings) (subst (λ (k : ℕ). InTime k next) (omega arith) time)
 brings-in wish n (Goes phase) last (x ∷ xs) brings time =
     subst (λ (k : ℕ). InTime k last) (omega arith)
@@ -120,7 +122,8 @@ brings-in wish n (Goes phase) last (x ∷ xs) brings time =
 brings-in wish n (Ends end) last (x ∷ xs) brings time = absurd brings
 
 -- how often a seat asked, behind these events
-asks-more : (before after : Seat) (xs : List Numbered) → IsSame before after → (view_of after).made ≡ (view_of before).made ++ xs → after.asks ≡ before.asks + asks_by before.caller xs
+asks-more : (before after : Seat) (xs : List Numbered) → IsSame before after
+    → (view_of after).made ≡ (view_of before).made ++ xs → after.asks ≡ before.asks + asks_by before.caller xs
 asks-more before after xs same made =
     after.is_seat.asked ∙ ap (λ (c : ℕ). asks_by c (view_of after).made) same.caller ∙ ap (asks_by before.caller) made
     ∙ asks-append before.caller (view_of before).made xs ∙ ap (λ (n : ℕ). n + asks_by before.caller xs) (sym before.is_seat.asked)
@@ -149,7 +152,8 @@ come-more before middle after op start phase step come s = record {
       (subst (λ (n : ℕ). Brings (wish_of middle op) n (Goes phase) s.events s.last) (asks-more before middle come.events come.same come.made) s.brings));
 }
 
-pub come-paused : (before middle after : Seat) (op : Asked) (start : Phase) (last : Next) → HasCome before op start middle last → IsIdle middle after → HasCome before op start after last
+pub come-paused : (before middle after : Seat) (op : Asked) (start : Phase) (last : Next)
+    → HasCome before op start middle last → IsIdle middle after → HasCome before op start after last
 come-paused before middle after op start last come paused = record {
   same = record { table = paused.same.table ∙ come.same.table; shape = paused.same.shape ∙ come.same.shape; caller = paused.same.caller ∙ come.same.caller };
   events = come.events;
@@ -157,16 +161,19 @@ come-paused before middle after op start last come paused = record {
   brings = come.brings;
 }
 
-pub come-asked : (before after : Seat) (op : Asked) (start phase : Phase) → IsAsked before.asks start → HasCome before op start after (Goes phase) → IsAsked after.asks phase
+pub come-asked : (before after : Seat) (op : Asked) (start phase : Phase) → IsAsked before.asks start
+    → HasCome before op start after (Goes phase) → IsAsked after.asks phase
 come-asked before after op start phase asked come = subst (λ (n : ℕ). IsAsked n phase) (sym (asks-more before after come.events come.same come.made))
     (brings-in (wish_of before op) before.asks (Goes start) (Goes phase) come.events come.brings asked)
 
-pub come-goes : (before middle after : Seat) (op : Asked) (start phase next : Phase) (step : Step) (heard : _) → step ≡ steps.Goes next heard → HasCome before op start middle (Goes phase)
+pub come-goes : (before middle after : Seat) (op : Asked) (start phase next : Phase) (step : Step) (heard : _)
+    → step ≡ steps.Goes next heard → HasCome before op start middle (Goes phase)
     → HasStepped (wish_of middle op) phase middle step after → HasCome before op start after (Goes next)
 come-goes before middle after op start phase next step heard is come s =
     subst (HasCome before op start after) (subst (Leads middle after s.last) is s.leads).0 (come-more before middle after op start phase step come s)
 
-pub called : (before middle after : Seat) (op : Asked) (start phase : Phase) (step : Step) (end : CallEnd) → step ≡ steps.Ends end → HasCome before op start middle (Goes phase)
+pub called : (before middle after : Seat) (op : Asked) (start phase : Phase) (step : Step) (end : CallEnd)
+    → step ≡ steps.Ends end → HasCome before op start middle (Goes phase)
     → HasStepped (wish_of middle op) phase middle step after → IsCalled before op start end after
 called before middle after op start phase step end is come s = record {
   last = s.last;

@@ -33,7 +33,8 @@ leads : (before after : Seat) (next : Next) (step : Step) → HasReturned (view_
 leads before after next (steps.Goes phase heard) returned says = (says, calls-more before after returned)
 leads before after next (steps.Ends end) returned says = subst (λ (n : Next). IsOver after n end) (sym says) refl
 
-pub stepped : (wish : Wish) (phase : Phase) (event : Event) (to : Answer → Next) (before after : Seat) (answer : StageAnswer) (step : Step) → IsSame before after
+pub stepped : (wish : Wish) (phase : Phase) (event : Event) (to : Answer → Next) (before after : Seat)
+    (answer : StageAnswer) (step : Step) → IsSame before after
     → Ended event (view_of before) answer (view_of after) → ((a : Answer) → IsOwn wish before.asks phase event a (to a)) → Gives to phase answer step
     → HasStepped wish phase before step after
 stepped wish phase event to before after (Made a) step same ended own gives = record {
@@ -71,4 +72,5 @@ shown wish phase sender receiver before after looked step same has shows = by lo
   by look.Waits has shows = none has.1.unmade.made (leads before after (Goes phase) step has.1.unmade.returned shows)
   by look.Empty has shows = none has.1.unmade.made (leads before after (Goes phase) step has.1.unmade.returned shows)
   by look.Busy has shows = none has.1.made (leads before after (Goes phase) step has.0 shows)
-  by look.Worn has shows = none (ap (λ (v : View). v.made) has.same) (subst (Leads before after (Goes phase)) (sym shows) (ap (λ (v : View). v.calls) has.same ∙ has.spent, refl))
+  by look.Worn has shows = none (ap (λ (v : View). v.made) has.same)
+      (subst (Leads before after (Goes phase)) (sym shows) (ap (λ (v : View). v.calls) has.same ∙ has.spent, refl))

@@ -30,7 +30,8 @@ cut_same b (x ∷ xs) (y ∷ ys) us vs lx ly e =
     (cc (head, r), rest.1)
 
 -- what is behind a front that is taken off
-pub behind-strip : (front text : List ℕ) (o : Option (Bor (List ℕ))) → MatchOption o ((rest : List ℕ) → text ≢ front ++ rest) (λ x. text ≡ front ++ x.now) → IsBehind front text o
+pub behind-strip : (front text : List ℕ) (o : Option (Bor (List ℕ)))
+    → MatchOption o ((rest : List ℕ) → text ≢ front ++ rest) (λ x. text ≡ front ++ x.now) → IsBehind front text o
 behind-strip front text (Some rest) is = is
 behind-strip front text None is = is
 

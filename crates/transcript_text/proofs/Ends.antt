@@ -1,5 +1,7 @@
 -- A line that ends with a reply's text tells that reply alone.
-use Rattle.std.proofs.Common.{◌≡◌, ◌≢◌, ◌⊎◌, inl, inr, ◌<◌, ◌≤◌, ◌^◌, ◌==◌, ◌&&◌, ℕ, zero, suc, Bool, true, false, not, List, [], ◌∷◌, ◌++◌, ◌∙◌, All, append_assoc, length, slice_index, codes, if◌then◌else◌, refl, sym, ap, subst, arith}
+use Rattle.std.proofs.Common.{◌≡◌, ◌≢◌, ◌⊎◌, inl, inr, ◌<◌, ◌≤◌, ◌^◌, ◌==◌, ◌&&◌, ℕ, zero, suc, Bool, true, false, not}
+use Rattle.std.proofs.Common.{List, [], ◌∷◌, ◌++◌, ◌∙◌, All, append_assoc, length, slice_index, codes, if◌then◌else◌}
+use Rattle.std.proofs.Common.{refl, sym, ap, subst, arith}
 use Rattle.std.proofs.lemmas.Bool.{and_parts}
 use Rattle.std.proofs.lemmas.Bool.Decides.{nat_tests}
 use Rattle.std.proofs.lemmas.Fmt.{decimal_injective, digits_decimal, decimal_nonempty}
@@ -156,33 +158,44 @@ word-word a b wa wb p q fa fb same =
 
 word-number : (a : Reply) (n : ℕ) → IsWordText a → Once a (Number n)
 word-number a n wa p q fa fb same =
-    absurd (word-no_number a n wa fb (end_same 32 p (q ++ 32 ∷ codes "number") (reply_text a) (decimal n) (lacks-space (reply_text a) wa.lacks) (Lacks-decimal 32 n (omega arith) fb) (same ∙ number-end q n)).1)
+    absurd (word-no_number a n wa fb (end_same 32 p (q ++ 32 ∷ codes "number") (reply_text a) (decimal n)
+    (lacks-space (reply_text a) wa.lacks) (Lacks-decimal 32 n (omega arith) fb) (same ∙ number-end q n)).1)
 
 word-item : (a : Reply) (item : Item) → IsWordText a → Once a (Value item)
 word-item a item wa p q fa fb same =
-    absurd (word-no_value a item.value wa fb.2 (end_same 32 p (item_front q item ++ 32 ∷ decimal item.cas) (reply_text a) (value_text item.value) (lacks-space (reply_text a) wa.lacks) (Lacks-value item.value fb.2) (same ∙ item-end q item)).1)
+    absurd (word-no_value a item.value wa fb.2
+    (end_same 32 p (item_front q item ++ 32 ∷ decimal item.cas) (reply_text a) (value_text item.value)
+    (lacks-space (reply_text a) wa.lacks) (Lacks-value item.value fb.2) (same ∙ item-end q item)).1)
 
 number-number : (m n : ℕ) → Once (Number m) (Number n)
 number-number m n p q fa fb same =
-    ap Number (decimal_injective m n fa fb (end_same 32 (p ++ 32 ∷ codes "number") (q ++ 32 ∷ codes "number") (decimal m) (decimal n) (Lacks-decimal 32 m (omega arith) fa) (Lacks-decimal 32 n (omega arith) fb)
+    ap Number (decimal_injective m n fa fb (end_same 32 (p ++ 32 ∷ codes "number") (q ++ 32 ∷ codes "number")
+    (decimal m) (decimal n) (Lacks-decimal 32 m (omega arith) fa) (Lacks-decimal 32 n (omega arith) fb)
     (sym (number-end p m) ∙ same ∙ number-end q n)).1)
 
 number-item : (n : ℕ) (item : Item) → Once (Number n) (Value item)
 number-item n item p q fa fb same =
-    let fronts = (end_same 32 (p ++ 32 ∷ codes "number") (item_front q item ++ 32 ∷ decimal item.cas) (decimal n) (value_text item.value) (Lacks-decimal 32 n (omega arith) fa) (Lacks-value item.value fb.2)
+    let fronts = (end_same 32 (p ++ 32 ∷ codes "number") (item_front q item ++ 32 ∷ decimal item.cas) (decimal n)
+    (value_text item.value) (Lacks-decimal 32 n (omega arith) fa) (Lacks-value item.value fb.2)
     (sym (number-end p n) ∙ same ∙ item-end q item)).0 in
-    let words : codes "number" ≡ decimal item.cas = (end_same 32 p (item_front q item) (codes "number") (decimal item.cas) (lacks-space (codes "number") refl) (Lacks-decimal 32 item.cas (omega arith) fb.1) fronts).1 in
+    let words : codes "number" ≡ decimal item.cas =
+    (end_same 32 p (item_front q item) (codes "number") (decimal item.cas) (lacks-space (codes "number") refl)
+    (Lacks-decimal 32 item.cas (omega arith) fb.1) fronts).1 in
     let first = first-decimal item.cas fb.1 in
     absurd (omega (arith, rw (sym words) at first))
 
 item-item : (a b : Item) → Once (Value a) (Value b)
 item-item a b p q fa fb same =
-    let values = end_same 32 (item_front p a ++ 32 ∷ decimal a.cas) (item_front q b ++ 32 ∷ decimal b.cas) (value_text a.value) (value_text b.value) (Lacks-value a.value fa.2) (Lacks-value b.value fb.2)
+    let values = end_same 32 (item_front p a ++ 32 ∷ decimal a.cas) (item_front q b ++ 32 ∷ decimal b.cas)
+    (value_text a.value) (value_text b.value) (Lacks-value a.value fa.2) (Lacks-value b.value fb.2)
     (sym (item-end p a) ∙ same ∙ item-end q b) in
-    let numbers = end_same 32 (item_front p a) (item_front q b) (decimal a.cas) (decimal b.cas) (Lacks-decimal 32 a.cas (omega arith) fa.1) (Lacks-decimal 32 b.cas (omega arith) fb.1) values.0 in
+    let numbers = end_same 32 (item_front p a) (item_front q b) (decimal a.cas) (decimal b.cas)
+    (Lacks-decimal 32 a.cas (omega arith) fa.1) (Lacks-decimal 32 b.cas (omega arith) fb.1) values.0 in
     let f = fa.0 in
     let g = fb.0 in
-    let flags = end_same 32 (p ++ 32 ∷ codes "value") (q ++ 32 ∷ codes "value") (decimal a.flags) (decimal b.flags) (Lacks-decimal 32 a.flags (omega arith) (omega (arith, f))) (Lacks-decimal 32 b.flags (omega arith) (omega (arith, g)))
+    let flags = end_same 32 (p ++ 32 ∷ codes "value") (q ++ 32 ∷ codes "value") (decimal a.flags) (decimal b.flags)
+    (Lacks-decimal 32 a.flags (omega arith) (omega (arith, f)))
+    (Lacks-decimal 32 b.flags (omega arith) (omega (arith, g)))
     (append_assoc p (32 ∷ codes "value") (32 ∷ decimal a.flags) ∙ numbers.0 ∙ sym (append_assoc q (32 ∷ codes "value") (32 ∷ decimal b.flags))) in
     let value = value_same a.value b.value fa.2 fb.2 values.1 in
     let cas = decimal_injective a.cas b.cas fa.1 fb.1 numbers.1 in

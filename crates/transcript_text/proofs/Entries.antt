@@ -1,5 +1,6 @@
 -- A line of the log names its call, and ends with its reply.
-use Rattle.std.proofs.Common.{◌≡◌, ◌<◌, ◌^◌, ◌==◌, ℕ, zero, suc, Bool, true, false, List, [], ◌∷◌, ◌++◌, ◌∙◌, append_assoc, codes, if◌then◌else◌, refl, sym, ap, arith}
+use Rattle.std.proofs.Common.{◌≡◌, ◌<◌, ◌^◌, ◌==◌, ℕ, zero, suc, Bool, true, false, List, [], ◌∷◌, ◌++◌, ◌∙◌}
+use Rattle.std.proofs.Common.{append_assoc, codes, if◌then◌else◌, refl, sym, ap, arith}
 use Rattle.std.proofs.lemmas.List.{append-nil}
 use Rattle.std.specs.Fmt.{decimal}
 use Rattle.group_types.specs.Dimensions.{callers}
@@ -17,7 +18,8 @@ pub name_same : (c n d m : ℕ) (r s : List ℕ) → c < callers → n < 2 ^ 64 
 name_same c n d m r s fc fn fd fm same =
     let all = sym (name-line (record { caller = c; call = n }) r) ∙ same ∙ name-line (record { caller = d; call = m }) s in
     let numbers : decimal c ++ 46 ∷ (decimal n ++ 32 ∷ r) ≡ decimal d ++ 46 ∷ (decimal m ++ 32 ∷ s) = cc all in
-    let callers-same = first-same 46 d c (decimal m ++ 32 ∷ s) (decimal n ++ 32 ∷ r) (decimal d ++ 46 ∷ (decimal m ++ 32 ∷ s)) (omega arith) (omega (arith, fd)) (omega (arith, fc))
+    let callers-same = first-same 46 d c (decimal m ++ 32 ∷ s) (decimal n ++ 32 ∷ r)
+    (decimal d ++ 46 ∷ (decimal m ++ 32 ∷ s)) (omega arith) (omega (arith, fd)) (omega (arith, fc))
     (append_assoc (decimal d) (46 ∷ []) (decimal m ++ 32 ∷ s)) numbers in
     let calls = first-same 32 m n s r (decimal m ++ 32 ∷ s) (omega arith) fm fn (append_assoc (decimal m) (32 ∷ []) s) callers-same.1 in
     (callers-same.0, calls.0, calls.1)
@@ -52,9 +54,11 @@ pub record FitsEntry (e : Entry) : Type 0 where
   pub reply : FitsReply e.reply
 
 -- the line of an entry names no other call
-pub entry-names : (e : Entry) (c n : ℕ) (rest : List ℕ) → FitsEntry e → c < callers → n < 2 ^ 64 → entry_text e ≡ name_text c n 0 ++ rest → (e.caller ≡ c) × (e.call ≡ n)
+pub entry-names : (e : Entry) (c n : ℕ) (rest : List ℕ) → FitsEntry e → c < callers → n < 2 ^ 64
+    → entry_text e ≡ name_text c n 0 ++ rest → (e.caller ≡ c) × (e.call ≡ n)
 entry-names e c n rest fits fc fn same =
-    let names = name_same e.caller e.call c n (op_behind e.op.moment (act_text e.op.act) ++ codes " " ++ reply_text e.reply) rest fits.caller fits.call fc fn (sym (entry-line e) ∙ same) in
+    let names = name_same e.caller e.call c n (op_behind e.op.moment (act_text e.op.act) ++ codes " "
+    ++ reply_text e.reply) rest fits.caller fits.call fc fn (sym (entry-line e) ∙ same) in
     (names.0, names.1)
 
 -- and it ends with no other reply
@@ -62,7 +66,8 @@ pub entry-tells : (e : Entry) (c n : ℕ) (op : List ℕ) (reply : Reply) → Fi
     → entry_text e ≡ name_text c n 0 ++ (op ++ codes " " ++ reply_text reply) → (e.caller ≡ c) × (e.call ≡ n) × (e.reply ≡ reply)
 entry-tells e c n op reply fits fc fn fr same =
     let act = op_behind e.op.moment (act_text e.op.act) in
-    let names = name_same e.caller e.call c n (act ++ codes " " ++ reply_text e.reply) (op ++ codes " " ++ reply_text reply) fits.caller fits.call fc fn (sym (entry-line e) ∙ same) in
+    let names = name_same e.caller e.call c n (act ++ codes " " ++ reply_text e.reply)
+    (op ++ codes " " ++ reply_text reply) fits.caller fits.call fc fn (sym (entry-line e) ∙ same) in
     let ends : act ++ 32 ∷ reply_text e.reply ≡ op ++ 32 ∷ reply_text reply =
     sym (append_assoc act (32 ∷ []) (reply_text e.reply)) ∙ names.2 ∙ append_assoc op (32 ∷ []) (reply_text reply) in
     (names.0, names.1, tells_once e.reply reply act op fits.reply fr ends)

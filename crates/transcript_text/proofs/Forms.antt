@@ -21,7 +21,9 @@ pub word_reply : (reply : Reply) → is_word reply ≡ true → (text : List ℕ
 word_reply reply is text same = (λ told. (reply, is, same), λ told. refl)
 
 -- a line that is none of these texts is no such answer
-pub no_bare : (line : List ℕ) → (line ≢ codes "not_yet") → (line ≢ codes "no_space") → (line ≢ codes "moved") → (line ≢ codes "lost") → (line ≢ codes "down") → (line ≢ codes "idle") → (line ≢ codes "stranger") → (line ≢ codes "done") → (line ≢ codes "already_dead") → (line ≢ codes "gone") → IsBareForm line None
+pub no_bare : (line : List ℕ) → (line ≢ codes "not_yet") → (line ≢ codes "no_space") → (line ≢ codes "moved")
+    → (line ≢ codes "lost") → (line ≢ codes "down") → (line ≢ codes "idle") → (line ≢ codes "stranger")
+    → (line ≢ codes "done") → (line ≢ codes "already_dead") → (line ≢ codes "gone") → IsBareForm line None
 no_bare line n0 n1 n2 n3 n4 n5 n6 n7 n8 n9 = by
   where
     by : (answer : Answer) → is_bare (form_of answer) ≡ true → answer_text answer ≢ line
@@ -41,7 +43,9 @@ no_bare line n0 n1 n2 n3 n4 n5 n6 n7 n8 n9 = by
     by (answered.Stale call) is same = cc is
 
 -- a text that is none of these is no such reply
-pub no_word : (text : List ℕ) → (text ≢ codes "miss") → (text ≢ codes "stored") → (text ≢ codes "not_stored") → (text ≢ codes "exists") → (text ≢ codes "not_found") → (text ≢ codes "deleted") → (text ≢ codes "touched") → (text ≢ codes "not_number") → (text ≢ codes "too_large") → IsTrue false ↔ IsWordReply text
+pub no_word : (text : List ℕ) → (text ≢ codes "miss") → (text ≢ codes "stored") → (text ≢ codes "not_stored")
+    → (text ≢ codes "exists") → (text ≢ codes "not_found") → (text ≢ codes "deleted") → (text ≢ codes "touched")
+    → (text ≢ codes "not_number") → (text ≢ codes "too_large") → IsTrue false ↔ IsWordReply text
 no_word text n0 n1 n2 n3 n4 n5 n6 n7 n8 = (λ told. absurd (cc told), λ (reply, is, same). absurd (by reply is same))
   where
     by : (reply : Reply) → is_word reply ≡ true → reply_text reply ≢ text
@@ -77,7 +81,8 @@ pub of-blocked : (line : List ℕ) → TellsNumber (λ n. n < 2 ^ 32) (codes "re
 of-blocked line (block, fits, same) = (answered.Retry (Block block), fits, same, refl)
 
 -- an answer that is none of these is one that has neither a reply nor a number
-pub last_form : (line : List ℕ) (o : Option Form) → ¬ (TellsReplied line) → ¬ (TellsNumber FitsNumber (codes "ticket ") line) → ¬ (TellsNumber FitsNumber (codes "stale ") line)
+pub last_form : (line : List ℕ) (o : Option Form) → ¬ (TellsReplied line)
+    → ¬ (TellsNumber FitsNumber (codes "ticket ") line) → ¬ (TellsNumber FitsNumber (codes "stale ") line)
     → ¬ (TellsPending line) → ¬ (TellsNumber (λ n. n < 2 ^ 32) (codes "retry block ") line) → IsBareForm line o → IsForm line o
 last_form line (Some f) replied ticket stale pending blocked has = has
 last_form line None replied ticket stale pending blocked none = by

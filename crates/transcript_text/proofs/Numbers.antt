@@ -1,8 +1,11 @@
 -- A printed number is read as itself, and nothing else is read as a number.
-use Rattle.std.proofs.Common.{◌≡◌, ◌≢◌, ◌<◌, ◌≤◌, ◌+◌, ◌^◌, ◌&&◌, ℕ, Bool, true, false, List, [], ◌∷◌, ◌++◌, ◌∙◌, length, nat_lt, nat_le, Option, Some, None, if◌then◌else◌, append_assoc, zero, suc, refl, sym, ap, subst, arith}
+use Rattle.std.proofs.Common.{◌≡◌, ◌≢◌, ◌<◌, ◌≤◌, ◌+◌, ◌^◌, ◌&&◌, ℕ, Bool, true, false, List, [], ◌∷◌, ◌++◌, ◌∙◌}
+use Rattle.std.proofs.Common.{length, nat_lt, nat_le, Option, Some, None, if◌then◌else◌, append_assoc, zero, suc, refl}
+use Rattle.std.proofs.Common.{sym, ap, subst, arith}
 use Rattle.std.proofs.Math.ListN.{get_or}
 use Rattle.std.proofs.lemmas.Bool.Decides.{nat_tests}
-use Rattle.std.proofs.lemmas.Fmt.{decimal_digit, decimal_injective, decimal_nonempty, digits_decimal, digits_value-decimal, decimal-digits_value, first_decimal, length-decimal-le}
+use Rattle.std.proofs.lemmas.Fmt.{decimal_digit, decimal_injective, decimal_nonempty, digits_decimal}
+use Rattle.std.proofs.lemmas.Fmt.{digits_value-decimal, decimal-digits_value, first_decimal, length-decimal-le}
 use Rattle.std.proofs.lemmas.Grind.{common_steps}
 use Rattle.std.proofs.lemmas.List.Elements.{All-nil, All-cons}
 use Rattle.std.proofs.lemmas.Str.Parse.{IsNumeralModel, numerals_by_value, tells_all_ascii_digits}
@@ -85,7 +88,8 @@ reads-number_of word plain = by (number_of word) refl
     by (Some n) is = number_of-same word n is plain
     by None is = λ n fits same. cc (sym is ∙ rw same at (number_of-decimal n fits))
 
-pub reads-too_large : (word : List ℕ) (limit n : ℕ) → limit < 2 ^ 64 → limit ≤ n → Reads FitsNumber decimal word (Some n) → Reads (λ n. n < limit) decimal word None
+pub reads-too_large : (word : List ℕ) (limit n : ℕ) → limit < 2 ^ 64 → limit ≤ n
+    → Reads FitsNumber decimal word (Some n) → Reads (λ n. n < limit) decimal word None
 reads-too_large word limit n bound large (fits, same) = λ m below text.
     let e = decimal_injective m n (omega (arith, below, bound)) fits (text ∙ sym same) in
     omega (arith, below, large, e)
@@ -99,7 +103,9 @@ front-lacks Fits byte line lacks = λ n rest fits same.
     there byte (decimal n) rest (rw (append_assoc (decimal n) (byte ∷ []) rest) at (rw (sym same) at lacks))
 
 -- a front is no number where the word before the byte is none
-pub front-none : (Fits : ℕ → Type 0) (byte : ℕ) (line word rest : List ℕ) → byte < 48 → ((n : ℕ) → Fits n → n < 2 ^ 64) → Lacks byte word → word ++ byte ∷ rest ≡ line → Reads Fits decimal word None → ReadsFront Fits (λ n. decimal n ++ byte ∷ []) line None
+pub front-none : (Fits : ℕ → Type 0) (byte : ℕ) (line word rest : List ℕ) → byte < 48 → ((n : ℕ) → Fits n → n < 2 ^ 64)
+    → Lacks byte word → word ++ byte ∷ rest ≡ line → Reads Fits decimal word None
+    → ReadsFront Fits (λ n. decimal n ++ byte ∷ []) line None
 front-none Fits byte line word rest low bound lacks cut none = λ n more fits same.
     let line_is : decimal n ++ byte ∷ more ≡ word ++ byte ∷ rest = sym (append_assoc (decimal n) (byte ∷ []) more) ∙ same ∙ sym cut in
     none n fits (cut_same byte (decimal n) word more rest (Lacks-decimal byte n low (bound n fits)) lacks line_is).0

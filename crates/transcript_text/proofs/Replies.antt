@@ -51,7 +51,8 @@ holds P Q true is test all = (λ yes'. all (test.0 yes'), λ q. refl)
 holds P Q false is test all = cc is
 
 -- the last of three tests, where the first two say no
-pub last_of : (text : List ℕ) (a b c : Bool) → a ≡ false → (IsTrue a ↔ IsWordReply text) → b ≡ false → (IsTrue b ↔ IsNumberReply text) → (IsTrue c ↔ IsItemReply text)
+pub last_of : (text : List ℕ) (a b c : Bool) → a ≡ false → (IsTrue a ↔ IsWordReply text) → b ≡ false
+    → (IsTrue b ↔ IsNumberReply text) → (IsTrue c ↔ IsItemReply text)
     → IsTrue c ↔ IsReplyText text
 last_of text a b c no_word word no_number number item = (
   λ told. of-item text (item.0 told),
@@ -62,9 +63,15 @@ last_of text a b c no_word word no_number number item = (
 )
 
 -- an item is told by its front and its value
-pub item-of : (text word : List ℕ) (b : Bool) → ((flags : ℕ) × (cas : ℕ) × FitsFront flags cas × (item_text flags cas word ≡ text)) → (IsTrue b ↔ IsValueText word) → IsTrue b ↔ IsItemReply text
+pub item-of : (text word : List ℕ) (b : Bool)
+    → ((flags : ℕ) × (cas : ℕ) × FitsFront flags cas × (item_text flags cas word ≡ text))
+    → (IsTrue b ↔ IsValueText word) → IsTrue b ↔ IsItemReply text
 item-of text word b (flags, cas, fits, same) value = (
-  λ told. let v = value.0 told in (record { flags = flags; cas = cas; value = v.0 }, (fits.0, fits.1, v.1), ap (λ (t : List ℕ). item_text flags cas t) v.2 ∙ same),
+  λ told. let v = value.0 told in (
+    record { flags = flags; cas = cas; value = v.0 },
+    (fits.0, fits.1, v.1),
+    ap (λ (t : List ℕ). item_text flags cas t) v.2 ∙ same,
+  ),
   λ (item, within, is).
       let words = item_same item.flags item.cas (value_text item.value) flags cas word (within.0, within.1) fits (is ∙ sym same) in
       value.1 (item.value, within.2, words.2),

@@ -1,5 +1,7 @@
 -- The numbers of a stamp are read one by one.
-use Rattle.std.proofs.Common.{◌≡◌, ◌≢◌, ◌<◌, ◌≤◌, ◌+◌, ◌-◌, ◌^◌, ℕ, zero, suc, Bool, true, false, List, [], ◌∷◌, ◌++◌, ◌∙◌, All, append_assoc, codes, take, drop, length, slice_index, Option, Some, None, refl, sym, ap, subst, arith}
+use Rattle.std.proofs.Common.{◌≡◌, ◌≢◌, ◌<◌, ◌≤◌, ◌+◌, ◌-◌, ◌^◌, ℕ, zero, suc, Bool, true, false, List, [], ◌∷◌, ◌++◌}
+use Rattle.std.proofs.Common.{◌∙◌, All, append_assoc, codes, take, drop, length, slice_index, Option, Some, None, refl}
+use Rattle.std.proofs.Common.{sym, ap, subst, arith}
 use Rattle.std.proofs.lemmas.List.Elements.{All-append, All-cons, All-head, All-nil, All-push, All-tail, All-take}
 use Rattle.std.proofs.lemmas.List.{append-nil, append_cancel_left, length-set, length-take-le, take_all, take_more, take_more_set}
 use Rattle.std.proofs.Math.ListN.{set}
@@ -46,14 +48,16 @@ one_more text stamp rest more place many n below before fits is =
 
 behind-push : (ns : List ℕ) (n : ℕ) → behind_commas (ns ++ n ∷ []) ≡ 44 ∷ (before_commas ns ++ decimal n)
 behind-push [] n = ap (λ (t : List ℕ). 44 ∷ t) (append-nil (decimal n))
-behind-push (m ∷ ns) n = ap (λ (t : List ℕ). 44 ∷ (decimal m ++ t)) (behind-push ns n) ∙ ap (λ (t : List ℕ). 44 ∷ t) (sym (append_assoc (decimal m) (44 ∷ before_commas ns) (decimal n)))
+behind-push (m ∷ ns) n = ap (λ (t : List ℕ). 44 ∷ (decimal m ++ t)) (behind-push ns n)
+    ∙ ap (λ (t : List ℕ). 44 ∷ t) (sym (append_assoc (decimal m) (44 ∷ before_commas ns) (decimal n)))
 
 -- a stamp is its first numbers, each before a comma, and then its last
 stamp-push : (ns : List ℕ) (n : ℕ) → stamp_text (ns ++ n ∷ []) ≡ before_commas ns ++ decimal n
 stamp-push [] n = append-nil (decimal n)
 stamp-push (m ∷ ns) n = ap (λ (t : List ℕ). decimal m ++ t) (behind-push ns n) ∙ sym (append_assoc (decimal m) (44 ∷ before_commas ns) (decimal n))
 
-pub whole : (text stamp rest : List ℕ) (place last n : ℕ) → place ≡ last → Begun text stamp rest place (last + 1) → decimal n ≡ rest → stamp_text (set stamp last n) ≡ text
+pub whole : (text stamp rest : List ℕ) (place last n : ℕ) → place ≡ last → Begun text stamp rest place (last + 1)
+    → decimal n ≡ rest → stamp_text (set stamp last n) ≡ text
 whole text stamp rest place last n here begun is =
     let before = rw here at begun in
     let long = before.long in
@@ -68,13 +72,15 @@ commas_same [] [] r s long fx fy same = same
 commas_same [] (y ∷ ys) r s long fx fy same = absurd (omega (arith, long))
 commas_same (x ∷ xs) [] r s long fx fy same = absurd (omega (arith, long))
 commas_same (x ∷ xs) (y ∷ ys) r s long fx fy same =
-    let step = first-same 44 y x (before_commas ys ++ s) (before_commas xs ++ r) (before_commas (y ∷ ys) ++ s) (omega arith) (All-head FitsNumber y ys fy) (All-head FitsNumber x xs fx)
+    let step = first-same 44 y x (before_commas ys ++ s) (before_commas xs ++ r) (before_commas (y ∷ ys) ++ s)
+    (omega arith) (All-head FitsNumber y ys fy) (All-head FitsNumber x xs fx)
     (append_assoc (decimal y) (44 ∷ []) (before_commas ys ++ s) ∙ sym (append_assoc (decimal y) (44 ∷ before_commas ys) s))
     (sym (append_assoc (decimal x) (44 ∷ before_commas xs) r) ∙ same) in
     commas_same xs ys r s (omega (arith, long)) (All-tail FitsNumber x xs fx) (All-tail FitsNumber y ys fy) step.1
 
 -- a stamp is its first numbers, another, and at least one more
-stamp-split : (p : ℕ) (ns : List ℕ) → suc p < length ns → stamp_text ns ≡ before_commas (take p ns) ++ (decimal (slice_index ns p) ++ 44 ∷ stamp_text (drop (suc p) ns))
+stamp-split : (p : ℕ) (ns : List ℕ) → suc p < length ns → stamp_text ns ≡ before_commas (take p ns)
+    ++ (decimal (slice_index ns p) ++ 44 ∷ stamp_text (drop (suc p) ns))
 stamp-split p [] below = absurd (omega (arith, below))
 stamp-split p (n ∷ []) below = absurd (omega (arith, below))
 stamp-split zero (n ∷ m ∷ ns) below = refl
@@ -91,7 +97,8 @@ length-take_at : (p : ℕ) (ns : List ℕ) → p ≤ length ns → length (take 
 length-take_at p ns below = length-take-le p ns below
 
 -- no stamp of as many numbers has the text where one of its numbers isn't read
-pub none_here : (text stamp rest : List ℕ) (place last : ℕ) → place < last → Begun text stamp rest place (last + 1) → ReadsFront FitsNumber (λ n. decimal n ++ 44 ∷ []) rest None → IsStamp text stamp false
+pub none_here : (text stamp rest : List ℕ) (place last : ℕ) → place < last → Begun text stamp rest place (last + 1)
+    → ReadsFront FitsNumber (λ n. decimal n ++ 44 ∷ []) rest None → IsStamp text stamp false
 none_here text stamp rest place last below before none other long fits same =
     let here = before.long in
     let split = stamp-split place other (omega (arith, below, long, here)) in
@@ -100,7 +107,8 @@ none_here text stamp rest place last below before none other long fits same =
     (All-take FitsNumber place other fits) before.fits (sym split ∙ same ∙ sym before.read) in
     first-none FitsNumber 44 rest none (slice_index other place) (stamp_text (drop (suc place) other)) (fits place 0 (omega (arith, below, long, here))) left
 
-pub none_last : (text stamp rest : List ℕ) (place last : ℕ) → place ≡ last → Begun text stamp rest place (last + 1) → Reads FitsNumber decimal rest None → IsStamp text stamp false
+pub none_last : (text stamp rest : List ℕ) (place last : ℕ) → place ≡ last → Begun text stamp rest place (last + 1)
+    → Reads FitsNumber decimal rest None → IsStamp text stamp false
 none_last text stamp rest place last end begun none other long fits same =
     let before = rw end at begun in
     let here = before.long in
@@ -113,13 +121,17 @@ none_last text stamp rest place last end begun none other long fits same =
 Lacks-behind : (ns : List ℕ) → All FitsNumber ns → Lacks 32 (behind_commas ns)
 Lacks-behind [] fits = All-nil (λ b. b ≢ 32)
 Lacks-behind (n ∷ ns) fits =
-    All-append (λ b. b ≢ 32) (44 ∷ decimal n) (behind_commas ns) (All-cons (λ b. b ≢ 32) 44 (decimal n) (λ same. omega (arith, same)) (Lacks-decimal 32 n (omega arith) (All-head FitsNumber n ns fits)))
+    All-append (λ b. b ≢ 32) (44 ∷ decimal n) (behind_commas ns)
+    (All-cons (λ b. b ≢ 32) 44 (decimal n) (λ same. omega (arith, same))
+    (Lacks-decimal 32 n (omega arith) (All-head FitsNumber n ns fits)))
     (Lacks-behind ns (All-tail FitsNumber n ns fits))
 
 pub Lacks-stamp : (ns : List ℕ) → All FitsNumber ns → Lacks 32 (stamp_text ns)
 Lacks-stamp [] fits = All-nil (λ b. b ≢ 32)
 Lacks-stamp (n ∷ ns) fits =
-    All-append (λ b. b ≢ 32) (decimal n) (behind_commas ns) (Lacks-decimal 32 n (omega arith) (All-head FitsNumber n ns fits)) (Lacks-behind ns (All-tail FitsNumber n ns fits))
+    All-append (λ b. b ≢ 32) (decimal n) (behind_commas ns)
+    (Lacks-decimal 32 n (omega arith) (All-head FitsNumber n ns fits))
+    (Lacks-behind ns (All-tail FitsNumber n ns fits))
 
 -- a line shows no stamp where the text before its value is none
 pub shows_none : (line rest numbers value stamp : List ℕ) (many : ℕ) → line ≡ codes "shown " ++ rest → Lacks 32 numbers → numbers ++ 32 ∷ value ≡ rest

@@ -1,5 +1,7 @@
 -- A printed value is two lower-case digits for each byte.
-use Rattle.std.proofs.Common.{drop, ◌≡◌, ◌≢◌, ◌⊎◌, inl, inr, ◌<◌, ◌≤◌, ◌+◌, ◌-◌, ◌*◌, ◌/◌, ◌%◌, ◌==◌, ◌&&◌, ℕ, zero, suc, Bool, true, false, List, [], ◌∷◌, ◌++◌, ◌∙◌, All, length, slice_index, Ok, refl, sym, ap, subst, arith, codes}
+use Rattle.std.proofs.Common.{drop, ◌≡◌, ◌≢◌, ◌⊎◌, inl, inr, ◌<◌, ◌≤◌, ◌+◌, ◌-◌, ◌*◌, ◌/◌, ◌%◌, ◌==◌, ◌&&◌, ℕ, zero}
+use Rattle.std.proofs.Common.{suc, Bool, true, false, List, [], ◌∷◌, ◌++◌, ◌∙◌, All, length, slice_index, Ok, refl, sym}
+use Rattle.std.proofs.Common.{ap, subst, arith, codes}
 use Rattle.std.specs.Prelude.{IsTrue, ◌↔◌}
 use Rattle.std.proofs.Math.ListN.{drop_of_length-le}
 use Rattle.std.proofs.lemmas.Bool.{and_parts, eqb-true, cases_lt}
@@ -77,7 +79,8 @@ digits-encode [] bytes = All-nil IsLowerDigit
 digits-encode (b ∷ bs) bytes =
     let fits = All-head (λ b. b < 256) b bs bytes in
     All-cons IsLowerDigit (slice_index lower_digits (b / 16)) (slice_index lower_digits (b % 16) ∷ encode_lower bs) (lower_digit (b / 16) (omega (arith, fits)))
-    (All-cons IsLowerDigit (slice_index lower_digits (b % 16)) (encode_lower bs) (lower_digit (b % 16) (omega arith)) (digits-encode bs (All-tail (λ b. b < 256) b bs bytes)))
+    (All-cons IsLowerDigit (slice_index lower_digits (b % 16)) (encode_lower bs) (lower_digit (b % 16) (omega arith))
+    (digits-encode bs (All-tail (λ b. b < 256) b bs bytes)))
 
 pub even-encode : (bytes : List ℕ) → length (encode_lower bytes) % 2 ≡ 0
 even-encode bytes = let e = length-encode_with lower_digits bytes in omega (arith, e)
@@ -102,7 +105,11 @@ value-digits word are = by (encoding word are.digits are.even)
 pub value-form : (word : List ℕ) → IsValueText word → (word ≡ codes "-") ⊎ AreDigits word
 value-form word ([], bytes, same) = inl (sym same)
 value-form word (b ∷ bs, bytes, same) =
-    inr (subst AreDigits same (record { some = let e = length-encode_with lower_digits (b ∷ bs) in omega (arith, e); even = even-encode (b ∷ bs); digits = digits-encode (b ∷ bs) bytes }))
+    inr (subst AreDigits same (record {
+      some = let e = length-encode_with lower_digits (b ∷ bs) in omega (arith, e);
+      even = even-encode (b ∷ bs);
+      digits = digits-encode (b ∷ bs) bytes;
+    }))
 
 is_bytes : (xs : List ℕ) → AreBytes xs → IsBytes xs
 is_bytes [] bytes i = omega arith
@@ -132,7 +139,8 @@ pub lacks : (b : ℕ) (text : List ℕ) → b ≤ 32 → All (λ b. 32 < b) text
 lacks b text low plain = All-weaker (λ b. 32 < b) (λ d. d ≢ b) (λ d above same. omega (arith, above, low, same)) text plain
 
 -- a word other than `-` whose length is even is a value where its bytes are digits
-pub value-test : (word : List ℕ) (b : Bool) → word ≢ codes "-" → 0 < length word → length word % 2 ≡ 0 → (IsTrue b ↔ All IsLowerDigit word) → IsTrue b ↔ IsValueText word
+pub value-test : (word : List ℕ) (b : Bool) → word ≢ codes "-" → 0 < length word → length word % 2 ≡ 0
+    → (IsTrue b ↔ All IsLowerDigit word) → IsTrue b ↔ IsValueText word
 value-test word b other some even digits = (
   λ told. value-digits word (record { some = some; even = even; digits = digits.0 told }),
   λ value. elim (value-form word value) [
@@ -159,7 +167,8 @@ encode-cons : (b : ℕ) (bs : List ℕ) → encode_lower (b ∷ bs) ≡ encode_l
 unfolding encode_with
 encode-cons b bs = refl
 
-encode-drop : (bytes : List ℕ) (i : ℕ) → i < length bytes → encode_lower (drop i bytes) ≡ encode_lower (slice_index bytes i ∷ []) ++ encode_lower (drop (i + 1) bytes)
+encode-drop : (bytes : List ℕ) (i : ℕ) → i < length bytes → encode_lower (drop i bytes)
+    ≡ encode_lower (slice_index bytes i ∷ []) ++ encode_lower (drop (i + 1) bytes)
 encode-drop bytes i below = ap (λ (t : List ℕ). encode_lower t) (drop_more bytes i 0 below) ∙ encode-cons (slice_index bytes i) (drop (i + 1) bytes)
 
 -- the digits of the bytes from i on are what is left of a word exactly where those of all are the word
@@ -175,10 +184,12 @@ pub digits-more : (word bytes rest more : List ℕ) (i : ℕ) → i < length byt
     → SameDigits word bytes i rest → SameDigits word bytes (i + 1) more
 digits-more word bytes rest more i below is same = (
   λ told. same.0 (encode-drop bytes i below ∙ ap (λ (t : List ℕ). encode_lower (slice_index bytes i ∷ []) ++ t) told ∙ sym is),
-  λ told. append_cancel_left (encode_lower (slice_index bytes i ∷ [])) (encode_lower (drop (i + 1) bytes)) more (sym (encode-drop bytes i below) ∙ same.1 told ∙ is),
+  λ told. append_cancel_left (encode_lower (slice_index bytes i ∷ [])) (encode_lower (drop (i + 1) bytes)) more
+      (sym (encode-drop bytes i below) ∙ same.1 told ∙ is),
 )
 
-pub digits-done : (word bytes rest : List ℕ) (i : ℕ) (b : Bool) → length bytes ≤ i → (IsTrue b ↔ (rest ≡ [])) → SameDigits word bytes i rest → IsTrue b ↔ (encode_lower bytes ≡ word)
+pub digits-done : (word bytes rest : List ℕ) (i : ℕ) (b : Bool) → length bytes ≤ i → (IsTrue b ↔ (rest ≡ []))
+    → SameDigits word bytes i rest → IsTrue b ↔ (encode_lower bytes ≡ word)
 unfolding encode_with
 digits-done word bytes rest i b over empty same =
     let none : drop i bytes ≡ [] = drop_of_length-le bytes over in

@@ -1,5 +1,6 @@
 -- The first frame of a text.
-use Rattle.std.proofs.Common.{◌≡◌, ℕ, ◌+◌, ◌-◌, ◌≤◌, List, ◌++◌, length, take, drop, Option, Some, None, refl, sym, ap, subst, ◌∙◌, append_assoc, arith, inl, inr}
+use Rattle.std.proofs.Common.{◌≡◌, ℕ, ◌+◌, ◌-◌, ◌≤◌, List, ◌++◌, length, take, drop, Option, Some, None, refl, sym, ap}
+use Rattle.std.proofs.Common.{subst, ◌∙◌, append_assoc, arith, inl, inr}
 use Rattle.std.specs.Int.{w32, from_be_bytes}
 use Rattle.std.proofs.lemmas.Bool.{cases_lt}
 use Rattle.std.proofs.lemmas.List.{take_at, drop_at, take-append-drop, take-append-le, length-append, length-take, length-drop}
@@ -18,7 +19,8 @@ length-frame m = length-append (four (length (text_of m))) (text_of m)
 pub announced-frame : (m : Message) (more : List ℕ) → HasFrame m → announced (frame_of m ++ more) ≡ length (text_of m)
 announced-frame m more has =
     let regrouped : frame_of m ++ more ≡ four (length (text_of m)) ++ (text_of m ++ more) = append_assoc (four (length (text_of m))) (text_of m) more in
-    let front : take 4 (frame_of m ++ more) ≡ four (length (text_of m)) = ap (λ (t : List ℕ). take 4 t) regrouped ∙ take_at (four (length (text_of m))) (text_of m ++ more) 4 refl in
+    let front : take 4 (frame_of m ++ more) ≡ four (length (text_of m)) = ap (λ (t : List ℕ). take 4 t) regrouped
+    ∙ take_at (four (length (text_of m))) (text_of m ++ more) 4 refl in
     ap (λ (t : List ℕ). from_be_bytes w32 t) front ∙ wide32.again (length (text_of m)) (text_length m has)
 
 -- what bytes say of the frame at their front
@@ -31,7 +33,8 @@ pub record Fronts (bytes : List ℕ) (m : Message) : Type 0 where
 pub fronts : (bytes more : List ℕ) (m : Message) → HasFrame m → bytes ≡ frame_of m ++ more → Fronts bytes m
 fronts bytes more m has e =
     let says : announced bytes ≡ length (text_of m) = ap announced e ∙ announced-frame m more has in
-    let len : length bytes ≡ 4 + length (text_of m) + length more = ap length e ∙ length-append (frame_of m) more ∙ ap (λ (n : ℕ). n + length more) (length-frame m) in
+    let len : length bytes ≡ 4 + length (text_of m) + length more = ap length e ∙ length-append (frame_of m) more
+    ∙ ap (λ (n : ℕ). n + length more) (length-frame m) in
     let short = has.short in
     let some : 1 ≤ length (text_of m) = omega arith in
     record {
@@ -52,7 +55,8 @@ partial-none rest partial m more has e =
 pub announced-more : (xs ys : List ℕ) → 4 ≤ length xs → announced (xs ++ ys) ≡ announced xs
 announced-more xs ys le = ap (λ (t : List ℕ). from_be_bytes w32 t) (take-append-le 4 xs ys le)
 
-pub spelled : (text : List ℕ) (m : Message) → IsBytes text → length text ≡ 4 + announced text → announced text ≤ most → message_of (drop 4 text) ≡ Some m → IsFrame text m
+pub spelled : (text : List ℕ) (m : Message) → IsBytes text → length text ≡ 4 + announced text → announced text ≤ most
+    → message_of (drop 4 text) ≡ Some m → IsFrame text m
 spelled text m is len short e =
     let t = text_takes (drop 4 text) m (IsBytes-drop 4 text is) e in
     let four_long : length (take 4 text) ≡ 4 = omega (arith, length-take 4 text, len) in
@@ -69,8 +73,10 @@ unspelled text more len none m behind has e =
     let f = fronts (text ++ more) behind m has e in
     let says = f.says in
     let long : length (frame_of m) ≡ length text = omega (arith, length-frame m, len, says) in
-    let is : text ≡ frame_of m = sym (take_at text more (length text) refl) ∙ ap (λ (t : List ℕ). take (length text) t) e ∙ take_at (frame_of m) behind (length text) long in
-    let read : message_of (drop 4 text) ≡ Some m = ap (λ (t : List ℕ). message_of (drop 4 t)) is ∙ ap message_of (drop_at (four (length (text_of m))) (text_of m) 4 refl) ∙ text_again m has.fit in
+    let is : text ≡ frame_of m = sym (take_at text more (length text) refl) ∙ ap (λ (t : List ℕ). take (length text) t)
+    e ∙ take_at (frame_of m) behind (length text) long in
+    let read : message_of (drop 4 text) ≡ Some m = ap (λ (t : List ℕ). message_of (drop 4 t)) is
+    ∙ ap message_of (drop_at (four (length (text_of m))) (text_of m) 4 refl) ∙ text_again m has.fit in
     absurd (some_none (message_of (drop 4 text)) m read none)
   where
     some_none : (r : Option Message) (m : Message) → r ≡ Some m → r ≡ None → ⊥
@@ -91,7 +97,9 @@ joined front piece len partial said there =
       | inr le ↦ (let p = partial le in let below = p.1 in omega (arith, below, said, announced-more front piece le))
     ] in
     let long : length (front ++ take t piece) ≡ 4 + len = omega (arith, length-append front (take t piece), length-take t piece, shorter, there) in
-    let whole : front ++ piece ≡ (front ++ take t piece) ++ drop t piece = ap (λ (s : List ℕ). front ++ s) (sym (take-append-drop t piece)) ∙ sym (append_assoc front (take t piece) (drop t piece)) in
+    let whole : front ++ piece ≡ (front ++ take t piece) ++ drop t piece =
+    ap (λ (s : List ℕ). front ++ s) (sym (take-append-drop t piece))
+    ∙ sym (append_assoc front (take t piece) (drop t piece)) in
     record {
       shorter = shorter;
       long = long;
@@ -99,14 +107,16 @@ joined front piece len partial said there =
       says = sym (announced-more (front ++ take t piece) (drop t piece) (omega (arith, long))) ∙ ap announced (sym whole) ∙ sym said;
     }
 
-pub cut-whole : (front piece : List ℕ) (len : ℕ) (m : Message) → IsBytes front → IsBytes piece → IsPartial front → len ≡ announced (front ++ piece) → len ≤ most → 4 + len ≤ length front + length piece
+pub cut-whole : (front piece : List ℕ) (len : ℕ) (m : Message) → IsBytes front → IsBytes piece → IsPartial front
+    → len ≡ announced (front ++ piece) → len ≤ most → 4 + len ≤ length front + length piece
     → message_of (drop 4 (front ++ take (4 + len - length front) piece)) ≡ Some m → IsFrame (front ++ take (4 + len - length front) piece) m
 cut-whole front piece len m is_front is_piece partial said short there e =
     let j = joined front piece len partial said there in
     let long = j.long in
     let says = j.says in
     let t = 4 + len - length front in
-    spelled (front ++ take t piece) m (IsBytes-append front (take t piece) is_front (IsBytes-take t piece is_piece)) (omega (arith, long, says)) (omega (arith, says, short)) e
+    spelled (front ++ take t piece) m (IsBytes-append front (take t piece) is_front (IsBytes-take t piece is_piece))
+    (omega (arith, long, says)) (omega (arith, says, short)) e
 
 pub cut-bad : (front piece : List ℕ) (len : ℕ) → IsPartial front → len ≡ announced (front ++ piece) → 4 + len ≤ length front + length piece
     → message_of (drop 4 (front ++ take (4 + len - length front) piece)) ≡ None → IsBad (front ++ piece)

@@ -32,7 +32,11 @@ passes-key word passes =
     let bytes = AllPass-from_list_all (λ b. nat_lt 32 b && not (b == 127)) word p.2 in
     let some = p.0 in
     let short = p.1 in
-    record { some = grind (arith, nat_tests, common_steps); short = grind (arith, nat_tests, common_steps); plain = λ i d within. is_key_byte _ (bytes i d within) }
+    record {
+      some = grind (arith, nat_tests, common_steps);
+      short = grind (arith, nat_tests, common_steps);
+      plain = λ i d within. is_key_byte _ (bytes i d within);
+    }
 
 fails-key_by : (b : Bool) (word : List ℕ) → passes_key word ≡ b → (¬ (IsKey word)) → passes_key word ≡ false
 fails-key_by true word is none = absurd (none (passes-key word is))
@@ -41,10 +45,12 @@ fails-key_by false word is none = is
 fails-key : (word : List ℕ) → (¬ (IsKey word)) → passes_key word ≡ false
 fails-key word none = fails-key_by (passes_key word) word refl none
 
-pub key-read : (bytes behind rest key : List ℕ) (n : ℕ) → one_at bytes ≡ Some (n, behind) → bytes_at n behind ≡ Some (key, rest) → IsKey key → key_at bytes ≡ Some (key, rest)
+pub key-read : (bytes behind rest key : List ℕ) (n : ℕ) → one_at bytes ≡ Some (n, behind)
+    → bytes_at n behind ≡ Some (key, rest) → IsKey key → key_at bytes ≡ Some (key, rest)
 unfolding key_at
 key-read bytes behind rest key n count front is = rw (count, front, key-passes key is) refl
 
-pub key-none : (bytes behind rest key : List ℕ) (n : ℕ) → one_at bytes ≡ Some (n, behind) → bytes_at n behind ≡ Some (key, rest) → (¬ (IsKey key)) → key_at bytes ≡ None
+pub key-none : (bytes behind rest key : List ℕ) (n : ℕ) → one_at bytes ≡ Some (n, behind)
+    → bytes_at n behind ≡ Some (key, rest) → (¬ (IsKey key)) → key_at bytes ≡ None
 unfolding key_at
 key-none bytes behind rest key n count front none = rw (count, front, fails-key key none) refl

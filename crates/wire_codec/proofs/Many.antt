@@ -9,19 +9,23 @@ use Rattle.wire_codec.specs.Reading.{◌>>=◌, Read, Fails, many_at}
 abbrev pub with_front : {A : Type 0} → List A → Option (List A × List ℕ) → Option (List A × List ℕ)
 with_front front read = read >>= λ x. Some (front ++ x.0, x.1)
 
-regroup : {A : Type 0} (front : List A) (n : A) (read : Option (List A × List ℕ)) → with_front front (read >>= λ x. Some (n ∷ x.0, x.1)) ≡ with_front (front ++ n ∷ []) read
+regroup : {A : Type 0} (front : List A) (n : A) (read : Option (List A × List ℕ))
+    → with_front front (read >>= λ x. Some (n ∷ x.0, x.1)) ≡ with_front (front ++ n ∷ []) read
 regroup {A = A} front n (Some x) = ap (λ (ns : List A). Some (ns, x.1)) (simp append_assoc)
 regroup front n None = refl
 
-pub goes_on : {A : Type 0} (read : Read A) (front : List A) (count i : ℕ) (bytes : List ℕ) (n : A) (after : List ℕ) (total : Option (List A × List ℕ)) → i < count → read bytes ≡ Some (n, after)
+pub goes_on : {A : Type 0} (read : Read A) (front : List A) (count i : ℕ) (bytes : List ℕ) (n : A) (after : List ℕ)
+    (total : Option (List A × List ℕ)) → i < count → read bytes ≡ Some (n, after)
     → with_front front (many_at read (count - i) bytes) ≡ total → with_front (front ++ n ∷ []) (many_at read (count - (i + 1)) after) ≡ total
 unfolding many_at
 goes_on read front count i bytes n after total lt h so_far =
     let k : count - i ≡ suc (count - (i + 1)) = omega arith in
-    let one : with_front front (many_at read (count - i) bytes) ≡ with_front (front ++ n ∷ []) (many_at read (count - (i + 1)) after) = rw (k, h) (regroup front n (many_at read (count - (i + 1)) after)) in
+    let one : with_front front (many_at read (count - i) bytes) ≡ with_front (front ++ n ∷ [])
+    (many_at read (count - (i + 1)) after) = rw (k, h) (regroup front n (many_at read (count - (i + 1)) after)) in
     sym one ∙ so_far
 
-pub ends : {A : Type 0} (read : Read A) (e : ReadFault) (front : List A) (count i : ℕ) (bytes : List ℕ) (total : Option (List A × List ℕ)) → i < count → Fails e (read bytes)
+pub ends : {A : Type 0} (read : Read A) (e : ReadFault) (front : List A) (count i : ℕ) (bytes : List ℕ)
+    (total : Option (List A × List ℕ)) → i < count → Fails e (read bytes)
     → with_front front (many_at read (count - i) bytes) ≡ total → Fails e total
 unfolding many_at
 ends read Want front count i bytes total lt h so_far = tt
@@ -30,7 +34,9 @@ ends read NoSpelling front count i bytes total lt h so_far =
     let one : with_front front (many_at read (count - i) bytes) ≡ None = rw (k, h) refl in
     sym so_far ∙ one
 
-pub is_done : {A : Type 0} (read : Read A) (front : List A) (count i : ℕ) (bytes : List ℕ) (total : Option (List A × List ℕ)) → count ≤ i → with_front front (many_at read (count - i) bytes) ≡ total → total ≡ Some (front, bytes)
+pub is_done : {A : Type 0} (read : Read A) (front : List A) (count i : ℕ) (bytes : List ℕ)
+    (total : Option (List A × List ℕ)) → count ≤ i → with_front front (many_at read (count - i) bytes) ≡ total
+    → total ≡ Some (front, bytes)
 unfolding many_at
 is_done {A = A} read front count i bytes total le so_far =
     let k : count - i ≡ 0 = omega arith in

@@ -1,5 +1,6 @@
 -- Fields that are written one behind the other.
-use Rattle.std.proofs.Common.{◌≡◌, ℕ, zero, suc, ◌≤◌, drop, ◌+◌, ◌*◌, ◌<◌, get_or, take, List, [], ◌∷◌, ◌++◌, length, refl, sym, ap, subst, ◌∙◌, append_assoc, arith}
+use Rattle.std.proofs.Common.{◌≡◌, ℕ, zero, suc, ◌≤◌, drop, ◌+◌, ◌*◌, ◌<◌, get_or, take, List, [], ◌∷◌, ◌++◌, length}
+use Rattle.std.proofs.Common.{refl, sym, ap, subst, ◌∙◌, append_assoc, arith}
 use Rattle.std.specs.List.{AllByRecursion, flat_map}
 use Rattle.std.proofs.lemmas.Grind.{flat_map-append}
 use Rattle.std.proofs.lemmas.List.{length-append, append-nil, take_more, take-append-drop}
@@ -40,7 +41,8 @@ name_of u = eight u.number ++ one u.caller ++ eight u.call ++ short u.key
 pub update_parts : (u : Update) → update_before u ++ delta_of u.body ++ (maybe run u.frees ++ outcome u.outcome) ≡ update u
 update_parts u =
     let name = name_of u in
-    let front : update_before u ++ delta_of u.body ≡ name ++ body u.body = append_assoc name (body_before u.body) (delta_of u.body) ∙ ap (λ (t : List ℕ). name ++ t) (body_parts u.body) in
+    let front : update_before u ++ delta_of u.body ≡ name ++ body u.body =
+    append_assoc name (body_before u.body) (delta_of u.body) ∙ ap (λ (t : List ℕ). name ++ t) (body_parts u.body) in
     ap (λ (t : List ℕ). t ++ (maybe run u.frees ++ outcome u.outcome)) front ∙ sym (append_assoc (name ++ body u.body) (maybe run u.frees) (outcome u.outcome))
 
 refl_parts : (text : List ℕ) → text ++ [] ++ [] ≡ text
@@ -50,12 +52,16 @@ refl_parts text = append-nil (text ++ []) ∙ append-nil text
 pub text_parts : (m : Message) → text_before m ++ value_of m ++ text_behind m ≡ text_of m
 text_parts (tells.Update r d u stable) =
     let behind : update_before u ++ delta_of u.body ++ (maybe run u.frees ++ outcome u.outcome ++ eight stable) ≡ update u ++ eight stable =
-    sym (append_assoc (update_before u ++ delta_of u.body) (maybe run u.frees ++ outcome u.outcome) (eight stable)) ∙ ap (λ (t : List ℕ). t ++ eight stable) (update_parts u) in
+    sym (append_assoc (update_before u ++ delta_of u.body) (maybe run u.frees ++ outcome u.outcome) (eight stable))
+    ∙ ap (λ (t : List ℕ). t ++ eight stable) (update_parts u) in
     ap (λ (t : List ℕ). 1 ∷ r.0 ∷ d.0 ∷ t) behind
 text_parts (tells.Block s bytes number) =
     ap (λ (t : List ℕ). 6 ∷ (t ++ eight number)) (append_assoc (session s) (four (length bytes)) bytes)
 text_parts (tells.Row s bytes stamp) =
-    ap (λ (t : List ℕ). 8 ∷ (t ++ (one (length stamp) ++ flat_map eight stamp))) (append_assoc (session s) (four (length bytes)) bytes) ∙ ap (λ (t : List ℕ). 8 ∷ t) (sym (append_assoc (session s ++ long bytes) (one (length stamp)) (flat_map eight stamp)))
+    ap (λ (t : List ℕ). 8 ∷ (t ++ (one (length stamp) ++ flat_map eight stamp)))
+    (append_assoc (session s) (four (length bytes)) bytes)
+    ∙ ap (λ (t : List ℕ). 8 ∷ t)
+    (sym (append_assoc (session s ++ long bytes) (one (length stamp)) (flat_map eight stamp)))
 text_parts (tells.Ack r d number) = refl_parts (text_of (tells.Ack r d number))
 text_parts (tells.Stable r d number) = refl_parts (text_of (tells.Stable r d number))
 text_parts (tells.Adopt r d base list) = refl_parts (text_of (tells.Adopt r d base list))
@@ -77,35 +83,52 @@ length-eights [] = refl
 length-eights (n ∷ ns) = omega (arith, ap length (flat_map-cons eight n ns), length-append (eight n) (flat_map eight ns), length-eights ns)
 
 -- one more of a list is written
-pub one_more : {A : Type 0} (f : A → List ℕ) (out now next : List ℕ) (xs : List A) (i : ℕ) (x : A) → i < length xs → now ≡ out ++ flat_map f (take i xs) → next ≡ now ++ f (get_or xs i x) → next ≡ out ++ flat_map f (take (i + 1) xs)
+pub one_more : {A : Type 0} (f : A → List ℕ) (out now next : List ℕ) (xs : List A) (i : ℕ) (x : A) → i < length xs
+    → now ≡ out ++ flat_map f (take i xs) → next ≡ now ++ f (get_or xs i x) → next ≡ out ++ flat_map f (take (i + 1) xs)
 one_more {A = A} f out now next xs i x lt was is =
     let last : flat_map f (take (i + 1) xs) ≡ flat_map f (take i xs) ++ f (get_or xs i x) =
-    ap (λ (ys : List A). flat_map f ys) (take_more xs i x lt) ∙ flat_map-append f (take i xs) (get_or xs i x ∷ []) ∙ ap (λ (t : List ℕ). flat_map f (take i xs) ++ t) (flat_map-cons f (get_or xs i x) [] ∙ append-nil (f (get_or xs i x))) in
+    ap (λ (ys : List A). flat_map f ys) (take_more xs i x lt) ∙ flat_map-append f (take i xs) (get_or xs i x ∷ [])
+    ∙ ap (λ (t : List ℕ). flat_map f (take i xs) ++ t) (flat_map-cons f (get_or xs i x) []
+    ∙ append-nil (f (get_or xs i x))) in
     joins_two out now next (flat_map f (take i xs)) (f (get_or xs i x)) was is ∙ ap (λ (t : List ℕ). out ++ t) (sym last)
 
 pub length_row : (s : Session) (bytes stamp : List ℕ) → length (text_of (tells.Row s bytes stamp)) ≡ 16 + length bytes + 8 * length stamp
 length_row s bytes stamp =
-    omega (arith, length-append (session s ++ long bytes ++ one (length stamp)) (flat_map eight stamp), length-append (session s ++ long bytes) (one (length stamp)), length-append (session s) (long bytes), length-append (four (length bytes)) bytes, length-session s, length-eights stamp)
+    omega (
+      arith,
+      length-append (session s ++ long bytes ++ one (length stamp)) (flat_map eight stamp),
+      length-append (session s ++ long bytes) (one (length stamp)),
+      length-append (session s) (long bytes),
+      length-append (four (length bytes)) bytes,
+      length-session s,
+      length-eights stamp,
+    )
 
-pub length_more : {A : Type 0} (f : A → List ℕ) (xs : List A) (i : ℕ) (x : A) → i < length xs → length (flat_map f (take (i + 1) xs)) ≡ length (flat_map f (take i xs)) + length (f (get_or xs i x))
+pub length_more : {A : Type 0} (f : A → List ℕ) (xs : List A) (i : ℕ) (x : A) → i < length xs
+    → length (flat_map f (take (i + 1) xs)) ≡ length (flat_map f (take i xs)) + length (f (get_or xs i x))
 length_more f xs i x lt =
     let next = one_more f [] (flat_map f (take i xs)) (flat_map f (take i xs) ++ f (get_or xs i x)) xs i x lt refl refl in
     ap length (sym next) ∙ length-append (flat_map f (take i xs)) (f (get_or xs i x))
 
 -- the front of a list and the next of it are no longer than all
-pub length_front : {A : Type 0} (f : A → List ℕ) (xs : List A) (i : ℕ) (x : A) → i < length xs → length (flat_map f (take i xs)) + length (f (get_or xs i x)) ≤ length (flat_map f xs)
+pub length_front : {A : Type 0} (f : A → List ℕ) (xs : List A) (i : ℕ) (x : A) → i < length xs
+    → length (flat_map f (take i xs)) + length (f (get_or xs i x)) ≤ length (flat_map f xs)
 length_front {A = A} f xs i x lt =
-    let whole : flat_map f (take (i + 1) xs) ++ flat_map f (drop (i + 1) xs) ≡ flat_map f xs = sym (flat_map-append f (take (i + 1) xs) (drop (i + 1) xs)) ∙ ap (λ (ys : List A). flat_map f ys) (take-append-drop (i + 1) xs) in
+    let whole : flat_map f (take (i + 1) xs) ++ flat_map f (drop (i + 1) xs) ≡ flat_map f xs =
+    sym (flat_map-append f (take (i + 1) xs) (drop (i + 1) xs)) ∙ ap (λ (ys : List A). flat_map f ys)
+    (take-append-drop (i + 1) xs) in
     let more = length_more f xs i x lt in
     omega (arith, more, ap length whole, length-append (flat_map f (take (i + 1) xs)) (flat_map f (drop (i + 1) xs)))
 
 -- what holds of a front and the next
-all_next : {A : Type 0} (P : A → Type 0) (xs : List A) (i : ℕ) (x : A) → i < length xs → AllByRecursion P (take i xs) → P (get_or xs i x) → AllByRecursion P (take (suc i) xs)
+all_next : {A : Type 0} (P : A → Type 0) (xs : List A) (i : ℕ) (x : A) → i < length xs → AllByRecursion P (take i xs)
+    → P (get_or xs i x) → AllByRecursion P (take (suc i) xs)
 all_next P [] i x lt all p = absurd (omega (arith, lt))
 all_next P (y ∷ xs) zero x lt all p = (p, tt)
 all_next P (y ∷ xs) (suc i) x lt all p = (all.0, all_next P xs i x (omega (arith, lt)) all.1 p)
 
-pub all_more : {A : Type 0} (P : A → Type 0) (xs : List A) (i : ℕ) (x : A) → i < length xs → AllByRecursion P (take i xs) → P (get_or xs i x) → AllByRecursion P (take (i + 1) xs)
+pub all_more : {A : Type 0} (P : A → Type 0) (xs : List A) (i : ℕ) (x : A) → i < length xs
+    → AllByRecursion P (take i xs) → P (get_or xs i x) → AllByRecursion P (take (i + 1) xs)
 all_more P xs i x lt all p =
     let e : suc i ≡ i + 1 = omega arith in
     subst (λ (n : ℕ). AllByRecursion P (take n xs)) e (all_next P xs i x lt all p)

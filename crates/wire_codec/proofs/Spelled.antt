@@ -14,19 +14,30 @@ use Rattle.group_message.specs.declared.update.Outcome.{Outcome}
 use Rattle.group_message.specs.declared.update.Outcome.TheVariants as ends
 use Rattle.group_message.specs.declared.update.Update.{Update}
 use Rattle.wire_codec.specs.Frame.{one, two, four, eight, process, session, short, long, maybe, run, body, outcome, update}
-use Rattle.wire_codec.specs.Fits.{IsOne, IsTwo, IsFour, IsEight, IsShort, IsLong, FitsProcess, FitsSession, FitsMaybe, FitsRun, FitsBody, FitsOutcome, FitsUpdate}
-use Rattle.wire_codec.specs.Reading.{Read, one_at, number_at, of_two, of_four, counted_at, options, maybe_at, processes, process_at, session_at, run_at, until_at, frees_at, passes_key, key_at, long_at, change_at, put_at, bodies, body_at, outcomes, outcome_at, name_at, effect_at, update_by, update_at, updates_at, rows_at, stamp_at}
-use Rattle.wire_codec.proofs.Codes.{IsBytes, IsBytes-rest, IsBytes-front, Took, Codes, codes_one, codes_two, codes_four, codes_eight, codes_counted, codes_tested, codes_list, takes_made, takes_two, takes_three, takes_four, takes_given, tagged_takes, again_two, again_three, again_four}
+use Rattle.wire_codec.specs.Fits.{IsOne, IsTwo, IsFour, IsEight, IsShort, IsLong, FitsProcess, FitsSession, FitsMaybe}
+use Rattle.wire_codec.specs.Fits.{FitsRun, FitsBody, FitsOutcome, FitsUpdate}
+use Rattle.wire_codec.specs.Reading.{Read, one_at, number_at, of_two, of_four, counted_at, options, maybe_at, processes}
+use Rattle.wire_codec.specs.Reading.{process_at, session_at, run_at, until_at, frees_at, passes_key, key_at, long_at}
+use Rattle.wire_codec.specs.Reading.{change_at, put_at, bodies, body_at, outcomes, outcome_at, name_at, effect_at}
+use Rattle.wire_codec.specs.Reading.{update_by, update_at, updates_at, rows_at, stamp_at}
+use Rattle.wire_codec.proofs.Codes.{IsBytes, IsBytes-rest, IsBytes-front, Took, Codes, codes_one, codes_two, codes_four}
+use Rattle.wire_codec.proofs.Codes.{codes_eight, codes_counted, codes_tested, codes_list, takes_made, takes_two}
+use Rattle.wire_codec.proofs.Codes.{takes_three, takes_four, takes_given, tagged_takes, again_two, again_three}
+use Rattle.wire_codec.proofs.Codes.{again_four}
 use Rattle.wire_codec.proofs.Keys.{key-passes, passes-key}
 
-pub again_maybe : {A : Type 0} (spell : A → List ℕ) (Fits : A → Type 0) (read : Read A) → Codes spell Fits read → (o : Option A) (rest : List ℕ) → FitsMaybe Fits o → maybe_at read (maybe spell o ++ rest) ≡ Some (o, rest)
+pub again_maybe : {A : Type 0} (spell : A → List ℕ) (Fits : A → Type 0) (read : Read A) → Codes spell Fits read
+    → (o : Option A) (rest : List ℕ) → FitsMaybe Fits o → maybe_at read (maybe spell o ++ rest) ≡ Some (o, rest)
 again_maybe spell Fits read codes None rest fits = refl
 again_maybe spell Fits read codes (Some x) rest fits = rw (codes.again x rest fits) refl
 
-pub codes_maybe : {A : Type 0} (spell : A → List ℕ) (Fits : A → Type 0) (read : Read A) → Codes spell Fits read → Codes (maybe spell) (FitsMaybe Fits) (maybe_at read)
+pub codes_maybe : {A : Type 0} (spell : A → List ℕ) (Fits : A → Type 0) (read : Read A) → Codes spell Fits read
+    → Codes (maybe spell) (FitsMaybe Fits) (maybe_at read)
 codes_maybe spell Fits read codes = record {
-  takes = tagged_takes (maybe spell) (FitsMaybe Fits) (options read)
-      (takes_given (maybe spell) (FitsMaybe Fits) 0 None refl tt, (takes_made (maybe spell) (FitsMaybe Fits) (1 ∷ []) Some codes (λ a. refl) (λ a fits. fits), tt));
+  takes = tagged_takes (maybe spell) (FitsMaybe Fits) (options read) (
+    takes_given (maybe spell) (FitsMaybe Fits) 0 None refl tt,
+    (takes_made (maybe spell) (FitsMaybe Fits) (1 ∷ []) Some codes (λ a. refl) (λ a fits. fits), tt),
+  );
   again = again_maybe spell Fits read codes;
 }
 
@@ -38,8 +49,10 @@ again_process (ParityNode i) rest fits = refl
 pub codes_process : Codes process FitsProcess process_at
 unfolding process_at
 codes_process = record {
-  takes = tagged_takes process FitsProcess processes
-      (takes_made process FitsProcess (0 ∷ []) DataNode codes_one (λ a. refl) (λ a fits. fits), (takes_made process FitsProcess (1 ∷ []) ParityNode codes_one (λ a. refl) (λ a fits. fits), tt));
+  takes = tagged_takes process FitsProcess processes (
+    takes_made process FitsProcess (0 ∷ []) DataNode codes_one (λ a. refl) (λ a fits. fits),
+    (takes_made process FitsProcess (1 ∷ []) ParityNode codes_one (λ a. refl) (λ a fits. fits), tt),
+  );
   again = again_process;
 }
 
@@ -73,7 +86,9 @@ codes_frees = codes_maybe run FitsRun run_at codes_run
 
 pub codes_key : Codes short IsKey key_at
 unfolding key_at
-codes_key = codes_tested short IsShort IsKey (counted_at one_at) passes_key (codes_counted one IsOne one_at codes_one) (λ key fits passes. passes-key key passes) (λ key is. let short = is.short in omega (arith, short)) (λ key is. key-passes key is)
+codes_key = codes_tested short IsShort IsKey (counted_at one_at) passes_key (codes_counted one IsOne one_at codes_one)
+    (λ key fits passes. passes-key key passes) (λ key is. let short = is.short in omega (arith, short))
+    (λ key is. key-passes key is)
 
 pub codes_long : Codes long IsLong long_at
 unfolding long_at
@@ -112,15 +127,24 @@ again_outcome (ends.Number n) rest fits = rw (codes_eight.again n rest fits) ref
 codes_outcome : Codes outcome FitsOutcome outcome_at
 unfolding outcome_at
 codes_outcome = record {
-  takes = tagged_takes outcome FitsOutcome outcomes
-      (takes_given outcome FitsOutcome 0 ends.Stored refl tt, (takes_given outcome FitsOutcome 1 ends.Deleted refl tt, (takes_given outcome FitsOutcome 2 ends.Touched refl tt, (takes_made outcome FitsOutcome (3 ∷ []) ends.Number codes_eight (λ a. refl) (λ a fits. fits), tt))));
+  takes = tagged_takes outcome FitsOutcome outcomes (
+    takes_given outcome FitsOutcome 0 ends.Stored refl tt,
+    (
+      takes_given outcome FitsOutcome 1 ends.Deleted refl tt,
+      (
+        takes_given outcome FitsOutcome 2 ends.Touched refl tt,
+        (takes_made outcome FitsOutcome (3 ∷ []) ends.Number codes_eight (λ a. refl) (λ a fits. fits), tt),
+      ),
+    ),
+  );
   again = again_outcome;
 }
 
 abbrev put : ℕ → Option ℕ → Run × List ℕ → Body
 put flags until x = Put flags until x.0 x.1
 
-again_put : (flags : ℕ) (until : Option ℕ) (x : Run × List ℕ) (rest : List ℕ) → IsFour flags → FitsMaybe IsEight until → FitsChange x → put_at ((four flags ++ maybe eight until ++ change x) ++ rest) ≡ Some (put flags until x, rest)
+again_put : (flags : ℕ) (until : Option ℕ) (x : Run × List ℕ) (rest : List ℕ) → IsFour flags → FitsMaybe IsEight until
+    → FitsChange x → put_at ((four flags ++ maybe eight until ++ change x) ++ rest) ≡ Some (put flags until x, rest)
 unfolding put_at
 again_put flags until x rest a b c = again_three put codes_four codes_until codes_change flags until x rest a b c
 
@@ -142,8 +166,14 @@ again_body (Touch until) rest fits = rw (codes_until.again until rest fits) refl
 codes_body : Codes body FitsBody body_at
 unfolding body_at put_at
 codes_body = record {
-  takes = tagged_takes body FitsBody bodies
-      (takes_three body FitsBody (0 ∷ []) put codes_four codes_until codes_change same_body (λ a b c p q r. (p, q, r.0, r.1, r.2)), (takes_given body FitsBody 1 Remove refl tt, (takes_made body FitsBody (2 ∷ []) Touch codes_until (λ a. refl) (λ a fits. fits), tt)));
+  takes = tagged_takes body FitsBody bodies (
+    takes_three body FitsBody (0 ∷ []) put codes_four codes_until codes_change same_body
+        (λ a b c p q r. (p, q, r.0, r.1, r.2)),
+    (
+      takes_given body FitsBody 1 Remove refl tt,
+      (takes_made body FitsBody (2 ∷ []) Touch codes_until (λ a. refl) (λ a fits. fits), tt),
+    ),
+  );
   again = again_body;
 }
 
@@ -195,7 +225,8 @@ again_update u rest fits =
 pub codes_update : Codes update FitsUpdate update_at
 unfolding update_at
 codes_update = record {
-  takes = takes_four update FitsUpdate [] update_by codes_name codes_key codes_body codes_effect same_update (λ n k b x p q r s. (p.0, p.1, p.2, q, r, s.0, s.1));
+  takes = takes_four update FitsUpdate [] update_by codes_name codes_key codes_body codes_effect same_update
+      (λ n k b x p q r s. (p.0, p.1, p.2, q, r, s.0, s.1));
   again = again_update;
 }
 
@@ -214,7 +245,8 @@ small_from [] is = tt
 small_from (b ∷ bytes) is = (is 0, small_from bytes (IsBytes-rest b bytes is))
 
 -- row numbers are bytes
-rows_takes : (bytes rows rest : List ℕ) → IsBytes bytes → rows_at bytes ≡ Some (rows, rest) → Took short (λ rows. IsShort rows × AllByRecursion IsOne rows) bytes rows rest
+rows_takes : (bytes rows rest : List ℕ) → IsBytes bytes → rows_at bytes ≡ Some (rows, rest)
+    → Took short (λ rows. IsShort rows × AllByRecursion IsOne rows) bytes rows rest
 unfolding rows_at
 rows_takes bytes rows rest is e =
     let t = (codes_counted one IsOne one_at codes_one).takes bytes rows rest is e in

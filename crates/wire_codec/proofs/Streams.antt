@@ -1,5 +1,6 @@
 -- Streams of frames, and what is kept of them.
-use Rattle.std.proofs.Common.{◌≡◌, ℕ, ◌+◌, ◌<◌, ◌≤◌, nat_le, Bool, true, false, List, [], ◌∷◌, ◌++◌, length, take, drop, MatchBool, refl, sym, ap, subst, ◌∙◌, append_assoc, arith}
+use Rattle.std.proofs.Common.{◌≡◌, ℕ, ◌+◌, ◌<◌, ◌≤◌, nat_le, Bool, true, false, List, [], ◌∷◌, ◌++◌, length, take, drop}
+use Rattle.std.proofs.Common.{MatchBool, refl, sym, ap, subst, ◌∙◌, append_assoc, arith}
 use Rattle.std.specs.List.{AllByRecursion}
 use Rattle.std.proofs.lemmas.Bool.Decides.{nat_tests}
 use Rattle.std.proofs.lemmas.Grind.{flat_map-append}
@@ -32,11 +33,14 @@ few-partial rest partial = by (nat_le 4 (length rest)) refl where
   by false is = grind (arith, nat_tests)
 
 -- what is kept is the end of what was fed, and less than a frame
-pub kept-few : (kept : Kept) (input : List ℕ) (messages : List Message) → HasRead kept input messages → kept.bad ≡ false → (length kept.front ≤ length input) × (length kept.front < 134217732)
+pub kept-few : (kept : Kept) (input : List ℕ) (messages : List Message) → HasRead kept input messages → kept.bad ≡ false
+    → (length kept.front ≤ length input) × (length kept.front < 134217732)
 kept-few kept input messages h good =
     let stood : (h.rest ≡ kept.front) × IsPartial h.rest = open_stands (IsBad h.rest) ((h.rest ≡ kept.front) × IsPartial h.rest) kept.bad good h.stands in
-    let same = ap length stood.0 in
-    (omega (arith, same, ap length h.reads.whole, length-append (stream_of messages) h.rest), (let few = few-partial h.rest stood.1 in omega (arith, same, few)))
+    let same = ap length stood.0 in (
+      omega (arith, same, ap length h.reads.whole, length-append (stream_of messages) h.rest),
+      (let few = few-partial h.rest stood.1 in omega (arith, same, few)),
+    )
 
 -- nothing was read of what is less than a frame, and of what is no spelling
 pub reads-partial : (at : ℕ) (text : List ℕ) → IsPartial text → ReadsFrom at (record { begun = at; bad = false; front = text }) text []
@@ -46,11 +50,14 @@ pub reads-bad : (at : ℕ) (text : List ℕ) → IsBad text → ReadsFrom at (re
 reads-bad at text bad = record { rest = text; reads = record { whole = refl; each = tt }; stands = bad; place = refl }
 
 -- a message before those that were read of what is behind its frame
-pub reads-cons : (at : ℕ) (kept : Kept) (text after : List ℕ) (m : Message) (given : List Message) → IsFrame text m → ReadsFrom (at + length text) kept after given → ReadsFrom at kept (text ++ after) (m ∷ given)
+pub reads-cons : (at : ℕ) (kept : Kept) (text after : List ℕ) (m : Message) (given : List Message) → IsFrame text m
+    → ReadsFrom (at + length text) kept after given → ReadsFrom at kept (text ++ after) (m ∷ given)
 reads-cons at kept text after m given is read = record {
   rest = read.rest;
   reads = record {
-    whole = ap (λ (t : List ℕ). text ++ t) read.reads.whole ∙ sym (append_assoc text (stream_of given) read.rest) ∙ ap (λ (t : List ℕ). (t ++ stream_of given) ++ read.rest) is.spelled ∙ ap (λ (t : List ℕ). t ++ read.rest) (sym (flat_map-cons frame_of m given));
+    whole = ap (λ (t : List ℕ). text ++ t) read.reads.whole ∙ sym (append_assoc text (stream_of given) read.rest)
+        ∙ ap (λ (t : List ℕ). (t ++ stream_of given) ++ read.rest) is.spelled ∙ ap (λ (t : List ℕ). t ++ read.rest)
+        (sym (flat_map-cons frame_of m given));
     each = (is.has_frame, read.reads.each);
   };
   stands = read.stands;
@@ -58,13 +65,17 @@ reads-cons at kept text after m given is read = record {
 }
 
 -- messages that were read before a piece came, and those that were read of what was kept and the piece
-pub reads-append : (old kept : Kept) (input piece : List ℕ) (before given : List Message) → old.bad ≡ false → HasRead old input before → ReadsFrom old.begun kept (old.front ++ piece) given → HasRead kept (input ++ piece) (before ++ given)
+pub reads-append : (old kept : Kept) (input piece : List ℕ) (before given : List Message) → old.bad ≡ false
+    → HasRead old input before → ReadsFrom old.begun kept (old.front ++ piece) given
+    → HasRead kept (input ++ piece) (before ++ given)
 reads-append old kept input piece before given goes h read =
     let stood : (h.rest ≡ old.front) × IsPartial h.rest = open_stands (IsBad h.rest) ((h.rest ≡ old.front) × IsPartial h.rest) old.bad goes h.stands in
     let first : input ++ piece ≡ stream_of before ++ (old.front ++ piece) =
     ap (λ (t : List ℕ). t ++ piece) (h.reads.whole ∙ ap (λ (t : List ℕ). stream_of before ++ t) stood.0) ∙ append_assoc (stream_of before) old.front piece in
     let second : stream_of before ++ (old.front ++ piece) ≡ stream_of (before ++ given) ++ read.rest =
-    ap (λ (t : List ℕ). stream_of before ++ t) read.reads.whole ∙ sym (append_assoc (stream_of before) (stream_of given) read.rest) ∙ ap (λ (t : List ℕ). t ++ read.rest) (sym (flat_map-append frame_of before given)) in
+    ap (λ (t : List ℕ). stream_of before ++ t) read.reads.whole
+    ∙ sym (append_assoc (stream_of before) (stream_of given) read.rest) ∙ ap (λ (t : List ℕ). t ++ read.rest)
+    (sym (flat_map-append frame_of before given)) in
     let now = read.place in
     let was = h.place in
     record {
@@ -74,31 +85,45 @@ reads-append old kept input piece before given goes h read =
       place = omega (arith, now, was, ap length stood.0, length-append old.front piece, length-append input piece);
     }
 
-pub feeds-by : (old kept : Kept) (piece : List ℕ) (given : List Message) → old.bad ≡ false → (IsPartial old.front → ReadsFrom old.begun kept (old.front ++ piece) given) → Feeds old kept piece given
+pub feeds-by : (old kept : Kept) (piece : List ℕ) (given : List Message) → old.bad ≡ false
+    → (IsPartial old.front → ReadsFrom old.begun kept (old.front ++ piece) given) → Feeds old kept piece given
 feeds-by old kept piece given goes read = λ input before h.
     let stood : (h.rest ≡ old.front) × IsPartial h.rest = open_stands (IsBad h.rest) ((h.rest ≡ old.front) × IsPartial h.rest) old.bad goes h.stands in
     reads-append old kept input piece before given goes h (read (subst IsPartial stood.0 stood.1))
 
 -- an input is read in one way
-pub reads-once : (messages others : List Message) (input rest left : List ℕ) → Reads input messages rest → HasNone rest → Reads input others left → HasNone left → (messages ≡ others) × (rest ≡ left)
+pub reads-once : (messages others : List Message) (input rest left : List ℕ) → Reads input messages rest → HasNone rest
+    → Reads input others left → HasNone left → (messages ≡ others) × (rest ≡ left)
 reads-once [] [] input rest left one none other last = (refl, sym one.whole ∙ other.whole)
 reads-once [] (n ∷ others) input rest left one none other last =
-    absurd (none n (stream_of others ++ left) other.each.0 (sym one.whole ∙ other.whole ∙ ap (λ (t : List ℕ). t ++ left) (flat_map-cons frame_of n others) ∙ append_assoc (frame_of n) (stream_of others) left))
+    absurd (none n (stream_of others ++ left) other.each.0 (sym one.whole ∙ other.whole
+    ∙ ap (λ (t : List ℕ). t ++ left) (flat_map-cons frame_of n others)
+    ∙ append_assoc (frame_of n) (stream_of others) left))
 reads-once (m ∷ messages) [] input rest left one none other last =
-    absurd (last m (stream_of messages ++ rest) one.each.0 (sym other.whole ∙ one.whole ∙ ap (λ (t : List ℕ). t ++ rest) (flat_map-cons frame_of m messages) ∙ append_assoc (frame_of m) (stream_of messages) rest))
+    absurd (last m (stream_of messages ++ rest) one.each.0 (sym other.whole ∙ one.whole
+    ∙ ap (λ (t : List ℕ). t ++ rest) (flat_map-cons frame_of m messages)
+    ∙ append_assoc (frame_of m) (stream_of messages) rest))
 reads-once (m ∷ messages) (n ∷ others) input rest left one none other last =
-    let mine : input ≡ frame_of m ++ (stream_of messages ++ rest) = one.whole ∙ ap (λ (t : List ℕ). t ++ rest) (flat_map-cons frame_of m messages) ∙ append_assoc (frame_of m) (stream_of messages) rest in
-    let theirs : input ≡ frame_of n ++ (stream_of others ++ left) = other.whole ∙ ap (λ (t : List ℕ). t ++ left) (flat_map-cons frame_of n others) ∙ append_assoc (frame_of n) (stream_of others) left in
+    let mine : input ≡ frame_of m ++ (stream_of messages ++ rest) = one.whole
+    ∙ ap (λ (t : List ℕ). t ++ rest) (flat_map-cons frame_of m messages)
+    ∙ append_assoc (frame_of m) (stream_of messages) rest in
+    let theirs : input ≡ frame_of n ++ (stream_of others ++ left) = other.whole
+    ∙ ap (λ (t : List ℕ). t ++ left) (flat_map-cons frame_of n others) ∙ append_assoc (frame_of n) (stream_of others)
+    left in
     let first = frame_once m n (stream_of messages ++ rest) (stream_of others ++ left) one.each.0 other.each.0 (sym mine ∙ theirs) in
-    let tail = reads-once messages others (stream_of messages ++ rest) rest left (record { whole = refl; each = one.each.1 }) none (record { whole = first.1; each = other.each.1 }) last in
+    let tail = reads-once messages others (stream_of messages ++ rest) rest left
+    (record { whole = refl; each = one.each.1 }) none (record { whole = first.1; each = other.each.1 }) last in
     (same first.0 tail.0, tail.1)
   where
     same : {m n : Message} {messages others : List Message} → m ≡ n → messages ≡ others → (m ∷ messages) ≡ (n ∷ others)
     same first rest = cc
 
 -- what is kept at the end of a text
-pub ends-partial : (at : ℕ) (kept : Kept) (front text : List ℕ) → kept ≡ record { begun = at; bad = false; front = front } → front ≡ text → IsPartial text → ReadsFrom at kept text []
-ends-partial at kept front text is same partial = subst (λ (k : Kept). ReadsFrom at k text []) (sym (is ∙ ap (λ (f : List ℕ). waits at f) same)) (reads-partial at text partial)
+pub ends-partial : (at : ℕ) (kept : Kept) (front text : List ℕ)
+    → kept ≡ record { begun = at; bad = false; front = front } → front ≡ text → IsPartial text
+    → ReadsFrom at kept text []
+ends-partial at kept front text is same partial = subst (λ (k : Kept). ReadsFrom at k text [])
+    (sym (is ∙ ap (λ (f : List ℕ). waits at f) same)) (reads-partial at text partial)
   where
     waits : ℕ → List ℕ → Kept
     waits at front = record { begun = at; bad = false; front = front }
@@ -107,17 +132,24 @@ pub ends-bad : (at : ℕ) (kept : Kept) (text : List ℕ) → kept ≡ record { 
 ends-bad at kept text is bad = subst (λ (k : Kept). ReadsFrom at k text []) (sym is) (reads-bad at text bad)
 
 -- a frame became whole, and the text behind it was read
-pub feeds-whole : (old kept : Kept) (piece behind : List ℕ) (m : Message) (taken at : ℕ) (messages given : List Message) → old.bad ≡ false → taken ≤ length piece
-    → (IsPartial old.front → IsFrame (old.front ++ take taken piece) m) → at ≡ old.begun + (length old.front + taken) → behind ≡ drop taken piece → ReadsOn at kept behind (m ∷ []) messages → given ≡ messages → Feeds old kept piece given
+pub feeds-whole : (old kept : Kept) (piece behind : List ℕ) (m : Message) (taken at : ℕ) (messages given : List Message)
+    → old.bad ≡ false → taken ≤ length piece
+    → (IsPartial old.front → IsFrame (old.front ++ take taken piece) m) → at ≡ old.begun + (length old.front + taken)
+    → behind ≡ drop taken piece → ReadsOn at kept behind (m ∷ []) messages → given ≡ messages
+    → Feeds old kept piece given
 feeds-whole old kept piece behind m taken at messages given goes within frame place rest on same = feeds-by old kept piece given goes (λ partial.
     let text = old.front ++ take taken piece in
     let len : length text ≡ length old.front + taken = omega (arith, length-append old.front (take taken piece), length-take taken piece, within) in
     let from : at ≡ old.begun + length text = place ∙ ap (λ (n : ℕ). old.begun + n) (sym len) in
-    let read : ReadsFrom (old.begun + length text) kept (drop taken piece) on.given = subst (λ (b : List ℕ). ReadsFrom (old.begun + length text) kept b on.given) rest (subst (λ (n : ℕ). ReadsFrom n kept behind on.given) from on.has_read) in
-    let whole : text ++ drop taken piece ≡ old.front ++ piece = append_assoc old.front (take taken piece) (drop taken piece) ∙ ap (λ (t : List ℕ). old.front ++ t) (take-append-drop taken piece) in
+    let read : ReadsFrom (old.begun + length text) kept (drop taken piece) on.given =
+    subst (λ (b : List ℕ). ReadsFrom (old.begun + length text) kept b on.given) rest
+    (subst (λ (n : ℕ). ReadsFrom n kept behind on.given) from on.has_read) in
+    let whole : text ++ drop taken piece ≡ old.front ++ piece = append_assoc old.front (take taken piece)
+    (drop taken piece) ∙ ap (λ (t : List ℕ). old.front ++ t) (take-append-drop taken piece) in
     let all : given ≡ m ∷ on.given = same ∙ on.behind in
     subst (λ (t : List ℕ). ReadsFrom old.begun kept t given) whole
-    (subst (λ (g : List Message). ReadsFrom old.begun kept (text ++ drop taken piece) g) (sym all) (reads-cons old.begun kept text (drop taken piece) m on.given (frame partial) read)))
+    (subst (λ (g : List Message). ReadsFrom old.begun kept (text ++ drop taken piece) g) (sym all)
+    (reads-cons old.begun kept text (drop taken piece) m on.given (frame partial) read)))
 
 pub bad-none : (rest piece : List ℕ) (m : Message) (more : List ℕ) → IsBad rest → HasFrame m → rest ++ piece ≡ frame_of m ++ more → ⊥
 bad-none rest piece m more bad has e =
@@ -126,9 +158,11 @@ bad-none rest piece m more bad has e =
     let due = bad.due (subst IsLength same f.in_range) in
     let says = f.says in
     let le : length (frame_of m) ≤ length rest = omega (arith, length-append (four (length (text_of m))) (text_of m), due, same, says) in
-    let front : take (length (frame_of m)) (rest ++ piece) ≡ frame_of m = ap (λ (t : List ℕ). take (length (frame_of m)) t) e ∙ take_at (frame_of m) more (length (frame_of m)) refl in
+    let front : take (length (frame_of m)) (rest ++ piece) ≡ frame_of m =
+    ap (λ (t : List ℕ). take (length (frame_of m)) t) e ∙ take_at (frame_of m) more (length (frame_of m)) refl in
     let is : rest ≡ frame_of m ++ drop (length (frame_of m)) rest =
-    sym (take-append-drop (length (frame_of m)) rest) ∙ ap (λ (t : List ℕ). t ++ drop (length (frame_of m)) rest) (sym (take-append-le (length (frame_of m)) rest piece le) ∙ front) in
+    sym (take-append-drop (length (frame_of m)) rest) ∙ ap (λ (t : List ℕ). t ++ drop (length (frame_of m)) rest)
+    (sym (take-append-le (length (frame_of m)) rest piece le) ∙ front) in
     bad.none m (drop (length (frame_of m)) rest) has is
 
 -- a frame that is no spelling stays one
@@ -158,7 +192,8 @@ feeds-bad old piece is = λ input messages h.
     record {
       rest = h.rest ++ piece;
       reads = record {
-        whole = ap (λ (t : List ℕ). t ++ piece) h.reads.whole ∙ append_assoc (stream_of messages) h.rest piece ∙ ap (λ (ms : List Message). stream_of ms ++ (h.rest ++ piece)) (sym (append-nil messages));
+        whole = ap (λ (t : List ℕ). t ++ piece) h.reads.whole ∙ append_assoc (stream_of messages) h.rest piece
+            ∙ ap (λ (ms : List Message). stream_of ms ++ (h.rest ++ piece)) (sym (append-nil messages));
         each = subst (AllByRecursion HasFrame) (sym (append-nil messages)) h.reads.each;
       };
       stands = stands_bad (IsBad (h.rest ++ piece)) ((h.rest ++ piece ≡ old.front) × IsPartial (h.rest ++ piece)) old.bad is (bad-more h.rest piece bad);
@@ -166,18 +201,26 @@ feeds-bad old piece is = λ input messages h.
     }
 
 -- a link that is cut hands out a front of what was sent, and no frame of it is bad
-pub cut-front : (sent given : List Message) (input more rest : List ℕ) → AllByRecursion HasFrame sent → stream_of sent ≡ input ++ more → Reads input given rest → (later : List Message) × (sent ≡ given ++ later) × (stream_of later ≡ rest ++ more)
+pub cut-front : (sent given : List Message) (input more rest : List ℕ) → AllByRecursion HasFrame sent
+    → stream_of sent ≡ input ++ more → Reads input given rest → (later : List Message) × (sent ≡ given ++ later)
+    × (stream_of later ≡ rest ++ more)
 cut-front sent [] input more rest each e reads = (sent, refl, e ∙ ap (λ (t : List ℕ). t ++ more) reads.whole)
 cut-front [] (g ∷ given) input more rest each e reads =
-    let long : length input ≡ length (frame_of g) + length (stream_of given ++ rest) = ap length (reads.whole ∙ ap (λ (t : List ℕ). t ++ rest) (flat_map-cons frame_of g given) ∙ append_assoc (frame_of g) (stream_of given) rest) ∙ length-append (frame_of g) (stream_of given ++ rest) in
-    absurd (none_long input more (length (text_of g)) (length (stream_of given ++ rest)) (long ∙ ap (λ (n : ℕ). n + length (stream_of given ++ rest)) (length-append (four (length (text_of g))) (text_of g))) e)
+    let long : length input ≡ length (frame_of g) + length (stream_of given ++ rest) =
+    ap length (reads.whole ∙ ap (λ (t : List ℕ). t ++ rest) (flat_map-cons frame_of g given)
+    ∙ append_assoc (frame_of g) (stream_of given) rest) ∙ length-append (frame_of g) (stream_of given ++ rest) in
+    absurd (none_long input more (length (text_of g)) (length (stream_of given ++ rest))
+    (long ∙ ap (λ (n : ℕ). n + length (stream_of given ++ rest))
+    (length-append (four (length (text_of g))) (text_of g))) e)
   where
     none_long : (input more : List ℕ) (n k : ℕ) → length input ≡ 4 + n + k → [] ≡ input ++ more → ⊥
     none_long input more n k long e = omega (arith, long, length-append input more, ap length e)
 cut-front (s ∷ sent) (g ∷ given) input more rest each e reads =
     let mine : stream_of (s ∷ sent) ≡ frame_of s ++ stream_of sent = flat_map-cons frame_of s sent in
     let theirs : input ++ more ≡ frame_of g ++ ((stream_of given ++ rest) ++ more) =
-    ap (λ (t : List ℕ). t ++ more) (reads.whole ∙ ap (λ (t : List ℕ). t ++ rest) (flat_map-cons frame_of g given) ∙ append_assoc (frame_of g) (stream_of given) rest) ∙ append_assoc (frame_of g) (stream_of given ++ rest) more in
+    ap (λ (t : List ℕ). t ++ more) (reads.whole ∙ ap (λ (t : List ℕ). t ++ rest) (flat_map-cons frame_of g given)
+    ∙ append_assoc (frame_of g) (stream_of given) rest) ∙ append_assoc (frame_of g) (stream_of given ++ rest)
+    more in
     let first = frame_once s g (stream_of sent) ((stream_of given ++ rest) ++ more) each.0 reads.each.0 (sym mine ∙ e ∙ theirs) in
     let tail = cut-front sent given (stream_of given ++ rest) more rest each.1 first.1 (record { whole = refl; each = reads.each.1 }) in
     (tail.0, same first.0 tail.1, tail.2)

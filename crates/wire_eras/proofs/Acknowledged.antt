@@ -19,16 +19,19 @@ use Rattle.wire_eras.proofs.Legal.{first_log_is_legal}
 use Rattle.wire_eras.proofs.Logged.{behind, front, log-only, log-split}
 
 -- a call that was acknowledged is in the log
-pub acknowledged : (s : Dimensions) (actions : List Action) (key : List ℕ) → AreActions s actions → IsAcknowledged s actions key → HasKey (log_made s actions) key
+pub acknowledged : (s : Dimensions) (actions : List Action) (key : List ℕ) → AreActions s actions
+    → IsAcknowledged s actions key → HasKey (log_made s actions) key
 acknowledged s actions key run a =
     let whole : AreActions s (a.before ++ Show a.caller a.ping ∷ a.after) = subst (AreActions s) a.is run in
     let logged = shown_is_logged s a.before a.caller a.ping a.call a.told a.reply (front s a.before (Show a.caller a.ping ∷ a.after) whole) a.apart
     (behind s a.before (Show a.caller a.ping ∷ a.after) whole).0 a.shows a.answer in
     let entry : Entry = entry_of (record { caller = a.caller; call = a.call.position }) a.call.op a.reply in
     let split = log-split s a.before (Show a.caller a.ping ∷ a.after) in
-    let early : Contains (log_made s a.before) (entry_of (record { caller = a.caller; call = a.call.position }) a.call.op a.reply) = get-contained (log_made s a.before) logged.place entry logged.entry in (
+    let early : Contains (log_made s a.before) (entry_of (record { caller = a.caller; call = a.call.position })
+    a.call.op a.reply) = get-contained (log_made s a.before) logged.place entry logged.entry in (
       entry,
-      subst (λ (log : List Entry). Contains log (entry_of (record { caller = a.caller; call = a.call.position }) a.call.op a.reply)) (sym (ap (log_made s) a.is ∙ split.1))
+      subst (λ (log : List Entry). Contains log (entry_of (record { caller = a.caller; call = a.call.position })
+          a.call.op a.reply)) (sym (ap (log_made s) a.is ∙ split.1))
           (Contains-append_left (log_made s a.before) split.0 entry early),
       a.key_is,
     )
@@ -53,5 +56,6 @@ acknowledged_are_carried t s actions more carries =
 pub acknowledged_keep : AcknowledgedKeep
 acknowledged_keep earlier told s actions more legal carries are key h was a =
     let run : AreActions s actions = front s actions more carries.run in
-    carries_keep s.k earlier (log_made s actions) told run.0.k.0 legal (first_log_is_legal s actions run) (log-only (SetsHeld (table_left s.k earlier)) s actions run carries.sets) are key h was
+    carries_keep s.k earlier (log_made s actions) told run.0.k.0 legal (first_log_is_legal s actions run)
+    (log-only (SetsHeld (table_left s.k earlier)) s actions run carries.sets) are key h was
     (acknowledged s actions key run a)

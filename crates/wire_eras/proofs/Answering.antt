@@ -23,7 +23,8 @@ use Rattle.wire_eras.specs.Told.{AreToldAs, IsToldAs, bases_of, table_left}
 use Rattle.wire_eras.proofs.Legal.{goes-on}
 
 -- each entry of a legal log has the reply of the table before it
-pub reply-at : (t : Contents) (log : List Entry) (i : ℕ) (e : Entry) → IsLegalFrom t log → slice_get log i ≡ Some e → e.reply ≡ reply_of (table_of t (take i log)) e.op
+pub reply-at : (t : Contents) (log : List Entry) (i : ℕ) (e : Entry) → IsLegalFrom t log → slice_get log i ≡ Some e
+    → e.reply ≡ reply_of (table_of t (take i log)) e.op
 reply-at t [] i e legal is = absurd (cc is)
 reply-at t (x ∷ xs) zero e legal is = subst (λ (y : Entry). y.reply ≡ reply_of t y.op) (some-same x e is) legal.0
 reply-at t (x ∷ xs) (suc i) e legal is = reply-at (table_after t x.op) xs i e legal.1 is
@@ -38,20 +39,29 @@ swap : (bases : Bases) (k : ℕ) (own told : List Entry) (i : ℕ) (e y : Entry)
     → (now : List Entry) × Swapped bases k own told now i y
 swap bases k [] told i e y are is told_as = absurd (cc is)
 swap bases k (x ∷ xs) [] i e y are is told_as = absurd are
-swap bases k (x ∷ xs) (z ∷ zs) zero e y are is told_as = (y ∷ zs, record { are = (subst (λ (u : Entry). IsToldAs bases k u y) (sym (some-same x e is)) told_as, are.1); there = refl; before = refl })
+swap bases k (x ∷ xs) (z ∷ zs) zero e y are is told_as = (
+  y ∷ zs,
+  record {
+    are = (subst (λ (u : Entry). IsToldAs bases k u y) (sym (some-same x e is)) told_as, are.1);
+    there = refl;
+    before = refl;
+  },
+)
 swap bases k (x ∷ xs) (z ∷ zs) (suc i) e y are is told_as =
     let rest = swap bases k xs zs i e y are.1 is told_as in
     (z ∷ rest.0, record { are = (are.0, rest.1.are); there = rest.1.there; before = ap (λ (us : List Entry). z ∷ us) rest.1.before })
 
 -- a reply that is logged since its call began is that of the one table
-pub of-table : (earlier told : List Entry) (s : Dimensions) (actions : List Action) (caller : ℕ) (o : OpenCall) (shown : Reply) (asked : Asked) → GoesOnFrom earlier s actions → IsTold earlier s actions told
+pub of-table : (earlier told : List Entry) (s : Dimensions) (actions : List Action) (caller : ℕ) (o : OpenCall)
+    (shown : Reply) (asked : Asked) → GoesOnFrom earlier s actions → IsTold earlier s actions told
     → IsLoggedSinceBegun (composed s actions) caller o shown → o.op ≡ op_in (bases_of s.k earlier) s.k asked
     → IsOfTable earlier told s.k (composed s actions) caller o shown asked (told_reply (bases_of s.k earlier) (home_of (key_of asked.act) s.k) shown)
 of-table earlier told s actions caller o shown asked goes are logged came =
     let bases : Bases = bases_of s.k earlier in
     let name : CallName = record { caller = caller; call = o.position } in
     let given : Reply = told_reply bases (home_of (key_of asked.act) s.k) shown in
-    let now = swap bases s.k (log_made s actions) told logged.place (entry_of name o.op shown) (entry_of name asked given) are logged.entry (record { name = refl; op = came; reply = refl }) in
+    let now = swap bases s.k (log_made s actions) told logged.place (entry_of name o.op shown)
+    (entry_of name asked given) are logged.entry (record { name = refl; op = came; reply = refl }) in
     record {
       logged = logged;
       table =

@@ -18,10 +18,14 @@ use Rattle.group_calls.specs.declared.event.Event.TheVariants as event
 use Rattle.group_run.specs.Asking.{collect_from}
 use Rattle.group_run.specs.World.{front_if}
 use Rattle.law_moves.proofs.Reading.{some-same}
-use Rattle.group_wire.specs.Actions.{Action, Begin, Send, Read, Treat, Collect, Flush, Learn, Receive, GiveUp, Cut, Say, Hear, Permit, Take, Ping, Pong, Count, Show, LetGo, Stop}
-use Rattle.group_wire.specs.Composed.{Composed, Made, call_given_up, composed_from, composed_with, events_of, failures_at, given_up, lost_ask, made_by, message_made, opening_composed, request_made, stands_if}
+use Rattle.group_wire.specs.Actions.{Action, Begin, Send, Read, Treat, Collect, Flush, Learn, Receive, GiveUp, Cut, Say}
+use Rattle.group_wire.specs.Actions.{Hear, Permit, Take, Ping, Pong, Count, Show, LetGo, Stop}
+use Rattle.group_wire.specs.Composed.{Composed, Made, call_given_up, composed_from, composed_with, events_of}
+use Rattle.group_wire.specs.Composed.{failures_at, given_up, lost_ask, made_by, message_made, opening_composed}
+use Rattle.group_wire.specs.Composed.{request_made, stands_if}
 use Rattle.group_wire.specs.Sending.{parked_at, sent_on, treating}
-use Rattle.group_wire.specs.Serving.{call_learned, gateways_after, handed_to, if_open, learned_first, read_first, request_treated, sends_by, stage_given_up, staged, tell, told_of}
+use Rattle.group_wire.specs.Serving.{call_learned, gateways_after, handed_to, if_open, learned_first, read_first}
+use Rattle.group_wire.specs.Serving.{request_treated, sends_by, stage_given_up, staged, tell, told_of}
 use Rattle.group_wire.specs.Sets.{Processes, changed, changed_at, one_or, without}
 use Rattle.group_wire.specs.State.{Request, AskFor, TraceOf, Told, Stage, Unasked, AskedOf, Unknown, TracedAt, Answered, OpenCall, Gateways, Group, gateway_of}
 use Rattle.group_wire.proofs.Changes.{changed-each, changed-pairs, changed_at-each, one_or-is}
@@ -45,26 +49,31 @@ module _ (P : Asked → Type 0) where
   fits-none : Fits None
   fits-none q is = absurd (cc is)
 
-  call-at : (calls : ℕ → Option OpenCall) (caller : ℕ) (now : Option OpenCall) → ((c : ℕ) → Fits (calls c)) → Fits now → (c : ℕ) → Fits (changed_at calls caller now c)
+  call-at : (calls : ℕ → Option OpenCall) (caller : ℕ) (now : Option OpenCall) → ((c : ℕ) → Fits (calls c)) → Fits now
+      → (c : ℕ) → Fits (changed_at calls caller now c)
   call-at calls caller now all here = changed_at-each (λ c call. Fits call) calls caller now here (λ c _. all c)
 
   module _ (g : Group) (h : OnlyOpen P g.gateways) where
     sends : (caller : ℕ) (x : ProcessId) (o : OpenCall) (stage : Stage) → P o.op → OnlyOpen P (sends_by g caller x o stage)
     sends caller x o Unasked here = record {
-      calls = call-at g.gateways.call caller (Some (record o { position = g.gateways.next caller; stage = AskedOf x })) h.calls (fits-some (record o { position = g.gateways.next caller; stage = AskedOf x }) here);
-      requests = each-sent (AsksOnly P) g.words.cut g.gateways.requests (gateway_of g.shape caller) x (AskFor caller (g.gateways.next caller) o.op) h.requests here;
+      calls = call-at g.gateways.call caller (Some (record o { position = g.gateways.next caller; stage = AskedOf x }))
+          h.calls (fits-some (record o { position = g.gateways.next caller; stage = AskedOf x }) here);
+      requests = each-sent (AsksOnly P) g.words.cut g.gateways.requests (gateway_of g.shape caller) x
+          (AskFor caller (g.gateways.next caller) o.op) h.requests here;
       parked = h.parked;
     }
     sends caller x o Unknown here = record {
       calls = call-at g.gateways.call caller (Some (record o { stage = TracedAt x })) h.calls (fits-some (record o { stage = TracedAt x }) here);
-      requests = each-sent (AsksOnly P) g.words.cut g.gateways.requests (gateway_of g.shape caller) x (TraceOf caller o.position (home_of (key_of o.op.act) g.shape.k)) h.requests tt;
+      requests = each-sent (AsksOnly P) g.words.cut g.gateways.requests (gateway_of g.shape caller) x
+          (TraceOf caller o.position (home_of (key_of o.op.act) g.shape.k)) h.requests tt;
       parked = h.parked;
     }
     sends caller x o (AskedOf y) here = h
     sends caller x o (TracedAt y) here = h
     sends caller x o (Answered t n) here = h
 
-    sends-any : (caller : ℕ) (x : ProcessId) (call : Option OpenCall) → g.gateways.call caller ≡ call → OnlyOpen P (if_open call g.gateways (λ o. sends_by g caller x o o.stage))
+    sends-any : (caller : ℕ) (x : ProcessId) (call : Option OpenCall) → g.gateways.call caller ≡ call
+        → OnlyOpen P (if_open call g.gateways (λ o. sends_by g caller x o o.stage))
     sends-any caller x None is = h
     sends-any caller x (Some o) is = sends caller x o o.stage (h.calls caller o is)
 
@@ -86,15 +95,18 @@ module _ (P : Asked → Type 0) where
     learns : (x p : ProcessId) (pinged : ℕ) (ts : List Told) → OnlyOpen P (learned_first x p pinged ts g.gateways)
     learns x p pinged [] = h
     learns x p pinged (t ∷ rest) = record {
-      calls = call-at g.gateways.call t.caller (call_learned t pinged (g.gateways.call t.caller)) h.calls (learned t pinged (g.gateways.call t.caller) (h.calls t.caller));
+      calls = call-at g.gateways.call t.caller (call_learned t pinged (g.gateways.call t.caller)) h.calls
+          (learned t pinged (g.gateways.call t.caller) (h.calls t.caller));
       requests = h.requests;
       parked = h.parked;
     }
 
-    gives-up : (caller : ℕ) (call : Option OpenCall) → g.gateways.call caller ≡ call → OnlyOpen P (if_open call g.gateways (λ o. staged caller o (stage_given_up o.op o.stage) g.gateways))
+    gives-up : (caller : ℕ) (call : Option OpenCall) → g.gateways.call caller ≡ call
+        → OnlyOpen P (if_open call g.gateways (λ o. staged caller o (stage_given_up o.op o.stage) g.gateways))
     gives-up caller None is = h
     gives-up caller (Some o) is = record {
-      calls = call-at g.gateways.call caller (Some (record o { stage = stage_given_up o.op o.stage })) h.calls (fits-some (record o { stage = stage_given_up o.op o.stage }) (h.calls caller o is));
+      calls = call-at g.gateways.call caller (Some (record o { stage = stage_given_up o.op o.stage })) h.calls
+          (fits-some (record o { stage = stage_given_up o.op o.stage }) (h.calls caller o is));
       requests = h.requests;
       parked = h.parked;
     }
@@ -104,27 +116,34 @@ module _ (P : Asked → Type 0) where
 
   tells : (g : Group) (p : ProcessId) (ts : List Told) (gw : Gateways) → OnlyOpen P gw → OnlyOpen P (tell g p ts gw)
   tells g p [] gw h = h
-  tells g p (t ∷ ts) gw h = tells g p ts (record gw { answers = sent_on g.words.cut gw.answers p (gateway_of g.shape t.caller) t }) (record { calls = h.calls; requests = h.requests; parked = h.parked })
+  tells g p (t ∷ ts) gw h =
+      tells g p ts (record gw { answers = sent_on g.words.cut gw.answers p (gateway_of g.shape t.caller) t })
+      (record { calls = h.calls; requests = h.requests; parked = h.parked })
 
   treats : (g : Group) (p : ProcessId) (place : ℕ) (r : Option Request) → OnlyOpen P g.gateways → OnlyOpen P (request_treated g p place r)
   treats g p place None h = h
-  treats g p place (Some r) h = tells g p (told_of r (treating g.shape r (g.works.process p)).answer) (record g.gateways { parked = changed g.gateways.parked p (without (g.gateways.parked p) place) }) (record {
-    calls = h.calls;
-    requests = h.requests;
-    parked = changed-each (λ q rs. Each (AsksOnly P) rs) g.gateways.parked p (without (g.gateways.parked p) place) (each-without (AsksOnly P) (g.gateways.parked p) place (h.parked p)) (λ q _. h.parked q);
-  })
+  treats g p place (Some r) h = tells g p (told_of r (treating g.shape r (g.works.process p)).answer)
+      (record g.gateways { parked = changed g.gateways.parked p (without (g.gateways.parked p) place) }) (record {
+        calls = h.calls;
+        requests = h.requests;
+        parked = changed-each (λ q rs. Each (AsksOnly P) rs) g.gateways.parked p (without (g.gateways.parked p) place)
+            (each-without (AsksOnly P) (g.gateways.parked p) place (h.parked p)) (λ q _. h.parked q);
+      })
 
   -- every action that begins no other call keeps it
   open-step : (g : Group) (a : Action) → BeginsOnly P a → OnlyOpen P g.gateways → OnlyOpen P (gateways_after g a)
   open-step g (Begin caller op) begins h = record {
-    calls = call-at g.gateways.call caller (Some (record { op = op; position = 0; stage = Unasked })) h.calls (fits-some (record { op = op; position = 0; stage = Unasked }) begins);
+    calls = call-at g.gateways.call caller (Some (record { op = op; position = 0; stage = Unasked })) h.calls
+        (fits-some (record { op = op; position = 0; stage = Unasked }) begins);
     requests = h.requests;
     parked = h.parked;
   }
   open-step g (Send caller x) begins h = sends-any g h caller x (g.gateways.call caller) refl
   open-step g (Read x p) begins h = reads g h x p (g.gateways.requests x p) refl
   open-step g (Treat p place) begins h = treats g p place (parked_at g p place) h
-  open-step g (Collect caller call p) begins h = tells g p (handed_to caller call (collect_from caller call (g.works.process p) (range_with_len 0 g.shape.k)).answer) g.gateways h
+  open-step g (Collect caller call p) begins h =
+      tells g p (handed_to caller call
+      (collect_from caller call (g.works.process p) (range_with_len 0 g.shape.k)).answer) g.gateways h
   open-step g (Flush p) begins h = h
   open-step g (Learn x p) begins h = learns g h x p (g.signs.pinged p) (g.gateways.answers x p)
   open-step g (Receive x p) begins h = h
@@ -153,7 +172,8 @@ module _ (P : Asked → Type 0) where
   stood true made all = tt
   stood false made all = all
 
-  requested : (g : Group) (p : ProcessId) (place : ℕ) (r : Option Request) → OnlyOpen P g.gateways → parked_at g p place ≡ r → Each MadeAsks (request_made g p r)
+  requested : (g : Group) (p : ProcessId) (place : ℕ) (r : Option Request) → OnlyOpen P g.gateways
+      → parked_at g p place ≡ r → Each MadeAsks (request_made g p r)
   requested g p place None h is = tt
   requested g p place (Some (AskFor caller call op)) h is = (each-entry (AsksOnly P) (g.gateways.parked p) place (AskFor caller call op) is (h.parked p), tt)
   requested g p place (Some (TraceOf caller call d)) h is = (tt, tt)
@@ -181,7 +201,8 @@ module _ (P : Asked → Type 0) where
   given events caller o (TracedAt x) here = tt
   given events caller o (Answered t n) here = tt
 
-  call-given : (events : List Event) (g : Group) (caller : ℕ) (call : Option OpenCall) → OnlyOpen P g.gateways → g.gateways.call caller ≡ call → Each MadeAsks (call_given_up events caller call)
+  call-given : (events : List Event) (g : Group) (caller : ℕ) (call : Option OpenCall) → OnlyOpen P g.gateways
+      → g.gateways.call caller ≡ call → Each MadeAsks (call_given_up events caller call)
   call-given events g caller None h is = tt
   call-given events g caller (Some o) h is = given events caller o o.stage (h.calls caller o is)
 
@@ -189,12 +210,15 @@ module _ (P : Asked → Type 0) where
   made-asks c (Begin caller op) h = tt
   made-asks c (Send caller x) h = tt
   made-asks c (Read x p) h = tt
-  made-asks c (Treat p place) h = stood (c.failed p) (request_made c.group p (parked_at c.group p place)) (requested c.group p place (parked_at c.group p place) h refl)
+  made-asks c (Treat p place) h = stood (c.failed p) (request_made c.group p (parked_at c.group p place))
+      (requested c.group p place (parked_at c.group p place) h refl)
   made-asks c (Collect caller call p) h = stood (c.failed p) _ (tt, tt)
   made-asks c (Flush p) h = stood (c.failed p) _ (tt, tt)
   made-asks c (Learn x p) h = tt
   made-asks c (Receive x p) h = stood (c.failed p) (message_made x p (c.group.works.messages x p)) (received x p (c.group.works.messages x p))
-  made-asks c (GiveUp caller) h = stood (c.failed (gateway_of c.group.shape caller)) (call_given_up (events_of c) caller (c.group.gateways.call caller)) (call-given (events_of c) c.group caller (c.group.gateways.call caller) h refl)
+  made-asks c (GiveUp caller) h = stood (c.failed (gateway_of c.group.shape caller))
+      (call_given_up (events_of c) caller (c.group.gateways.call caller))
+      (call-given (events_of c) c.group caller (c.group.gateways.call caller) h refl)
   made-asks c (Cut x p) h = tt
   made-asks c (Say p) h = tt
   made-asks c (Hear x p) h = tt

@@ -1,5 +1,6 @@
 -- What sets of what a table holds leave: each item that was set is what it was, and each other is untouched.
-use Rattle.std.proofs.Common.{ℕ, zero, suc, ◌≡◌, ◌≤◌, ◌+◌, ◌==◌, nat_le, Bool, true, false, List, [], ◌∷◌, ◌++◌, Option, Some, None, is_some, if◌then◌else◌, inl, inr, refl, sym, ap, subst, ◌∙◌, arith}
+use Rattle.std.proofs.Common.{ℕ, zero, suc, ◌≡◌, ◌≤◌, ◌+◌, ◌==◌, nat_le, Bool, true, false, List, [], ◌∷◌, ◌++◌, Option}
+use Rattle.std.proofs.Common.{Some, None, is_some, if◌then◌else◌, inl, inr, refl, sym, ap, subst, ◌∙◌, arith}
 use Rattle.std.specs.Prelude.{Contains, slice_index}
 use Rattle.std.proofs.lemmas.Grind.{common_steps}
 use Rattle.group_types.specs.Each.{Each}
@@ -66,7 +67,15 @@ module _ (held : Contents) where
 
   -- what a set leaves
   abbrev left_by : Contents → (op : Asked) → SetsHeld held op → Holding
-  left_by t op sets = record { item = record { flags = sets.holding.item.flags; cas = count_of t (key_of op.act) + 1; value = sets.holding.item.value }; until = until_of sets.exptime op.moment }
+  left_by t op sets =
+      record {
+        item = record {
+          flags = sets.holding.item.flags;
+          cas = count_of t (key_of op.act) + 1;
+          value = sets.holding.item.value;
+        };
+        until = until_of sets.exptime op.moment;
+      }
 
   after-set : (t : Contents) (op : Asked) (sets : SetsHeld held op) (key : List ℕ)
       → (table_after t op).items key ≡ (if same_key (key_of op.act) key then Some (left_by t op sets) else t.items key)
@@ -75,13 +84,16 @@ module _ (held : Contents) where
   -- an item over all and in the later group, behind sets: untouched, or what the table held
   pub data Settled (key : List ℕ) (all own : Option Holding) : Type 0 where
     Untouched : own ≡ None → all ≡ held.items key → Settled key all own
-    OfHeld : (h g : Holding) → held.items key ≡ Some h → own ≡ Some g → g.item.flags ≡ h.item.flags → g.item.value ≡ h.item.value → g.until ≡ h.until → 1 ≤ g.item.cas
+    OfHeld : (h g : Holding) → held.items key ≡ Some h → own ≡ Some g → g.item.flags ≡ h.item.flags
+        → g.item.value ≡ h.item.value → g.until ≡ h.until → 1 ≤ g.item.cas
         → Settled key all own
 
-  settled-after : (all own : Contents) (op asked : Asked) (key : List ℕ) → SetsHeld held op → key_of op.act ≡ key_of asked.act → Settled key (all.items key) (own.items key)
+  settled-after : (all own : Contents) (op asked : Asked) (key : List ℕ) → SetsHeld held op
+      → key_of op.act ≡ key_of asked.act → Settled key (all.items key) (own.items key)
       → Settled key ((table_after all asked).items key) ((table_after own op).items key)
   settled-after all own op asked key sets same-keys was = by (same_key (key_of op.act) key) refl was where
-    by : (b : Bool) → same_key (key_of op.act) key ≡ b → Settled key (all.items key) (own.items key) → Settled key ((table_after all asked).items key) ((table_after own op).items key)
+    by : (b : Bool) → same_key (key_of op.act) key ≡ b → Settled key (all.items key) (own.items key)
+        → Settled key ((table_after all asked).items key) ((table_after own op).items key)
     by true same was =
         OfHeld sets.holding (left_by own op sets) (ap held.items (sym (key-eq (key_of op.act) key same)) ∙ sets.held)
         (after-set own op sets key ∙ ap (λ (b : Bool). if b then Some (left_by own op sets) else own.items key) same) refl refl sets.until (omega arith)
@@ -89,13 +101,15 @@ module _ (held : Contents) where
         Untouched (other-key own op key other ∙ none) (other-key all asked key (ap (λ (q : List ℕ). same_key q key) (sym same-keys) ∙ other) ∙ is)
     by false other (OfHeld h g there is flags value until cas) = OfHeld h g there (other-key own op key other ∙ is) flags value until cas
 
-  pub settled-all : (bases : Bases) (k : ℕ) (all own : Contents) (entries told : List Entry) (key : List ℕ) → Each (λ e. SetsHeld held e.op) entries → AreToldAs bases k entries told
+  pub settled-all : (bases : Bases) (k : ℕ) (all own : Contents) (entries told : List Entry) (key : List ℕ)
+      → Each (λ e. SetsHeld held e.op) entries → AreToldAs bases k entries told
       → Settled key (all.items key) (own.items key) → Settled key ((table_of all told).items key) ((table_of own entries).items key)
   settled-all bases k all own [] [] key sets are was = was
   settled-all bases k all own [] (y ∷ ys) key sets are was = absurd are
   settled-all bases k all own (x ∷ xs) [] key sets are was = absurd are
   settled-all bases k all own (x ∷ xs) (y ∷ ys) key sets are was =
-      settled-all bases k (table_after all y.op) (table_after own x.op) xs ys key sets.1 are.1 (settled-after all own x.op y.op key sets.0 (told-key bases k x y are.0) was)
+      settled-all bases k (table_after all y.op) (table_after own x.op) xs ys key sets.1 are.1
+      (settled-after all own x.op y.op key sets.0 (told-key bases k x y are.0) was)
 
   -- an item stays, and each set leaves one
   set-some : (t : Contents) (op : Asked) (key : List ℕ) → SetsHeld held op → same_key (key_of op.act) key ≡ true → is_some ((table_after t op).items key) ≡ true
@@ -107,20 +121,24 @@ module _ (held : Contents) where
     by true same = set-some t op key sets same
     by false other = ap is_some (other-key t op key other) ∙ was
 
-  stays : (t : Contents) (log : List Entry) (key : List ℕ) → Each (λ e. SetsHeld held e.op) log → is_some (t.items key) ≡ true → is_some ((table_of t log).items key) ≡ true
+  stays : (t : Contents) (log : List Entry) (key : List ℕ) → Each (λ e. SetsHeld held e.op) log
+      → is_some (t.items key) ≡ true → is_some ((table_of t log).items key) ≡ true
   stays t [] key sets was = was
   stays t (e ∷ es) key sets was = stays (table_after t e.op) es key sets.1 (stays-one t e.op key sets.0 was)
 
-  pub appears : (t : Contents) (log : List Entry) (key : List ℕ) → Each (λ e. SetsHeld held e.op) log → HasKey log key → is_some ((table_of t log).items key) ≡ true
+  pub appears : (t : Contents) (log : List Entry) (key : List ℕ) → Each (λ e. SetsHeld held e.op) log → HasKey log key
+      → is_some ((table_of t log).items key) ≡ true
   appears t [] key sets has = absurd (let low = has.1.1 in omega (arith, low))
   appears t (e ∷ es) key sets has = by has.1 (λ there. appears (table_after t e.op) es key sets.1 (has.0, there, has.2)) where
-    by : Contains (e ∷ es) has.0 → (Contains es has.0 → is_some ((table_of (table_after t e.op) es).items key) ≡ true) → is_some ((table_of (table_after t e.op) es).items key) ≡ true
+    by : Contains (e ∷ es) has.0 → (Contains es has.0 → is_some ((table_of (table_after t e.op) es).items key) ≡ true)
+        → is_some ((table_of (table_after t e.op) es).items key) ≡ true
     by (zero, low, is) later = stays (table_after t e.op) es key sets.1
         (set-some t e.op key sets.0 (ap (λ (y : Entry). same_key (key_of y.op.act) key) is ∙ ap (λ (q : List ℕ). same_key q key) has.2 ∙ key-refl key))
     by (suc i, low, is) later = later (i, omega (arith, low), is)
 
 -- the log of sets, told behind an earlier one
-module _ (k : ℕ) (some : 1 ≤ k) (earlier sets told : List Entry) (legal : IsLegalFrom (empty_table k) sets) (only : Each (λ e. SetsHeld (table_left k earlier) e.op) sets)
+module _ (k : ℕ) (some : 1 ≤ k) (earlier sets told : List Entry) (legal : IsLegalFrom (empty_table k) sets)
+    (only : Each (λ e. SetsHeld (table_left k earlier) e.op) sets)
     (are : AreToldAs (bases_of k earlier) k sets told) where
   pub behind : IsLegalFrom (table_left k earlier) told × Joined (bases_of k earlier) k some Anywhere (table_of (table_left k earlier) told) (table_left k sets)
   behind = legal-on (bases_of k earlier) k some Anywhere (table_left k earlier) (empty_table k) sets told (joined-start k some earlier) legal are
@@ -132,15 +150,18 @@ module _ (k : ℕ) (some : 1 ≤ k) (earlier sets told : List Entry) (legal : Is
   pub there : (key : List ℕ) → HasKey sets key → is_some ((table_left k sets).items key) ≡ true
   there key has = appears (table_left k earlier) (empty_table k) sets key only has
 
-  kept : (key : List ℕ) (h : Holding) → (table_left k earlier).items key ≡ Some h → HasKey sets key → IsKept (table_left k earlier) key h (table_of (table_left k earlier) told)
+  kept : (key : List ℕ) (h : Holding) → (table_left k earlier).items key ≡ Some h → HasKey sets key
+      → IsKept (table_left k earlier) key h (table_of (table_left k earlier) told)
   kept key h was has = by (settled key) where
-    shown : (g : Holding) → (table_left k sets).items key ≡ Some g → Meets (bases_of k earlier) k some Anywhere key ((table_of (table_left k earlier) told).items key) ((table_left k sets).items key)
+    shown : (g : Holding) → (table_left k sets).items key ≡ Some g → Meets (bases_of k earlier) k some Anywhere key
+        ((table_of (table_left k earlier) told).items key) ((table_left k sets).items key)
         → (table_of (table_left k earlier) told).items key ≡ Some (shifted (bases_of k earlier) (home_of key k) g)
     shown g own (inl (Alike is cas)) = is ∙ ap (shift (bases_of k earlier) (home_of key k)) own
     shown g own (inl (Gone x is ends none)) = absurd (cc (none, own))
     shown g own (inr free) = absurd (cc (free.1, own))
 
-    by : Settled (table_left k earlier) key ((table_of (table_left k earlier) told).items key) ((table_left k sets).items key) → IsKept (table_left k earlier) key h (table_of (table_left k earlier) told)
+    by : Settled (table_left k earlier) key ((table_of (table_left k earlier) told).items key)
+        ((table_left k sets).items key) → IsKept (table_left k earlier) key h (table_of (table_left k earlier) told)
     by (Untouched none is) = absurd (cc (ap is_some none, there key has))
     by (OfHeld x g in-table own flags value until cas) =
         let same : x ≡ h = some-same x h (sym in-table ∙ was) in
@@ -151,12 +172,14 @@ module _ (k : ℕ) (some : 1 ≤ k) (earlier sets told : List Entry) (legal : Is
           value = value ∙ ap (λ (y : Holding). y.item.value) same;
           until = until ∙ ap (λ (y : Holding). y.until) same;
           above =
-              let place : count_of (table_left k earlier) key ≡ slice_index (bases_of k earlier) (home_of key k) = ap (λ (n : ℕ). slice_index (bases_of k earlier) (home_of key n)) (many-left k earlier) in
+              let place : count_of (table_left k earlier) key ≡ slice_index (bases_of k earlier) (home_of key k) =
+              ap (λ (n : ℕ). slice_index (bases_of k earlier) (home_of key n)) (many-left k earlier) in
               let index = index-at (bases_of k earlier) (home_of key k) in
               omega (arith, place, index, cas);
         }
 
-  pub kept-left : (key : List ℕ) (h : Holding) → (table_left k earlier).items key ≡ Some h → HasKey sets key → IsKept (table_left k earlier) key h (table_left k (earlier ++ told))
+  pub kept-left : (key : List ℕ) (h : Holding) → (table_left k earlier).items key ≡ Some h → HasKey sets key
+      → IsKept (table_left k earlier) key h (table_left k (earlier ++ told))
   kept-left key h was has = subst (IsKept (table_left k earlier) key h) (sym (table-append (empty_table k) earlier told)) (kept key h was has)
 
 pub carries_keep : CarriesKeep

@@ -45,13 +45,17 @@ use Rattle.wire_eras.proofs.Resting.{settled-stays}
 
 module _ (k : ℕ) (some : 1 ≤ k) where
   -- an accepted op raises a count by 1, and none falls
-  raised : (t : Contents) (op : Asked) (d : ℕ) (r : Ruling) → length t.counts ≡ k → d < k → slice_index t.counts d ≤ slice_index (after_ruling t (key_of op.act) r).counts d
+  raised : (t : Contents) (op : Asked) (d : ℕ) (r : Ruling) → length t.counts ≡ k → d < k
+      → slice_index t.counts d ≤ slice_index (after_ruling t (key_of op.act) r).counts d
   raised t op d (Refused reply) many below = omega arith
   raised t op d (Accepted reply leaves) many below = by (cases_eq (partition_of t (key_of op.act)) d) where
-    by : (partition_of t (key_of op.act) ≡ d) ⊎ (partition_of t (key_of op.act) ≢ d) → slice_index t.counts d ≤ slice_index (slice_set t.counts (partition_of t (key_of op.act)) (count_of t (key_of op.act) + 1)) d
+    by : (partition_of t (key_of op.act) ≡ d) ⊎ (partition_of t (key_of op.act) ≢ d)
+        → slice_index t.counts d
+        ≤ slice_index (slice_set t.counts (partition_of t (key_of op.act)) (count_of t (key_of op.act) + 1)) d
     by (inl here) =
         let now : slice_index (slice_set t.counts (partition_of t (key_of op.act)) (count_of t (key_of op.act) + 1)) d ≡ slice_index t.counts d + 1
-        = ap (λ (i : ℕ). slice_index (slice_set t.counts i (slice_index t.counts i + 1)) d) here ∙ get_or-set_same t.counts d (slice_index t.counts d + 1) 0 (omega (arith, many, below)) in
+        = ap (λ (i : ℕ). slice_index (slice_set t.counts i (slice_index t.counts i + 1)) d) here
+        ∙ get_or-set_same t.counts d (slice_index t.counts d + 1) 0 (omega (arith, many, below)) in
         omega (arith, now)
     by (inr apart) =
         let now : slice_index (slice_set t.counts (partition_of t (key_of op.act)) (count_of t (key_of op.act) + 1)) d ≡ slice_index t.counts d
@@ -70,14 +74,16 @@ module _ (k : ℕ) (some : 1 ≤ k) where
     pub refused : Each (λ e. accepts e.reply ≡ false) log
     pub table : table_of t log ≡ t
 
-  all-refused : (t : Contents) (log : List Entry) → length t.counts ≡ k → IsLegalFrom t log → ((d : ℕ) → d < k → slice_index (table_of t log).counts d ≡ slice_index t.counts d) → AllRefused t log
+  all-refused : (t : Contents) (log : List Entry) → length t.counts ≡ k → IsLegalFrom t log
+      → ((d : ℕ) → d < k → slice_index (table_of t log).counts d ≡ slice_index t.counts d) → AllRefused t log
   all-refused t [] many legal same = record { refused = tt; table = refl }
   all-refused t (e ∷ es) many legal same =
       by (ruling_on t e.op) refl (rules-well e.op.moment (count_of t (key_of e.op.act) + 1) e.op.act (live_at e.op.moment (t.items (key_of e.op.act))))
       (all-refused (table_after t e.op) es (many-after k t e.op many) legal.1)
     where
       by : (r : Ruling) → ruling_on t e.op ≡ r → RulesWell (count_of t (key_of e.op.act) + 1) e.op.act (live_at e.op.moment (t.items (key_of e.op.act))) r
-          → (((d : ℕ) → d < k → slice_index (table_of (table_after t e.op) es).counts d ≡ slice_index (table_after t e.op).counts d) → AllRefused (table_after t e.op) es)
+          → (((d : ℕ) → d < k → slice_index (table_of (table_after t e.op) es).counts d
+          ≡ slice_index (table_after t e.op).counts d) → AllRefused (table_after t e.op) es)
           → AllRefused t (e ∷ es)
       by (Refused reply) is well later =
           let stays : table_after t e.op ≡ t = ap (after_ruling t (key_of e.op.act)) is in
@@ -95,7 +101,8 @@ module _ (k : ℕ) (some : 1 ≤ k) where
             ∙ ap (λ (i : ℕ). slice_index (slice_set t.counts i (slice_index t.counts i + 1)) (home_of (key_of e.op.act) k)) place
             ∙ get_or-set_same t.counts (home_of (key_of e.op.act) k) (slice_index t.counts (home_of (key_of e.op.act) k) + 1) 0 (omega (arith, many, below))
 
-        most : slice_index (table_after t e.op).counts (home_of (key_of e.op.act) k) ≤ slice_index (table_of (table_after t e.op) es).counts (home_of (key_of e.op.act) k)
+        most : slice_index (table_after t e.op).counts (home_of (key_of e.op.act) k)
+            ≤ slice_index (table_of (table_after t e.op) es).counts (home_of (key_of e.op.act) k)
         most = raised-all (table_after t e.op) es (home_of (key_of e.op.act) k) (many-after k t e.op many) below
 
         here : slice_index (table_of (table_after t e.op) es).counts (home_of (key_of e.op.act) k) ≡ slice_index t.counts (home_of (key_of e.op.act) k)
@@ -130,7 +137,8 @@ module _ (s : Dimensions) (actions : List Action) (run : AreActions s actions) (
     lives = sym ((runs_compose s actions run).dead p to) ∙ pin.1
 
     by : (b : Bool) → (composed s actions).failed x ≡ b → link (machine (composed s actions)) x p ≡ []
-    by false alive = draining.same-wire s rest.named rest.one one-in rest.out actions run rest.others rest.taken x p member to other (unnamed x member alive) (unnamed p to lives)
+    by false alive = draining.same-wire s rest.named rest.one one-in rest.out actions run rest.others rest.taken x p
+        member to other (unnamed x member alive) (unnamed p to lives)
         ∙ rest.wires x p member to other (unnamed x member alive) (unnamed p to lives)
     by true lost = (runs_compose s actions run).notices x p member lost (record { member = to; lives = lives })
         ∙ ap (λ (b : Bool). one_or b [] (tells.Notice x ∷ [])) (rest.taken p x to (unnamed p to lives) member (named x lost))
@@ -147,7 +155,8 @@ module _ (s : Dimensions) (actions more : List Action) (closed : IsClosed s acti
   before = events_of (composed s actions)
 
   made : MadeOnly Gets (composed s actions) (composed s (actions ++ more))
-  made = subst (MadeOnly Gets (composed s actions)) (sym (joined (opening_composed s) actions more)) (only-from Gets (composed s actions) more closed.behind closed.still)
+  made = subst (MadeOnly Gets (composed s actions)) (sym (joined (opening_composed s) actions more))
+      (only-from Gets (composed s actions) more closed.behind closed.still)
 
   abbrev later : List Event
   later = map (λ x. x.event) made.more
@@ -173,15 +182,18 @@ module _ (s : Dimensions) (actions more : List Action) (closed : IsClosed s acti
   table-is : table_left s.k (log_made s (actions ++ more)) ≡ table_of (table_left s.k (log_made s actions)) split.0
   table-is = ap (table_left s.k) split.1 ∙ table-append (empty_table s.k) (log_made s actions) split.0
 
-  counts : (d : ℕ) → d < s.k → slice_index (table_of (table_left s.k (log_made s actions)) split.0).counts d ≡ slice_index (table_left s.k (log_made s actions)).counts d
+  counts : (d : ℕ) → d < s.k → slice_index (table_of (table_left s.k (log_made s actions)) split.0).counts d
+      ≡ slice_index (table_left s.k (log_made s actions)).counts d
   counts d below =
-      ap (λ (t : Contents). slice_index t.counts d) (sym table-is ∙ ap (table_left s.k) (log-is s (actions ++ more)) ∙ ap (λ (es : List Event). table_left s.k (after s es).log) events-are)
+      ap (λ (t : Contents). slice_index t.counts d) (sym table-is ∙ ap (table_left s.k) (log-is s (actions ++ more))
+      ∙ ap (λ (es : List Event). table_left s.k (after s es).log) events-are)
       ∙ same-counts s before (before ++ later) at-rest.run whole (settled-stays s before later at-rest whole gets) d below
       ∙ ap (λ (log : List Entry). slice_index (table_left s.k log).counts d) (sym (log-is s actions))
 
   all-are : AllRefused s.k first-run.0.k.0 (table_left s.k (log_made s actions)) split.0
   all-are = all-refused s.k first-run.0.k.0 (table_left s.k (log_made s actions)) split.0 (many-left s.k (log_made s actions))
-      (legal-behind (empty_table s.k) (log_made s actions) split.0 (subst (IsLegalFrom (empty_table s.k)) split.1 (first_log_is_legal s (actions ++ more) closed.run)))
+      (legal-behind (empty_table s.k) (log_made s actions) split.0
+      (subst (IsLegalFrom (empty_table s.k)) split.1 (first_log_is_legal s (actions ++ more) closed.run)))
       counts
 
   pub no-change : LogsNoChange s actions more

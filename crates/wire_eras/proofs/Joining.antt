@@ -46,9 +46,16 @@ module _ (bases : Bases) (k : ℕ) (some : 1 ≤ k) (Free : List ℕ → Type 0)
   legal-on all own (x ∷ xs) (y ∷ ys) joined legal are sets =
       let told = are.0 in
       let next : Joined bases k some Free (table_after all y.op) (table_after own x.op)
-      = subst (λ (o : Asked). Joined bases k some Free (table_after all y.op) (table_after own o)) (sym told.op) (after-joined bases k some Free all own joined y.op sets.0) in
-      let rest = legal-on (table_after all y.op) (table_after own x.op) xs ys next legal.1 are.1 sets.1 in
-      ((told.reply ∙ ap (told_reply bases (home_of (key_of y.op.act) k)) (legal.0 ∙ ap (reply_of own) told.op) ∙ sym (reply-joined bases k some Free all own joined y.op sets.0), rest.0), rest.1)
+      = subst (λ (o : Asked). Joined bases k some Free (table_after all y.op) (table_after own o)) (sym told.op)
+      (after-joined bases k some Free all own joined y.op sets.0) in
+      let rest = legal-on (table_after all y.op) (table_after own x.op) xs ys next legal.1 are.1 sets.1 in (
+        (
+          told.reply ∙ ap (told_reply bases (home_of (key_of y.op.act) k)) (legal.0 ∙ ap (reply_of own) told.op)
+              ∙ sym (reply-joined bases k some Free all own joined y.op sets.0),
+          rest.0,
+        ),
+        rest.1,
+      )
 
 -- any key
 abbrev pub Anywhere : List ℕ → Type 0

@@ -1,5 +1,6 @@
 -- The log of a later group, told behind an earlier one, is legal.
-use Rattle.std.proofs.Common.{ℕ, ◌≡◌, ◌≤◌, ◌+◌, Bool, true, false, List, [], ◌∷◌, ◌++◌, length, Option, Some, None, is_some, if◌then◌else◌, ◌⊎◌, inl, inr, refl, sym, ap, subst, ◌∙◌}
+use Rattle.std.proofs.Common.{ℕ, ◌≡◌, ◌≤◌, ◌+◌, Bool, true, false, List, [], ◌∷◌, ◌++◌, length, Option, Some, None}
+use Rattle.std.proofs.Common.{is_some, if◌then◌else◌, ◌⊎◌, inl, inr, refl, sym, ap, subst, ◌∙◌}
 use Rattle.std.specs.Prelude.{slice_index, slice_set}
 use Rattle.group_types.specs.Dimensions.{Dimensions}
 use Rattle.group_types.specs.Each.{Each}
@@ -31,7 +32,8 @@ use Rattle.wire_eras.proofs.Carrying.{OfHeld, Settled, Untouched, behind, settle
 use Rattle.wire_eras.proofs.Joining.{Anywhere, index-at, legal-on}
 
 pub first_log_is_legal : FirstLogIsLegal
-first_log_is_legal s actions run = subst (λ (t : Dimensions). IsLegal t.k (log_made s actions)) (honest.shape-from (opening_composed s) actions) (runs_compose s actions run).headline.one_log.legal
+first_log_is_legal s actions run = subst (λ (t : Dimensions). IsLegal t.k (log_made s actions))
+    (honest.shape-from (opening_composed s) actions) (runs_compose s actions run).headline.one_log.legal
 
 each-right : {X : Type 0} (P : X → Type 0) (xs ys : List X) → Each P (xs ++ ys) → Each P ys
 each-right P [] ys all = all
@@ -82,12 +84,19 @@ module _ (e : Entry) (log : List Entry) (all clean : Contents) (stale : Stale (e
   ruling-same : ruling_on all e.op ≡ ruling_on clean e.op
   ruling-same =
       ap (λ (n : ℕ). ruling_of e.op.moment (n + 1) e.op.act (live_at e.op.moment (all.items (key_of e.op.act)))) counted
-      ∙ ap (ruling_of e.op.moment (count_of clean (key_of e.op.act) + 1) e.op.act) (live-same (all.items (key_of e.op.act)) (clean.items (key_of e.op.act)) (stale.items (key_of e.op.act)))
+      ∙ ap (ruling_of e.op.moment (count_of clean (key_of e.op.act) + 1) e.op.act)
+      (live-same (all.items (key_of e.op.act)) (clean.items (key_of e.op.act)) (stale.items (key_of e.op.act)))
 
   stale-ruled : (r : Ruling) → Stale log (after_ruling all (key_of e.op.act) r) (after_ruling clean (key_of e.op.act) r)
-  stale-ruled (Refused reply) = record { counts = stale.counts; items = λ other. later-at e log other (all.items other) (clean.items other) (stale.items other) }
+  stale-ruled (Refused reply) =
+      record {
+        counts = stale.counts;
+        items = λ other. later-at e log other (all.items other) (clean.items other)
+            (stale.items other);
+      }
   stale-ruled (Accepted reply leaves) = record {
-    counts = ap (λ (cs : List ℕ). slice_set cs (home_of (key_of e.op.act) (length cs)) (slice_index cs (home_of (key_of e.op.act) (length cs)) + 1)) stale.counts;
+    counts = ap (λ (cs : List ℕ). slice_set cs (home_of (key_of e.op.act) (length cs))
+        (slice_index cs (home_of (key_of e.op.act) (length cs)) + 1)) stale.counts;
     items = λ other. by other (same_key (key_of e.op.act) other);
   } where
     by : (other : List ℕ) (b : Bool) → StaleAt log other (if b then leaves else all.items other) (if b then leaves else clean.items other)
@@ -95,10 +104,12 @@ module _ (e : Entry) (log : List Entry) (all clean : Contents) (stale : Stale (e
     by other false = later-at e log other (all.items other) (clean.items other) (stale.items other)
 
   stale-after : Stale log (table_after all e.op) (table_after clean e.op)
-  stale-after = subst (λ (r : Ruling). Stale log (after_ruling all (key_of e.op.act) r) (table_after clean e.op)) (sym ruling-same) (stale-ruled (ruling_on clean e.op))
+  stale-after = subst (λ (r : Ruling). Stale log (after_ruling all (key_of e.op.act) r) (table_after clean e.op))
+      (sym ruling-same) (stale-ruled (ruling_on clean e.op))
 
 -- a log that is legal without the items that weren't carried is so with them, and leaves them as they are
-stale-legal : (log : List Entry) (all clean : Contents) → Stale log all clean → IsLegalFrom clean log → IsLegalFrom all log × Stale [] (table_of all log) (table_of clean log)
+stale-legal : (log : List Entry) (all clean : Contents) → Stale log all clean → IsLegalFrom clean log
+    → IsLegalFrom all log × Stale [] (table_of all log) (table_of clean log)
 stale-legal [] all clean stale legal = (tt, stale)
 stale-legal (e ∷ es) all clean stale legal =
     let rest = stale-legal es (table_after all e.op) (table_after clean e.op) (stale-after e es all clean stale) legal.1 in
@@ -109,7 +120,8 @@ no-free bases k some [] = tt
 no-free bases k some (y ∷ ys) = ((λ free. absurd free), no-free bases k some ys)
 
 -- an item has ended by the moments that are told
-ended-told : (bases : Bases) (k : ℕ) (key : List ℕ) (h : Holding) (entries told : List Entry) → AreToldAs bases k entries told → HasEnded entries key h → HasEnded told key h
+ended-told : (bases : Bases) (k : ℕ) (key : List ℕ) (h : Holding) (entries told : List Entry)
+    → AreToldAs bases k entries told → HasEnded entries key h → HasEnded told key h
 ended-told bases k key h [] [] are ended = tt
 ended-told bases k key h [] (y ∷ ys) are ended = absurd are
 ended-told bases k key h (x ∷ xs) [] are ended = absurd are
@@ -120,11 +132,17 @@ ended-told bases k key h (x ∷ xs) (y ∷ ys) are ended = (
 
 -- a log that begins with a carry, told behind an earlier one
 module _ (k : ℕ) (some : 1 ≤ k) (earlier sets later front rest : List Entry) (legal : IsLegalFrom (empty_table k) (sets ++ later))
-    (only : Each (λ e. SetsHeld (table_left k earlier) e.op) sets) (first : AreToldAs (bases_of k earlier) k sets front) (second : AreToldAs (bases_of k earlier) k later rest)
+    (only : Each (λ e. SetsHeld (table_left k earlier) e.op) sets) (first : AreToldAs (bases_of k earlier) k sets front)
+    (second : AreToldAs (bases_of k earlier) k later rest)
     (all : (key : List ℕ) (h : Holding) → (table_left k earlier).items key ≡ Some h → HasKey sets key ⊎ HasEnded (sets ++ later) key h) where
   -- the table over all, without the items that weren't carried
   abbrev clean : Contents
-  clean = record { items = λ key. if is_some ((table_left k sets).items key) then (table_of (table_left k earlier) front).items key else None; counts = (table_of (table_left k earlier) front).counts }
+  clean = record {
+    items = λ key. if is_some ((table_left k sets).items key) then
+        (table_of (table_left k earlier) front).items key else None;
+    counts =
+        (table_of (table_left k earlier) front).counts;
+  }
 
   set-legal : IsLegalFrom (empty_table k) sets
   set-legal = legal-front (empty_table k) sets later legal
@@ -139,36 +157,58 @@ module _ (k : ℕ) (some : 1 ≤ k) (earlier sets later front rest : List Entry)
     counts = both.1.counts;
     items = λ key. item key ((table_left k sets).items key) refl (both.1.items key);
   } where
-    item : (key : List ℕ) (o : Option Holding) → (table_left k sets).items key ≡ o → Meets (bases_of k earlier) k some Anywhere key ((table_of (table_left k earlier) front).items key) ((table_left k sets).items key)
-        → Meets (bases_of k earlier) k some NoKey key (if is_some ((table_left k sets).items key) then (table_of (table_left k earlier) front).items key else None) ((table_left k sets).items key)
-    item key None is meets = inl (Alike (ap (λ (b : Bool). if b then (table_of (table_left k earlier) front).items key else None) (ap is_some is) ∙ sym (ap (shift (bases_of k earlier) (home_of key k)) is))
+    item : (key : List ℕ) (o : Option Holding) → (table_left k sets).items key ≡ o
+        → Meets (bases_of k earlier) k some Anywhere key ((table_of (table_left k earlier) front).items key)
+        ((table_left k sets).items key)
+        → Meets (bases_of k earlier) k some NoKey key
+        (if is_some ((table_left k sets).items key) then (table_of (table_left k earlier) front).items key else None)
+        ((table_left k sets).items key)
+    item key None is meets =
+        inl (Alike (ap (λ (b : Bool). if b then (table_of (table_left k earlier) front).items key else None)
+        (ap is_some is) ∙ sym (ap (shift (bases_of k earlier) (home_of key k)) is))
         (subst HasCas (sym is) tt))
-    item key (Some g) is (inl (Alike same has)) = inl (Alike (ap (λ (b : Bool). if b then (table_of (table_left k earlier) front).items key else None) (ap is_some is) ∙ same) has)
+    item key (Some g) is (inl (Alike same has)) =
+        inl (Alike (ap (λ (b : Bool). if b then (table_of (table_left k earlier) front).items key else None)
+        (ap is_some is) ∙ same) has)
     item key (Some g) is (inl (Gone h same ends none)) = absurd (cc (none, is))
     item key (Some g) is (inr free) = absurd (cc (free.1, is))
 
   clean-stale : Stale rest (table_of (table_left k earlier) front) clean
-  clean-stale = record { counts = refl; items = λ key. item key ((table_left k sets).items key) refl (settled k some earlier sets front set-legal only first key) } where
-    gone : (key : List ℕ) (h : Holding) → (table_left k sets).items key ≡ None → HasKey sets key ⊎ HasEnded (sets ++ later) key h → HasEnded rest key h
-    gone key h none (inl has) = absurd (cc (ap is_some none, there k some earlier sets front set-legal only first key has))
-    gone key h none (inr ended) = ended-told (bases_of k earlier) k key h later rest second (each-right (λ e. key_of e.op.act ≡ key → is_live e.op.moment h.until ≡ false) sets later ended)
+  clean-stale =
+      record {
+        counts = refl;
+        items = λ key. item key ((table_left k sets).items key) refl
+            (settled k some earlier sets front set-legal only first key);
+      } where
+        gone : (key : List ℕ) (h : Holding) → (table_left k sets).items key ≡ None → HasKey sets key ⊎ HasEnded (sets ++ later) key h → HasEnded rest key h
+        gone key h none (inl has) = absurd (cc (ap is_some none, there k some earlier sets front set-legal only first key has))
+        gone key h none (inr ended) = ended-told (bases_of k earlier) k key h later rest second
+            (each-right (λ e. key_of e.op.act ≡ key → is_live e.op.moment h.until ≡ false) sets later ended)
 
-    out : (key : List ℕ) → (table_left k sets).items key ≡ None → (if is_some ((table_left k sets).items key) then (table_of (table_left k earlier) front).items key else None) ≡ None
-    out key none = ap (λ (b : Bool). if b then (table_of (table_left k earlier) front).items key else None) (ap is_some none)
+        out : (key : List ℕ) → (table_left k sets).items key ≡ None
+            → (if is_some ((table_left k sets).items key) then (table_of (table_left k earlier) front).items key else None)
+            ≡ None
+        out key none = ap (λ (b : Bool). if b then (table_of (table_left k earlier) front).items key else None) (ap is_some none)
 
-    left : (key : List ℕ) (o : Option Holding) → (table_left k earlier).items key ≡ o → (table_left k sets).items key ≡ None → (table_of (table_left k earlier) front).items key ≡ (table_left k earlier).items key
-        → StaleAt rest key ((table_of (table_left k earlier) front).items key) (if is_some ((table_left k sets).items key) then (table_of (table_left k earlier) front).items key else None)
-    left key None was none is = AsIs (is ∙ was ∙ sym (out key none))
-    left key (Some h) was none is = Ended h (is ∙ was) (out key none) (gone key h none (all key h was))
+        left : (key : List ℕ) (o : Option Holding) → (table_left k earlier).items key ≡ o → (table_left k sets).items key
+            ≡ None → (table_of (table_left k earlier) front).items key ≡ (table_left k earlier).items key
+            → StaleAt rest key ((table_of (table_left k earlier) front).items key)
+            (if is_some ((table_left k sets).items key) then (table_of (table_left k earlier) front).items key else None)
+        left key None was none is = AsIs (is ∙ was ∙ sym (out key none))
+        left key (Some h) was none is = Ended h (is ∙ was) (out key none) (gone key h none (all key h was))
 
-    item : (key : List ℕ) (o : Option Holding) → (table_left k sets).items key ≡ o → Settled (table_left k earlier) key ((table_of (table_left k earlier) front).items key) ((table_left k sets).items key)
-        → StaleAt rest key ((table_of (table_left k earlier) front).items key) (if is_some ((table_left k sets).items key) then (table_of (table_left k earlier) front).items key else None)
-    item key (Some g) is was = AsIs (sym (ap (λ (b : Bool). if b then (table_of (table_left k earlier) front).items key else None) (ap is_some is)))
-    item key None is (Untouched none untouched) = left key ((table_left k earlier).items key) refl none untouched
-    item key None is (OfHeld h g was own_is flags value until cas) = absurd (cc (is, own_is))
+        item : (key : List ℕ) (o : Option Holding) → (table_left k sets).items key ≡ o
+            → Settled (table_left k earlier) key ((table_of (table_left k earlier) front).items key)
+            ((table_left k sets).items key)
+            → StaleAt rest key ((table_of (table_left k earlier) front).items key)
+            (if is_some ((table_left k sets).items key) then (table_of (table_left k earlier) front).items key else None)
+        item key (Some g) is was = AsIs (sym (ap (λ (b : Bool). if b then (table_of (table_left k earlier) front).items key else None) (ap is_some is)))
+        item key None is (Untouched none untouched) = left key ((table_left k earlier).items key) refl none untouched
+        item key None is (OfHeld h g was own_is flags value until cas) = absurd (cc (is, own_is))
 
   behind-sets : IsLegalFrom clean rest × Joined (bases_of k earlier) k some NoKey (table_of clean rest) (table_of (table_left k sets) later)
-  behind-sets = legal-on (bases_of k earlier) k some NoKey clean (table_left k sets) later rest clean-joined (legal-behind (empty_table k) sets later legal) second (no-free (bases_of k earlier) k some rest)
+  behind-sets = legal-on (bases_of k earlier) k some NoKey clean (table_left k sets) later rest clean-joined
+      (legal-behind (empty_table k) sets later legal) second (no-free (bases_of k earlier) k some rest)
 
   stale-end : IsLegalFrom (table_of (table_left k earlier) front) rest × Stale [] (table_of (table_of (table_left k earlier) front) rest) (table_of clean rest)
   stale-end = stale-legal rest (table_of (table_left k earlier) front) clean clean-stale behind-sets.0
@@ -179,7 +219,8 @@ module _ (k : ℕ) (some : 1 ≤ k) (earlier sets later front rest : List Entry)
   pub told-raised : IsRaised (bases_of k earlier) k (table_of (table_left k sets) later) (table_of (table_of (table_left k earlier) front) rest)
   told-raised = record {
     counts = λ d below.
-        sym (index-at (table_of (table_of (table_left k earlier) front) rest).counts d) ∙ ap (λ (cs : List ℕ). slice_index cs d) stale-end.1.counts ∙ behind-sets.1.counts d below
+        sym (index-at (table_of (table_of (table_left k earlier) front) rest).counts d)
+        ∙ ap (λ (cs : List ℕ). slice_index cs d) stale-end.1.counts ∙ behind-sets.1.counts d below
         ∙ ap (with_base (bases_of k earlier) d) (index-at (table_of (table_left k sets) later).counts d);
     items = λ key h own. item key h own (stale-end.1.items key) (behind-sets.1.items key);
   } where
@@ -195,28 +236,33 @@ module _ (k : ℕ) (some : 1 ≤ k) (earlier sets later front rest : List Entry)
 -- so is that of a group over machines
 module _ (earlier told : List Entry) (s : Dimensions) (actions : List Action) (goes : GoesOnFrom earlier s actions) (are : IsTold earlier s actions told) where
   split : ToldBoth (bases_of s.k earlier) s.k goes.carried.sets goes.carried.later told
-  split = told-both (bases_of s.k earlier) s.k goes.carried.sets goes.carried.later told (subst (λ (log : List Entry). AreToldAs (bases_of s.k earlier) s.k log told) goes.carried.is are)
+  split = told-both (bases_of s.k earlier) s.k goes.carried.sets goes.carried.later told
+      (subst (λ (log : List Entry). AreToldAs (bases_of s.k earlier) s.k log told) goes.carried.is are)
 
   own-legal : IsLegalFrom (empty_table s.k) (goes.carried.sets ++ goes.carried.later)
   own-legal = subst (IsLegalFrom (empty_table s.k)) goes.carried.is (first_log_is_legal s actions goes.run)
 
-  each-item : (key : List ℕ) (h : Holding) → (table_left s.k earlier).items key ≡ Some h → HasKey goes.carried.sets key ⊎ HasEnded (goes.carried.sets ++ goes.carried.later) key h
+  each-item : (key : List ℕ) (h : Holding) → (table_left s.k earlier).items key ≡ Some h → HasKey goes.carried.sets key
+      ⊎ HasEnded (goes.carried.sets ++ goes.carried.later) key h
   each-item key h was = subst (λ (log : List Entry). HasKey goes.carried.sets key ⊎ HasEnded log key h) goes.carried.is (goes.carried.all key h was)
 
   pub goes-on : IsLegalFrom (table_left s.k earlier) told
   goes-on = subst (IsLegalFrom (table_left s.k earlier)) (sym split.is)
-      (told-on s.k goes.run.0.k.0 earlier goes.carried.sets goes.carried.later split.front split.rest own-legal goes.carried.only split.first split.second each-item)
+      (told-on s.k goes.run.0.k.0 earlier goes.carried.sets goes.carried.later split.front split.rest own-legal
+      goes.carried.only split.first split.second each-item)
 
   own-table : table_of (table_left s.k goes.carried.sets) goes.carried.later ≡ table_left s.k (log_made s actions)
   own-table = sym (table-append (empty_table s.k) goes.carried.sets goes.carried.later) ∙ ap (table_left s.k) (sym goes.carried.is)
 
   over-table : table_of (table_of (table_left s.k earlier) split.front) split.rest ≡ table_left s.k (earlier ++ told)
-  over-table = sym (table-append (table_left s.k earlier) split.front split.rest) ∙ ap (table_of (table_left s.k earlier)) (sym split.is) ∙ sym (table-append (empty_table s.k) earlier told)
+  over-table = sym (table-append (table_left s.k earlier) split.front split.rest)
+      ∙ ap (table_of (table_left s.k earlier)) (sym split.is) ∙ sym (table-append (empty_table s.k) earlier told)
 
   raises : IsRaised (bases_of s.k earlier) s.k (table_left s.k (log_made s actions)) (table_left s.k (earlier ++ told))
   raises = subst (λ (t : Contents). IsRaised (bases_of s.k earlier) s.k t (table_left s.k (earlier ++ told))) own-table
       (subst (IsRaised (bases_of s.k earlier) s.k (table_of (table_left s.k goes.carried.sets) goes.carried.later)) over-table
-      (told-raised s.k goes.run.0.k.0 earlier goes.carried.sets goes.carried.later split.front split.rest own-legal goes.carried.only split.first split.second each-item))
+      (told-raised s.k goes.run.0.k.0 earlier goes.carried.sets goes.carried.later split.front split.rest own-legal
+      goes.carried.only split.first split.second each-item))
 
 pub logs_are_one : LogsAreOne
 logs_are_one earlier told s actions goes are = legal-append (empty_table s.k) earlier told goes.legal (goes-on earlier told s actions goes are)

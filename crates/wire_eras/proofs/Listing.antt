@@ -57,14 +57,17 @@ module _ (s : Dimensions) (actions : List Action) (run : AreActions s actions) (
   same-world : machine (composed s actions) ≡ after s (events_of (composed s actions))
   same-world = ap (λ (t : Dimensions). after t (events_of (composed s actions))) (honest.shape-from (opening_composed s) actions)
 
-  head-lives : IsProcess (machine (composed s actions)).shape (head_of (machine (composed s actions)) d) × (is_dead (machine (composed s actions)) (head_of (machine (composed s actions)) d) ≡ false)
+  head-lives : IsProcess (machine (composed s actions)).shape (head_of (machine (composed s actions)) d)
+      × (is_dead (machine (composed s actions)) (head_of (machine (composed s actions)) d) ≡ false)
   head-lives = subst (λ (v : World). IsProcess v.shape (head_of v d) × (is_dead v (head_of v d) ≡ false)) (sym same-world)
-      (subst (λ (p : ProcessId). IsProcess w.shape p × (is_dead w p ≡ false)) (sym (finding.head s es at-rest d below)) (finding.head-in s es at-rest d below, (finding.heads s es at-rest d below).lives))
+      (subst (λ (p : ProcessId). IsProcess w.shape p × (is_dead w p ≡ false)) (sym (finding.head s es at-rest d below))
+      (finding.head-in s es at-rest d below, (finding.heads s es at-rest d below).lives))
 
   stands : HasNotFailed (composed s actions) (head_of (machine (composed s actions)) d)
   stands =
       let member : IsProcess (composed s actions).group.shape (head_of (machine (composed s actions)) d)
-      = subst (λ (t : Dimensions). IsProcess t (head_of (machine (composed s actions)) d)) (shape-machine s actions run ∙ sym (honest.shape-from (opening_composed s) actions)) head-lives.0 in
+      = subst (λ (t : Dimensions). IsProcess t (head_of (machine (composed s actions)) d)) (shape-machine s actions run
+      ∙ sym (honest.shape-from (opening_composed s) actions)) head-lives.0 in
       record { member = member; lives = sym ((runs_compose s actions run).dead (head_of (machine (composed s actions)) d) member) ∙ head-lives.1 }
 
   same-replica : head_replica (composed s actions) d ≡ replica_of (process_of w (head_of w d)) d
@@ -79,35 +82,46 @@ module _ (s : Dimensions) (actions : List Action) (run : AreActions s actions) (
 
   keeps : KeepsAll w d (replica_of (process_of w (of_rank d (finding.rank s es at-rest d below))) d)
   keeps = by (finding.rank s es at-rest d below) (finding.head-in s es at-rest d below) (finding.heads s es at-rest d below).lives where
-    by : (r : ℕ) → IsProcess (after s (events_of (composed s actions))).shape (of_rank d r) → is_dead (after s (events_of (composed s actions))) (of_rank d r) ≡ false
+    by : (r : ℕ) → IsProcess (after s (events_of (composed s actions))).shape (of_rank d r)
+        → is_dead (after s (events_of (composed s actions))) (of_rank d r) ≡ false
         → KeepsAll (after s (events_of (composed s actions))) d (replica_of (process_of (after s (events_of (composed s actions))) (of_rank d r)) d)
     by zero pin lives = ((headline_always s es at-rest.run).not_undone at-rest.up).at_data d (pin, lives)
-    by (suc i) pin lives = ((headline_always s es at-rest.run).not_undone at-rest.up).at_parity i d (subst (λ (t : Dimensions). d < t.k) (sym (shape-after (opening s) es)) below) (pin, lives)
+    by (suc i) pin lives = ((headline_always s es at-rest.run).not_undone at-rest.up).at_parity i d
+        (subst (λ (t : Dimensions). d < t.k) (sym (shape-after (opening s) es)) below) (pin, lives)
 
   applied-is : (replica_of (process_of w (of_rank d (finding.rank s es at-rest d below))) d).applied ≡ at 0 (bases_of s.k (log_made s actions)) d
   applied-is =
       let quiet = quiet_always s es at-rest.run at-rest.drained at-rest.up in
-      let empty = (quiet.finished d (finding.rank s es at-rest d below) (subst (λ (t : Dimensions). d < t.k) (sym (shape-after (opening s) es)) below) (finding.heads s es at-rest d below)).2 in
+      let empty = (quiet.finished d (finding.rank s es at-rest d below)
+      (subst (λ (t : Dimensions). d < t.k) (sym (shape-after (opening s) es)) below)
+      (finding.heads s es at-rest d below)).2 in
       let none : length (replica_of (process_of w (of_rank d (finding.rank s es at-rest d below))) d).log ≡ 0 = ap length empty in
       let ties = (ties-of s es at-rest.run).counts d below in
-      let shown = shown-long s d (no_store s) (settled_of s es d) (updates_of (after s es) d) (log_shows_settled s (stands-always s (whole-always s)) es at-rest.run d below).updates in
+      let shown = shown-long s d (no_store s) (settled_of s es d) (updates_of (after s es) d)
+      (log_shows_settled s (stands-always s (whole-always s)) es at-rest.run d below).updates in
       let low = keeps.applied in
       let high = keeps.reached in
       let index = index-at (bases_of s.k (log_made s actions)) d in
-      let counts : slice_index (bases_of s.k (log_made s actions)) d ≡ slice_index (table_after_run s es).counts d = ap (λ (t : Contents). slice_index t.counts d) same-table in
+      let counts : slice_index (bases_of s.k (log_made s actions)) d ≡ slice_index (table_after_run s es).counts d =
+      ap (λ (t : Contents). slice_index t.counts d) same-table in
       omega (arith, none, ties, shown, low, high, index, counts)
 
   lists : ListsItems s actions d
   lists = record {
     listed = λ key slot there. listed key slot (subst (λ (items : Items). Contains items (key, slot)) same-items there);
     all = λ key h home is. all key h home (ap (λ (t : Contents). t.items key) (sym same-table) ∙ is);
-    base = ap (λ (r : Replica). r.applied) same-replica ∙ ap (λ (p : ProcessId). (replica_of (process_of w p) d).applied) (finding.head s es at-rest d below) ∙ applied-is;
+    base = ap (λ (r : Replica). r.applied) same-replica
+        ∙ ap (λ (p : ProcessId). (replica_of (process_of w p) d).applied) (finding.head s es at-rest d below)
+        ∙ applied-is;
   } where
     listed : (key : List ℕ) (slot : Slot) → Contains (settled_items (after s (events_of (composed s actions))) d) (key, slot)
         → (h : Holding) × ((table_left s.k (log_made s actions)).items key ≡ Some h) × TellsItem slot h
     listed key slot there =
-        let found = finding.in-table s es at-rest d below (key, slot) there in
-        (held_as slot (bytes_at slot.at slot.len (finding.space s es at-rest d below)), ap (λ (t : Contents). t.items key) same-table ∙ found.there, record { flags = refl; until = refl; long = sym found.long })
+        let found = finding.in-table s es at-rest d below (key, slot) there in (
+          held_as slot (bytes_at slot.at slot.len (finding.space s es at-rest d below)),
+          ap (λ (t : Contents). t.items key) same-table ∙ found.there,
+          record { flags = refl; until = refl; long = sym found.long },
+        )
 
     all : (key : List ℕ) (h : Holding) → home_of key s.k ≡ d → (table_after_run s (events_of (composed s actions))).items key ≡ Some h
         → (slot : Slot) × Contains (head_replica (composed s actions) d).items (key, slot) × TellsItem slot h

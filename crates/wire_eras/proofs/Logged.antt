@@ -64,7 +64,8 @@ module _ (s : Dimensions) where
   log-is actions = ap (λ (t : Dimensions). (after t (events_of (composed s actions))).log) (honest.shape-from (opening_composed s) actions)
 
   pub run-is : (actions : List Action) → AreActions s actions → IsRun s (events_of (composed s actions))
-  run-is actions run = subst (λ (t : Dimensions). IsRun t (events_of (composed s actions))) (honest.shape-from (opening_composed s) actions) (runs_compose s actions run).run
+  run-is actions run = subst (λ (t : Dimensions). IsRun t (events_of (composed s actions)))
+      (honest.shape-from (opening_composed s) actions) (runs_compose s actions run).run
 
   pub events-more : (c : Composed) (made : List Made) (d : Composed) → d.made ≡ c.made ++ made → events_of d ≡ events_of c ++ map (λ x. x.event) made
   events-more c made d is = ap (map (λ (x : Made). x.event)) is ∙ map-both (λ (x : Made). x.event) c.made made
@@ -73,7 +74,8 @@ module _ (s : Dimensions) where
   log-split actions more =
       let c : Composed = composed s actions in
       let grown = made-grows c more in
-      let made : (composed s (actions ++ more)).made ≡ (composed s actions).made ++ grown.0 = ap (λ (d : Composed). d.made) (joined (opening_composed s) actions more) ∙ grown.1 in
+      let made : (composed s (actions ++ more)).made ≡ (composed s actions).made ++ grown.0 =
+      ap (λ (d : Composed). d.made) (joined (opening_composed s) actions more) ∙ grown.1 in
       let es : List Event = map (λ x. x.event) grown.0 in
       let later = log-more (after s (events_of c)) es in (
         later.0,
@@ -95,7 +97,10 @@ module _ (P : Asked → Type 0) (s : Dimensions) where
   pub log-only : (actions : List Action) → AreActions s actions → Each (BeginsOnly P) actions → Each (λ e. P e.op) (log_made s actions)
   log-only actions run begins =
       let made : MadeOnly P (opening_composed s) (composed s actions) = only-from P (opening_composed s) actions begins (open-start P s) in
-      let asks : Each (EventAsks P) (events_of (composed s actions)) = each-map (EventAsks P) (λ x. x.event) (composed s actions).made (subst (Each (λ (x : Made). EventAsks P x.event)) (sym made.is) made.asks) in
+      let asks : Each (EventAsks P) (events_of (composed s actions)) =
+      each-map (EventAsks P) (λ x. x.event) (composed s actions).made
+      (subst (Each (λ (x : Made). EventAsks P x.event)) (sym made.is) made.asks) in
       subst (Each (λ (e : Entry). P e.op)) (sym (log-is s actions))
-      (each-weaker (Contains (after s (events_of (composed s actions))).log) (λ e. P e.op) (entry-asked (events_of (composed s actions)) (run-is s actions run) asks)
+      (each-weaker (Contains (after s (events_of (composed s actions))).log) (λ e. P e.op)
+      (entry-asked (events_of (composed s actions)) (run-is s actions run) asks)
       (after s (events_of (composed s actions))).log (each-self (after s (events_of (composed s actions))).log))

@@ -1,5 +1,6 @@
 -- What a get of a group at rest is told is what its table has.
-use Rattle.std.proofs.Common.{ℕ, zero, suc, ◌≡◌, ◌≤◌, ◌+◌, ◌==◌, Bool, true, false, List, [], ◌∷◌, ◌++◌, length, map, take, Option, Some, None, if◌then◌else◌, refl, sym, ap, subst, ◌∙◌, arith}
+use Rattle.std.proofs.Common.{ℕ, zero, suc, ◌≡◌, ◌≤◌, ◌+◌, ◌==◌, Bool, true, false, List, [], ◌∷◌, ◌++◌, length, map}
+use Rattle.std.proofs.Common.{take, Option, Some, None, if◌then◌else◌, refl, sym, ap, subst, ◌∙◌, arith}
 use Rattle.std.proofs.lemmas.List.{length-append, length-map}
 use Rattle.group_types.specs.Dimensions.{Dimensions}
 use Rattle.group_types.specs.Each.{Each}
@@ -24,7 +25,8 @@ use Rattle.law_headline.proofs.Headlines.{headline_always}
 use Rattle.law_log.proofs.Tables.{table-append}
 use Rattle.law_updates.proofs.Rules.{RulesWell, rules-well}
 use Rattle.group_eras.proofs.Standing.{legal-behind}
-use Rattle.group_wire.specs.Actions.{Action, Begin, Send, Read, Treat, Collect, Flush, Learn, Receive, GiveUp, Cut, Say, Hear, Permit, Take, Ping, Pong, Count, Show, LetGo, Stop}
+use Rattle.group_wire.specs.Actions.{Action, Begin, Send, Read, Treat, Collect, Flush, Learn, Receive, GiveUp, Cut, Say}
+use Rattle.group_wire.specs.Actions.{Hear, Permit, Take, Ping, Pong, Count, Show, LetGo, Stop}
 use Rattle.group_wire.specs.Composed.{Composed, Made, begun_after, composed, composed_from, composed_with, events_of, opening_composed}
 use Rattle.group_wire.specs.Sets.{changed_at}
 use Rattle.group_wire.specs.Shown.{IsLoggedSinceBegun}
@@ -122,7 +124,8 @@ take-behind (x ∷ xs) ys (suc n) long = let rest = take-behind xs ys n (omega (
 refused-stays : (t : Contents) (log : List Entry) → IsLegalFrom t log → Each (λ e. accepts e.reply ≡ false) log → table_of t log ≡ t
 refused-stays t [] legal refused = refl
 refused-stays t (e ∷ es) legal refused =
-    by (ruling_on t e.op) refl (rules-well e.op.moment (count_of t (key_of e.op.act) + 1) e.op.act (live_at e.op.moment (t.items (key_of e.op.act)))) (refused-stays (table_after t e.op) es legal.1 refused.1)
+    by (ruling_on t e.op) refl (rules-well e.op.moment (count_of t (key_of e.op.act) + 1) e.op.act
+    (live_at e.op.moment (t.items (key_of e.op.act)))) (refused-stays (table_after t e.op) es legal.1 refused.1)
   where
     by : (r : Ruling) → ruling_on t e.op ≡ r → RulesWell (count_of t (key_of e.op.act) + 1) e.op.act (live_at e.op.moment (t.items (key_of e.op.act))) r
         → table_of (table_after t e.op) es ≡ table_after t e.op → table_of (table_after t e.op) es ≡ t
@@ -139,13 +142,15 @@ module _ (s : Dimensions) (actions more : List Action) (caller : ℕ) (o : OpenC
   logged = shown_is_logged s (actions ++ more) caller b.ping o b.told shown b.closed.run b.apart b.may b.shows b.answer
 
   last-is : composed s (actions ++ more) ≡ composed_from (composed_with (composed_from (composed s actions) b.before) (Begin caller b.op)) b.after
-  last-is = joined (opening_composed s) actions more ∙ ap (composed_from (composed s actions)) b.begins ∙ joined (composed s actions) b.before (Begin caller b.op ∷ b.after)
+  last-is = joined (opening_composed s) actions more ∙ ap (composed_from (composed s actions)) b.begins
+      ∙ joined (composed s actions) b.before (Begin caller b.op ∷ b.after)
 
   begun : length (composed s actions).made ≤ (composed s (actions ++ more)).begun caller
   begun = subst (λ (d : Composed). length (composed s actions).made ≤ d.begun caller) (sym last-is)
       (begun-from (length (composed s actions).made) (composed_with c0 (Begin caller b.op)) b.after caller
       (let one = long-more (composed s actions) b.before in let two = long-more c0 (Begin caller b.op ∷ []) in omega (arith, one, two))
-      (let here : changed_at c0.begun caller (length c0.made) caller ≡ length c0.made = changed_at-here c0.begun caller (length c0.made) in let one = long-more (composed s actions) b.before in omega (arith, here, one)))
+      (let here : changed_at c0.begun caller (length c0.made) caller ≡ length c0.made = changed_at-here c0.begun caller
+      (length c0.made) in let one = long-more (composed s actions) b.before in omega (arith, here, one)))
     where
       c0 : Composed
       c0 = composed_from (composed s actions) b.before
@@ -159,27 +164,39 @@ module _ (s : Dimensions) (actions more : List Action) (caller : ℕ) (o : OpenC
   -- the call was logged behind the first log
   low : length (log_made s actions) ≤ logged.place
   low =
-      let since : length (log_of (take ((composed s (actions ++ more)).begun caller) (turns_of s (events_of (composed s actions) ++ map (λ x. x.event) grown.0)))) ≤ logged.place
+      let since : length
+      (log_of (take ((composed s (actions ++ more)).begun caller)
+      (turns_of s (events_of (composed s actions) ++ map (λ x. x.event) grown.0)))) ≤ logged.place
       = subst (λ (es : List Event). length (log_of (take ((composed s (actions ++ more)).begun caller) (turns_of s es))) ≤ logged.place) events-are
-      (subst (λ (t : Dimensions). length (log_of (take ((composed s (actions ++ more)).begun caller) (turns_of t (events_of (composed s (actions ++ more)))))) ≤ logged.place)
+      (subst (λ (t : Dimensions).
+      length (log_of
+      (take ((composed s (actions ++ more)).begun caller) (turns_of t (events_of (composed s (actions ++ more))))))
+      ≤ logged.place)
       (honest.shape-from (opening_composed s) (actions ++ more)) logged.since) in
       let long = length-map (composed s actions).made (λ (x : Made). x.event) in
       let after-begun = begun in
-      let turns = take-turns (opening s) (events_of (composed s actions)) (map (λ x. x.event) grown.0) ((composed s (actions ++ more)).begun caller) (omega (arith, long, after-begun)) in
+      let turns = take-turns (opening s) (events_of (composed s actions)) (map (λ x. x.event) grown.0)
+      ((composed s (actions ++ more)).begun caller) (omega (arith, long, after-begun)) in
       let kept : length (log_made s actions) ≡ length (log_of (turns_of s (events_of (composed s actions))))
-      = ap length (log-is s actions ∙ (headline_always s (events_of (composed s actions)) (run-is s actions (front s actions more b.closed.run))).one_log.kept) in
+      = ap length (log-is s actions
+      ∙ (headline_always s (events_of (composed s actions))
+      (run-is s actions (front s actions more b.closed.run))).one_log.kept) in
       omega (arith, since, turns, kept)
 
   tells : shown ≡ reply_of (table_left s.k (log_made s actions)) o.op
   tells =
       let none = no-change s actions more b.closed in
       let legal : IsLegalFrom (empty_table s.k) (log_made s (actions ++ more)) = first_log_is_legal s (actions ++ more) b.closed.run in
-      let behind : IsLegalFrom (table_left s.k (log_made s actions)) none.later = legal-behind (empty_table s.k) (log_made s actions) none.later (subst (IsLegalFrom (empty_table s.k)) none.log legal) in
+      let behind : IsLegalFrom (table_left s.k (log_made s actions)) none.later =
+      legal-behind (empty_table s.k) (log_made s actions) none.later
+      (subst (IsLegalFrom (empty_table s.k)) none.log legal) in
       let front = take-behind (log_made s actions) none.later logged.place low in
-      reply-at (empty_table s.k) (log_made s (actions ++ more)) logged.place (entry_of (record { caller = caller; call = o.position }) o.op shown) legal logged.entry
+      reply-at (empty_table s.k) (log_made s (actions ++ more)) logged.place
+      (entry_of (record { caller = caller; call = o.position }) o.op shown) legal logged.entry
       ∙ ap (λ (log : List Entry). reply_of (table_of (empty_table s.k) log) o.op) (ap (take logged.place) none.log ∙ front.1)
       ∙ ap (λ (t : Contents). reply_of t o.op) (table-append (empty_table s.k) (log_made s actions) (take front.0 none.later)
-      ∙ refused-stays (table_left s.k (log_made s actions)) (take front.0 none.later) (legal-take (table_left s.k (log_made s actions)) none.later front.0 behind)
+      ∙ refused-stays (table_left s.k (log_made s actions)) (take front.0 none.later)
+      (legal-take (table_left s.k (log_made s actions)) none.later front.0 behind)
       (each-take (λ e. accepts e.reply ≡ false) front.0 none.later none.refused))
 
 pub gets_tell_table : GetsTellTable

@@ -55,36 +55,53 @@ module _ (limit : ℕ → List Update) where
   laws = record { start = λ d. record { reaches = omega arith; front = refl }; rises = λ d a b history front low high. front }
 
   module _ (s : Dimensions) (shaped : IsShape s) where
-    left : (v w : State) (p : ProcessId) → reaching.Leaves_both (Upto limit) laws s shaped v w p → Members s w → IsProcess s p → w.dead p ≡ false → AllUpto limit s v → AllUpto limit s w
+    left : (v w : State) (p : ProcessId) → reaching.Leaves_both (Upto limit) laws s shaped v w p → Members s w
+        → IsProcess s p → w.dead p ≡ false → AllUpto limit s v → AllUpto limit s w
     left v w p leaves members pin living all = (members, (λ d below. (leaves d below).0), λ d below. by d below (leaves d below).2) where
       by : (d : ℕ) → d < s.k → GrewBy d (v.settled d) (w.settled d) (w.process p) → Prolongs (w.settled d) (limit d)
       by d below (inl same) = subst (λ (us : List Update). Prolongs us (limit d)) (sym same) (all.2 d below)
       by d below (inr has) =
-          let kept = ((leaves d below).0).replicas p pin living (keeper-rank d has.head.rank p (head-from s w d members below p has.head pin living has.heads).0) in
+          let kept = ((leaves d below).0).replicas p pin living
+          (keeper-rank d has.head.rank p (head-from s w d members below p has.head pin living has.heads).0) in
           begins-trans (w.settled d) (history (w.settled d) (replica_of (w.process p) d)) (limit d) kept.prolongs kept.fine.1
 
   -- whatever comes, but for a change that is asked
   one : (h : History) (e : Event) → FramedHistory h → IsShape h.world.shape → MayCome h.world e → EventAsks Gets e → AllUpto limit h.world.shape (state_of h)
       → AllUpto limit h.world.shape (state_of (prolonged h e))
-  one h (Ask caller op p) framed shaped may gets all = upto-ask limit h caller op p framed shaped may (get-keeps (Upto limit) h.world.shape (state_of h) p (next_name h.world caller) op (is-get op.act gets)) all
+  one h (Ask caller op p) framed shaped may gets all = upto-ask limit h caller op p framed shaped may
+      (get-keeps (Upto limit) h.world.shape (state_of h) p (next_name h.world caller) op (is-get op.act gets)) all
   one h (Deliver from to) framed shaped may gets all = upto-deliver limit h from to framed shaped may all
   one h (Trace caller call d p) framed shaped may gets all =
       subst (AllUpto limit h.world.shape) (sym (trace-stays h framed caller call d.0 p may.3 (node_of h.world p).down (node_of h.world p).dead).1) all
   one h (Collect caller call p) framed shaped may gets all =
-      by (call-comes h.world.shape h.world.nodes h.settled framed p (collect_from caller call (node_of h.world p).process (range_with_len 0 h.world.shape.k)) may.1 (node_of h.world p).down (node_of h.world p).dead refl refl) where
+      by (call-comes h.world.shape h.world.nodes h.settled framed p
+      (collect_from caller call (node_of h.world p).process (range_with_len 0 h.world.shape.k)) may.1
+      (node_of h.world p).down (node_of h.world p).dead refl refl) where
         by : {w : State} {answer : Answer}
             → Answers h.world.shape (state_of h) w p (collect_from caller call (node_of h.world p).process (range_with_len 0 h.world.shape.k)) answer
             → AllUpto limit h.world.shape w
         by (Idle same idle) = subst (AllUpto limit h.world.shape) (sym same) all
-        by {w} (Acts up lives acts is) = left h.world.shape shaped (state_of h) w p (reaching.collects-both (Upto limit) laws h.world.shape shaped (state_of h) w p caller call may.1 up lives all.0 all.1 acts)
-            ((keeps h.world.shape shaped).treats (state_of h) w p (collect_from caller call (node_of h.world p).process (range_with_len 0 h.world.shape.k)).step may.1 up lives (Collects caller call) all.0 acts)
+        by {w} (Acts up lives acts is) = left h.world.shape shaped (state_of h) w p
+            (reaching.collects-both (Upto limit) laws h.world.shape shaped (state_of h) w p caller call may.1 up lives
+            all.0 all.1 acts)
+            ((keeps h.world.shape shaped).treats (state_of h) w p
+            (collect_from caller call (node_of h.world p).process (range_with_len 0 h.world.shape.k)).step may.1 up
+            lives (Collects caller call) all.0 acts)
             may.1 (acts.dead p may.1 ∙ lives) all
   one h (Flush p) framed shaped may gets all =
-      by (call-comes h.world.shape h.world.nodes h.settled framed p (flush_process h.world.shape (node_of h.world p).process) may (node_of h.world p).down (node_of h.world p).dead refl refl) where
-        by : {w : State} {answer : Answer} → Answers h.world.shape (state_of h) w p (flush_process h.world.shape (node_of h.world p).process) answer → AllUpto limit h.world.shape w
+      by (call-comes h.world.shape h.world.nodes h.settled framed p
+      (flush_process h.world.shape (node_of h.world p).process) may (node_of h.world p).down (node_of h.world p).dead
+      refl refl) where
+        by : {w : State} {answer : Answer}
+            → Answers h.world.shape (state_of h) w p (flush_process h.world.shape (node_of h.world p).process) answer
+            → AllUpto limit h.world.shape w
         by (Idle same idle) = subst (AllUpto limit h.world.shape) (sym same) all
-        by {w} (Acts up lives acts is) = left h.world.shape shaped (state_of h) w p (reaching.flushes-both (Upto limit) laws h.world.shape shaped (state_of h) w p may up lives all.0 all.1 acts)
-            ((keeps h.world.shape shaped).treats (state_of h) w p (flush_process h.world.shape (node_of h.world p).process).step may up lives Flushes all.0 acts) may (acts.dead p may ∙ lives) all
+        by {w} (Acts up lives acts is) = left h.world.shape shaped (state_of h) w p
+            (reaching.flushes-both (Upto limit) laws h.world.shape shaped (state_of h) w p may up lives all.0 all.1
+            acts)
+            ((keeps h.world.shape shaped).treats (state_of h) w p
+            (flush_process h.world.shape (node_of h.world p).process).step may up lives Flushes all.0 acts) may
+            (acts.dead p may ∙ lives) all
   one h (Fail p keep) framed shaped may gets all =
       by (failure-comes h.world.shape h.world.nodes h.settled framed p keep may (node_of h.world p).dead refl) where
         by : {w : State} → Fails h.world.shape (state_of h) w p keep → AllUpto limit h.world.shape w
@@ -95,7 +112,8 @@ module _ (limit : ℕ → List Update) where
           λ d below. subst (λ (us : List Update). Prolongs us (limit d)) (sym (died.settled d)) (all.2 d below),
         )
 
-  along : (s : Dimensions) (es fs : List Event) → IsRun s (es ++ fs) → Each (EventAsks Gets) fs → AllUpto limit s (state_at s es) → AllUpto limit s (state_at s (es ++ fs))
+  along : (s : Dimensions) (es fs : List Event) → IsRun s (es ++ fs) → Each (EventAsks Gets) fs
+      → AllUpto limit s (state_at s es) → AllUpto limit s (state_at s (es ++ fs))
   along s es [] run gets all = subst (λ (xs : List Event). AllUpto limit s (state_at s xs)) (sym (append-nil es)) all
   along s es (f ∷ fs) run gets all =
       let parts = run-push _ es f fs run.1 in
@@ -104,6 +122,8 @@ module _ (limit : ℕ → List Update) where
       subst (λ (xs : List Event). AllUpto limit s (state_at s xs)) there (along s (es ++ f ∷ []) fs (subst (IsRun s) (sym there) run) gets.1 now)
 
 -- nothing more is settled
-pub settled-stays : (s : Dimensions) (es fs : List Event) → Rests s es → IsRun s (es ++ fs) → Each (EventAsks Gets) fs → (d : ℕ) → d < s.k → settled_of s (es ++ fs) d ≡ settled_of s es d
+pub settled-stays : (s : Dimensions) (es fs : List Event) → Rests s es → IsRun s (es ++ fs) → Each (EventAsks Gets) fs
+    → (d : ℕ) → d < s.k → settled_of s (es ++ fs) d ≡ settled_of s es d
 settled-stays s es fs rests run gets d below =
-    both-fronts s (settled_of s es d) (settled_of s (es ++ fs) d) (settled-grows s es fs d below) ((along (settled_of s es) s es fs run gets (rests-upto s es rests)).2 d below)
+    both-fronts s (settled_of s es d) (settled_of s (es ++ fs) d) (settled-grows s es fs d below)
+    ((along (settled_of s es) s es fs run gets (rests-upto s es rests)).2 d below)

@@ -1,5 +1,6 @@
 -- A stream that goes on, and how it ends from there.
-use Rattle.std.proofs.Common.{◌≡◌, ℕ, ◌+◌, ◌<◌, ◌≤◌, ◌⊎◌, inl, inr, Bool, true, false, List, [], ◌++◌, length, take, Result, Ok, Err, refl, sym, ◌∙◌, subst, arith}
+use Rattle.std.proofs.Common.{◌≡◌, ℕ, ◌+◌, ◌<◌, ◌≤◌, ◌⊎◌, inl, inr, Bool, true, false, List, [], ◌++◌, length, take}
+use Rattle.std.proofs.Common.{Result, Ok, Err, refl, sym, ◌∙◌, subst, arith}
 use Rattle.std.proofs.lemmas.List.{append-nil, length-append}
 use Rattle.std.specs.Result.{IsErrAnd}
 use Rattle.std.proofs.lemmas.Grind.{flat_map-append}
@@ -43,7 +44,8 @@ either kept read messages h = by kept.bad refl where
   by false is = inl (rest-good kept read messages h is).1
 
 -- a frame is bad only with a piece more
-only-now : (kept : Kept) (read piece : List ℕ) (messages : List Message) (h : HasRead kept read messages) → kept.bad ≡ false → length piece ≤ 65536 → IsBadOnlyNow (read ++ piece)
+only-now : (kept : Kept) (read piece : List ℕ) (messages : List Message) (h : HasRead kept read messages)
+    → kept.bad ≡ false → length piece ≤ 65536 → IsBadOnlyNow (read ++ piece)
 only-now kept read piece messages h good short = record {
   front = read;
   last = piece;
@@ -100,7 +102,8 @@ module _ (input middle input_now : Input) (held held_now : List ℕ) (old : Kept
     by-end (Err ReadFault) ends = absurd ends
     by-end (Err WriteFault) ends = absurd ends
 
-    pub framed-end : (result : Result (Unit {0}) FramesStatus) → EndsAs goes.read goes.messages result → HasFramed input input_now held held_now (status_in result)
+    pub framed-end : (result : Result (Unit {0}) FramesStatus) → EndsAs goes.read goes.messages result
+        → HasFramed input input_now held held_now (status_in result)
     framed-end = by-end
 
   -- a piece came
@@ -117,7 +120,8 @@ module _ (input middle input_now : Input) (held held_now : List ℕ) (old : Kept
       partial = (rest-good old goes.read goes.messages goes.has_read goes.good).1;
     }
 
-    halted : (has : HasGiven old new goes.read piece goes.messages) → HasWritten held_now written_now (lines_of has.given) → HasHalted input input_now held written_now
+    halted : (has : HasGiven old new goes.read piece goes.messages)
+        → HasWritten held_now written_now (lines_of has.given) → HasHalted input input_now held written_now
     halted has written = record {
       come = come;
       middle = held_now;
@@ -129,7 +133,8 @@ module _ (input middle input_now : Input) (held held_now : List ℕ) (old : Kept
       written = written;
     }
 
-    pub framed-piece : (status : FramesStatus) → IsPieceListed old new goes.read goes.messages piece held_now written_now (Err status) → HasFramed input input_now held written_now status
+    pub framed-piece : (status : FramesStatus) → IsPieceListed old new goes.read goes.messages piece held_now
+        written_now (Err status) → HasFramed input input_now held written_now status
     framed-piece (BadFrame at) (h, bad, begun, same) = (
       h.rest,
       record {
@@ -144,7 +149,12 @@ module _ (input middle input_now : Input) (held held_now : List ℕ) (old : Kept
       sym begun ∙ place-is new (goes.read ++ piece) goes.messages h,
     )
     framed-piece WriteFault (has, written) = halted has written
-    framed-piece Want (inl (good, same)) = inr (record { come = come; written = subst (λ (bytes : List ℕ). Appends held bytes (lines_of goes.messages)) (sym same) goes.written })
+    framed-piece Want (inl (good, same)) =
+        inr (record {
+          come = come;
+          written = subst (λ (bytes : List ℕ). Appends held bytes (lines_of goes.messages))
+              (sym same) goes.written;
+        })
     framed-piece Want (inr (has, written)) = inl (halted has written)
     framed-piece Done ends = absurd ends
     framed-piece Cut ends = absurd ends
@@ -191,7 +201,8 @@ module _ (input middle input_now : Input) (held held_now : List ℕ) (old : Kept
       goes-more kept n same len good = subst (λ (k : Kept). GoesOn input input_now held written_now k (count + n)) (sym same) (goes-now n len good)
 
 -- as many bytes were read as a stream may have
-pub framed-worn : (input input_now : Input) (held held_now : List ℕ) (kept : Kept) (count : ℕ) → GoesOn input input_now held held_now kept count → count ≡ 4611686018427387904
+pub framed-worn : (input input_now : Input) (held held_now : List ℕ) (kept : Kept) (count : ℕ)
+    → GoesOn input input_now held held_now kept count → count ≡ 4611686018427387904
     → HasFramed input input_now held held_now Worn
 framed-worn input input_now held held_now kept count goes all = (
   goes.has_read.rest,
@@ -221,7 +232,8 @@ pub takes-none : (input now : Input) (bytes : List ℕ) (n : ℕ) → n ≡ 0 �
 takes-none input now bytes n none taken = subst (λ (k : ℕ). Takes input now (take k bytes)) none taken
 
 -- a status that is handed on
-pub handed-on : (input input_now : Input) (held held_now : List ℕ) (status : FramesStatus) (result : Result (Unit {0}) FramesStatus) → HasFramed input input_now held held_now status
+pub handed-on : (input input_now : Input) (held held_now : List ℕ) (status : FramesStatus)
+    (result : Result (Unit {0}) FramesStatus) → HasFramed input input_now held held_now status
     → IsErrAnd result (λ s. s ≡ status)
     → HasFramed input input_now held held_now (status_in result)
 handed-on input input_now held held_now status (Ok _) framed is = absurd is
@@ -235,7 +247,8 @@ pub end-tells : (input : List ℕ) (messages : List Message) (result : Result (U
     → (result ≡ Err ReadFault → ⊥) × (result ≡ Err WriteFault → ⊥)
 end-tells input messages result ends = (λ is. subst (EndsAs input messages) is ends, λ is. subst (EndsAs input messages) is ends)
 
-pub piece-tells : (old new : Kept) (input : List ℕ) (messages : List Message) (piece held now : List ℕ) (status : FramesStatus) (result : Result (Unit {0}) FramesStatus)
+pub piece-tells : (old new : Kept) (input : List ℕ) (messages : List Message) (piece held now : List ℕ)
+    (status : FramesStatus) (result : Result (Unit {0}) FramesStatus)
     → IsPieceListed old new input messages piece held now (Err status) → IsErrAnd result (λ s. s ≡ status)
     → result ≡ Err ReadFault → ⊥
 piece-tells old new input messages piece held now status (Ok _) listed same is = absurd same

@@ -9,7 +9,8 @@ use Rattle.wire_codec.specs.Fits.{HasFrame}
 use Rattle.wire_frames.specs.Line.{line_of, lines_of}
 
 -- the lines of the first messages, and the line of the next
-pub lines-more : (messages : List Message) (i : ℕ) (m : Message) → i < length messages → lines_of (take (i + 1) messages) ≡ lines_of (take i messages) ++ line_of (get_or messages i m)
+pub lines-more : (messages : List Message) (i : ℕ) (m : Message) → i < length messages
+    → lines_of (take (i + 1) messages) ≡ lines_of (take i messages) ++ line_of (get_or messages i m)
 lines-more messages i m lt =
     let next : Message = get_or messages i m in
     ap (λ (ms : List Message). lines_of ms) (take_more messages i m lt) ∙ flat_map-append line_of (take i messages) (next ∷ [])
@@ -23,4 +24,5 @@ later-have (m ∷ messages) given all = later-have messages given all.1
 -- a line as its pieces are written, one behind the other
 pub joined-line : (word kind number : List ℕ) → word ++ (kind ++ 32 ∷ (number ++ 10 ∷ [])) ≡ word ++ kind ++ (32 ∷ []) ++ number ++ (10 ∷ [])
 joined-line word kind number =
-    sym (append_assoc (word ++ kind ++ (32 ∷ [])) number (10 ∷ []) ∙ append_assoc (word ++ kind) (32 ∷ []) (number ++ 10 ∷ []) ∙ append_assoc word kind (32 ∷ (number ++ 10 ∷ [])))
+    sym (append_assoc (word ++ kind ++ (32 ∷ [])) number (10 ∷ []) ∙ append_assoc (word ++ kind) (32 ∷ [])
+    (number ++ 10 ∷ []) ∙ append_assoc word kind (32 ∷ (number ++ 10 ∷ [])))

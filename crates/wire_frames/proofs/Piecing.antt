@@ -32,15 +32,21 @@ module _ (old new : Kept) (input : List ℕ) (messages : List Message) (piece he
       subst (λ (x : FramesStatus). IsPieceListed old new input messages piece held now (Err x)) (sym is)
       (subst (HasRead new (input ++ piece)) (append-nil messages) (told.2 input messages h), told.0, told.1, same)
   piece-fault decoder.Want (Err s) h bad again same is =
-      subst (λ (x : FramesStatus). IsPieceListed old new input messages piece held now (Err x)) (sym is) (inl (never-true old.bad (λ was. absurd (cc (again was).0)), same))
+      subst (λ (x : FramesStatus). IsPieceListed old new input messages piece held now (Err x)) (sym is)
+      (inl (never-true old.bad (λ was. absurd (cc (again was).0)), same))
 
-  abbrev pub has-given : (given : List Message) → HasRead old input messages → old.bad ≡ false → Feeds old new piece given → HasGiven old new input piece messages
+  abbrev pub has-given : (given : List Message) → HasRead old input messages → old.bad ≡ false
+      → Feeds old new piece given → HasGiven old new input piece messages
   has-given given h good fed = record { given = given; has_read = fed input messages h; good = good }
 
   -- a sink answered a fault
-  pub piece-halted : (fault : SinkFault) (result : Result (Unit {0}) FramesStatus) (has : HasGiven old new input piece messages) → HasWritten held now (lines_of has.given)
+  pub piece-halted : (fault : SinkFault) (result : Result (Unit {0}) FramesStatus)
+      (has : HasGiven old new input piece messages) → HasWritten held now (lines_of has.given)
       → IsErrAnd result (λ s. s ≡ status_of_sink fault)
       → IsPieceListed old new input messages piece held now result
   piece-halted fault (Ok _) has written is = absurd is
-  piece-halted sink.Failed (Err s) has written is = subst (λ (x : FramesStatus). IsPieceListed old new input messages piece held now (Err x)) (sym is) (has, written)
-  piece-halted sink.Want (Err s) has written is = subst (λ (x : FramesStatus). IsPieceListed old new input messages piece held now (Err x)) (sym is) (inr (has, written))
+  piece-halted sink.Failed (Err s) has written is =
+      subst (λ (x : FramesStatus). IsPieceListed old new input messages piece held now (Err x)) (sym is) (has, written)
+  piece-halted sink.Want (Err s) has written is =
+      subst (λ (x : FramesStatus). IsPieceListed old new input messages piece held now (Err x)) (sym is)
+      (inr (has, written))

@@ -16,7 +16,8 @@ never-true true never = absurd (never refl)
 never-true false never = refl
 
 -- a decoder that has met no bad frame keeps the rest, which is less than a frame
-pub rest-good : (kept : Kept) (input : List ℕ) (messages : List Message) (h : HasRead kept input messages) → kept.bad ≡ false → (h.rest ≡ kept.front) × IsPartial h.rest
+pub rest-good : (kept : Kept) (input : List ℕ) (messages : List Message) (h : HasRead kept input messages)
+    → kept.bad ≡ false → (h.rest ≡ kept.front) × IsPartial h.rest
 rest-good kept input messages h good = good_stands (IsBad h.rest) ((h.rest ≡ kept.front) × IsPartial h.rest) kept.bad good h.stands
 
 pub rest-bad : (kept : Kept) (input : List ℕ) (messages : List Message) (h : HasRead kept input messages) → kept.bad ≡ true → IsBad h.rest
@@ -27,7 +28,8 @@ pub place-is : (kept : Kept) (input : List ℕ) (messages : List Message) → Ha
 place-is kept input messages h = let place = h.place in omega (arith, place, ap length h.reads.whole, length-append (stream_of messages) h.rest)
 
 -- a piece may be fed where with it the stream is no longer than it may be
-pub taken-within : (kept : Kept) (input : List ℕ) (messages : List Message) (n : ℕ) → HasRead kept input messages → length input + n ≤ 4611686018427387904 → IsTaken kept n
+pub taken-within : (kept : Kept) (input : List ℕ) (messages : List Message) (n : ℕ) → HasRead kept input messages
+    → length input + n ≤ 4611686018427387904 → IsTaken kept n
 taken-within kept input messages n h within good =
     let place = h.place in
     let front = (rest-good kept input messages h good).0 in

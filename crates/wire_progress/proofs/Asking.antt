@@ -71,14 +71,16 @@ end-stage t n says.AlreadyDead b end = absurd end
 end-stage t n says.Gone b end = absurd end
 end-stage t n (says.Stale i) b end = absurd end
 
-module _ (s : Dimensions) (named : Processes) (caller : ℕ) (out : named (gateway_of s caller) ≡ false) (d r : ℕ) (below : d < s.k) (head : IsHead s.m named d r) where
+module _ (s : Dimensions) (named : Processes) (caller : ℕ) (out : named (gateway_of s caller) ≡ false) (d r : ℕ)
+    (below : d < s.k) (head : IsHead s.m named d r) where
   xin : IsOther s named (of_rank d r)
   xin = (rank-in s d r below head.within, head.lives)
 
   abbrev pub IsAsked : Asked → World → Composed → Type 0
   IsAsked op w c = Answers named caller op c ⊎ AwaitsUpdate s named caller op c ⊎ AsksAgain s named caller (of_rank d r) op w c
 
-  module _ (actions : List Action) (run : AreActions s actions) (o : OpenCall) (loaded : Loaded s named caller o (of_rank d r) [] (AskFor caller o.position o.op ∷ []) [] (composed s actions))
+  module _ (actions : List Action) (run : AreActions s actions) (o : OpenCall)
+      (loaded : Loaded s named caller o (of_rank d r) [] (AskFor caller o.position o.op ∷ []) [] (composed s actions))
       (drained : IsDrained (machine (composed s actions))) (asked : o.stage ≡ AskedOf (of_rank d r)) (home : home_of (key_of o.op.act) s.k ≡ d) where
     abbrev w : World
     w = machine (composed s actions)
@@ -97,11 +99,13 @@ module _ (s : Dimensions) (named : Processes) (caller : ℕ) (out : named (gatew
         (subst (IsReady w (of_rank d r)) (sym home) (is-ready s named caller out actions run loaded.serves d r below head drained))
 
     quiet : IsQuiet w
-    quiet = quiet_always (composed s actions).group.shape (events_of (composed s actions)) (runs_compose s actions run).run drained (runs_compose s actions run).up
+    quiet = quiet_always (composed s actions).group.shape (events_of (composed s actions))
+        (runs_compose s actions run).run drained (runs_compose s actions run).up
 
     outcome : AskOutcome told
     outcome = by told refl (subst (AskCause w (step w (event.Ask caller o.op (of_rank d r))).world (of_rank d r) o.op) one.answer
-        (asks_always (composed s actions).group.shape (events_of (composed s actions)) (runs_compose s actions run).run caller o.op (of_rank d r) one.may)) where
+        (asks_always (composed s actions).group.shape (events_of (composed s actions)) (runs_compose s actions run).run
+        caller o.op (of_rank d r) one.may)) where
           by : (a : Answer) → told ≡ a → AskCause w (step w (event.Ask caller o.op (of_rank d r))).world (of_rank d r) o.op a → AskOutcome told
           by (says.Reply reply) is why = Ends (subst IsEnd (sym is) tt)
           by says.NoSpace is why = Ends (subst IsEnd (sym is) tt)
@@ -127,9 +131,11 @@ module _ (s : Dimensions) (named : Processes) (caller : ℕ) (out : named (gatew
 
     -- an answer is learned, and ends the call, or tells to ask again
     learned : told_of (AskFor caller o.position o.op) told ≡ t ∷ [] → AskOutcome told → CanBe s actions End
-    learned one-told which = can-be-then (λ c. Loaded s named caller o (of_rank d r) [] [] (t ∷ []) c × (machine c ≡ (step w (event.Ask caller o.op (of_rank d r))).world)) End s actions
+    learned one-told which = can-be-then (λ c. Loaded s named caller o (of_rank d r) [] [] (t ∷ []) c
+        × (machine c ≡ (step w (event.Ask caller o.op (of_rank d r))).world)) End s actions
         (treats-told s named caller out actions run (of_rank d r) xin o (AskFor caller o.position o.op) loaded one-told refl)
-        (λ more longer l. by which more l.1 (learns s named caller out (actions ++ more) longer o (of_rank d r) xin t l.0 refl refl (λ n. ap (stage_learned t n) asked)))
+        (λ more longer l. by which more l.1 (learns s named caller out (actions ++ more) longer o (of_rank d r) xin t
+        l.0 refl refl (λ n. ap (stage_learned t n) asked)))
       where
         by : AskOutcome told → (more : List Action) → machine (composed s (actions ++ more)) ≡ (step w (event.Ask caller o.op (of_rank d r))).world
             → CanBe s (actions ++ more) (Learned s named caller o (of_rank d r) t (machine (composed s (actions ++ more)))) → CanBe s (actions ++ more) End
@@ -168,7 +174,8 @@ module _ (s : Dimensions) (named : Processes) (caller : ℕ) (out : named (gatew
     -- a ticket's call is held
     ticket : (n : ℕ) → told ≡ says.Ticket n → CanBe s actions End
     ticket n is = by (treats-ticket s named caller out actions run (of_rank d r) xin o (AskFor caller o.position o.op) loaded n is) where
-      by : CanBe s actions (λ c. Loaded s named caller o (of_rank d r) [] [] [] c × IsHeld s (c.group.works.process (of_rank d r)) (AskFor caller o.position o.op)) → CanBe s actions End
+      by : CanBe s actions (λ c. Loaded s named caller o (of_rank d r) [] [] [] c
+          × IsHeld s (c.group.works.process (of_rank d r)) (AskFor caller o.position o.op)) → CanBe s actions End
       by c = (
         c.0,
         c.1,
@@ -193,11 +200,15 @@ module _ (s : Dimensions) (named : Processes) (caller : ℕ) (out : named (gatew
       by (inr one-told) = learned one-told outcome
 
   -- from the start
-  pub asks-head : (actions : List Action) (run : AreActions s actions) (o : OpenCall) → Loaded s named caller o (of_rank d r) [] [] [] (composed s actions) → IsDrained (machine (composed s actions)) → o.stage ≡ Unasked
+  pub asks-head : (actions : List Action) (run : AreActions s actions) (o : OpenCall)
+      → Loaded s named caller o (of_rank d r) [] [] [] (composed s actions) → IsDrained (machine (composed s actions))
+      → o.stage ≡ Unasked
       → home_of (key_of o.op.act) s.k ≡ d → CanBe s actions (IsAsked o.op (machine (composed s actions)))
   asks-head actions run o loaded drained unasked home =
       can-be-then Sent End s actions (asks s named caller out actions run (of_rank d r) xin o loaded unasked)
-      (λ more longer sent. can-be-then (λ c. Loaded s named caller (now sent.0) (of_rank d r) [] (AskFor caller sent.0 o.op ∷ []) [] c × (machine c ≡ machine (composed s (actions ++ more)))) End s (actions ++ more)
+      (λ more longer sent.
+      can-be-then (λ c. Loaded s named caller (now sent.0) (of_rank d r) [] (AskFor caller sent.0 o.op ∷ []) [] c
+      × (machine c ≡ machine (composed s (actions ++ more)))) End s (actions ++ more)
       (reads s named caller out (actions ++ more) longer (of_rank d r) xin (now sent.0) (AskFor caller sent.0 o.op) sent.1)
       (λ again later read. subst (λ (w : World). CanBe s (actions ++ more ++ again) (IsAsked o.op w)) (read.1 ∙ sent.2)
       (asked-end (actions ++ more ++ again) later (now sent.0) read.0 (subst IsDrained (sym (read.1 ∙ sent.2)) drained) refl home)))
@@ -206,7 +217,8 @@ module _ (s : Dimensions) (named : Processes) (caller : ℕ) (out : named (gatew
       now position = record o { position = position; stage = AskedOf (of_rank d r) }
 
       Sent : Composed → Type 0
-      Sent c = (position : ℕ) × Loaded s named caller (now position) (of_rank d r) (AskFor caller position o.op ∷ []) [] [] c × (machine c ≡ machine (composed s actions))
+      Sent c = (position : ℕ) × Loaded s named caller (now position) (of_rank d r) (AskFor caller position o.op ∷ []) []
+          [] c × (machine c ≡ machine (composed s actions))
 
       End : Composed → Type 0
       End c = IsAsked o.op (machine (composed s actions)) c

@@ -45,9 +45,11 @@ named-call : (caller call : ℕ) (x : Held) → x.caller ≡ caller → x.call �
 named-call caller call x whose which = ap (λ (b : Bool). b && (x.call == call)) (eq-eqb x.caller caller whose) ∙ eq-eqb x.call call which
 
 module _ (s : Dimensions) (named : Processes) (caller : ℕ) (out : named (gateway_of s caller) ≡ false) where
-  module _ (actions : List Action) (run : AreActions s actions) (serves : CanServe named caller (composed s actions).group) (drained : IsDrained (machine (composed s actions)))
+  module _ (actions : List Action) (run : AreActions s actions)
+      (serves : CanServe named caller (composed s actions).group) (drained : IsDrained (machine (composed s actions)))
       (o : OpenCall) (call : (composed s actions).group.gateways.call caller ≡ Some o) (x : ProcessId) (xin : IsOther s named x)
-      (held : IsHeld s ((composed s actions).group.works.process x) (AskFor caller o.position o.op)) (between : Between (gateway_of s caller) x (composed s actions).group.gateways) where
+      (held : IsHeld s ((composed s actions).group.works.process x) (AskFor caller o.position o.op))
+      (between : Between (gateway_of s caller) x (composed s actions).group.gateways) where
     abbrev handed : CallStep
     handed = collect_from caller o.position ((composed s actions).group.works.process x) (range_with_len 0 (composed s actions).group.shape.k)
 
@@ -61,7 +63,11 @@ module _ (s : Dimensions) (named : Processes) (caller : ℕ) (out : named (gatew
     x-process = subst (λ (t : Dimensions). IsProcess t x) (sym shape) xin.0
 
     one : MakesOne (composed s actions) (Collect caller o.position x) m
-    one = makes-one (composed s actions) (whole s actions run) (Collect caller o.position x) (serves.mine.low, here-other s named (few s named caller out actions run serves) (composed s actions).group (going s named caller out actions run serves) x xin) m
+    one = makes-one (composed s actions) (whole s actions run) (Collect caller o.position x) (
+      serves.mine.low,
+      here-other s named (few s named caller out actions run serves) (composed s actions).group
+          (going s named caller out actions run serves) x xin,
+    ) m
         (ap (λ (b : Bool). stands_if b (m ∷ [])) (alive s named caller out actions run serves x xin.1))
 
     w : World
@@ -81,7 +87,8 @@ module _ (s : Dimensions) (named : Processes) (caller : ℕ) (out : named (gatew
       held.0,
       record {
         partition = low;
-        held = subst (λ (p : Process). Contains (held_at p (home_of (key_of o.op.act) s.k)) held.0) (sym (same-process s named caller out actions run serves x xin)) held.1;
+        held = subst (λ (p : Process). Contains (held_at p (home_of (key_of o.op.act) s.k)) held.0)
+            (sym (same-process s named caller out actions run serves x xin)) held.1;
         named = named-call caller o.position held.0 held.2 held.3;
       },
     ) where
@@ -101,9 +108,13 @@ module _ (s : Dimensions) (named : Processes) (caller : ℕ) (out : named (gatew
 
     pub replied : (reply : Reply) × (handed.answer ≡ says.Reply reply)
     replied = by handed.answer refl cause where
-      by : (a : Answer) → handed.answer ≡ a → CollectCause (machine (composed s actions)) x caller o.position a → (reply : Reply) × (handed.answer ≡ says.Reply reply)
+      by : (a : Answer) → handed.answer ≡ a → CollectCause (machine (composed s actions)) x caller o.position a
+          → (reply : Reply) × (handed.answer ≡ says.Reply reply)
       by (says.Reply reply) is why = (reply, is)
-      by says.NotYet is why = absurd (waits-not ((waits_always (composed s actions).group.shape (events_of (composed s actions)) (runs_compose s actions run).run).collects caller o.position x one.may (one.answer ∙ is)))
+      by says.NotYet is why =
+          absurd (waits-not
+          ((waits_always (composed s actions).group.shape (events_of (composed s actions))
+          (runs_compose s actions run).run).collects caller o.position x one.may (one.answer ∙ is)))
       by says.Stranger is why = absurd (why.1 holds.0 holds.1 holds.2)
       by says.Down is why = absurd ((runs_compose s actions run).up why)
       by says.Lost is why = cc (why.1, lives)
@@ -124,18 +135,28 @@ module _ (s : Dimensions) (named : Processes) (caller : ℕ) (out : named (gatew
     Is gw = (gw.call caller ≡ Some o) × (gw.requests (gateway_of s caller) x ≡ []) × (gw.parked x ≡ []) × (gw.answers x (gateway_of s caller) ≡ reply_told ∷ [])
 
     sent : Is (tell (composed s actions).group x (handed_to caller o.position handed.answer) (composed s actions).group.gateways)
-    sent = subst (λ (a : Answer). Is (tell (composed s actions).group x (handed_to caller o.position a) (composed s actions).group.gateways)) (sym replied.1) (call, between.2, between.1, there) where
-      there : sent_on (composed s actions).group.words.cut (composed s actions).group.gateways.answers x (gateway_of (composed s actions).group.shape caller) reply_told x (gateway_of s caller) ≡ reply_told ∷ []
-      there = subst (λ (e : Dimensions). sent_on (composed s actions).group.words.cut (composed s actions).group.gateways.answers x (gateway_of e caller) reply_told x (gateway_of s caller) ≡ reply_told ∷ []) (sym shape)
-          (sent-here (composed s actions).group.words.cut (composed s actions).group.gateways.answers x (gateway_of s caller) reply_told
-          (uncut s named (few s named caller out actions run serves) (composed s actions).group (going s named caller out actions run serves) x (gateway_of s caller) out)
-          ∙ ap (λ (ts : List Told). ts ++ reply_told ∷ []) between.0)
+    sent = subst (λ (a : Answer).
+        Is (tell (composed s actions).group x (handed_to caller o.position a) (composed s actions).group.gateways))
+        (sym replied.1) (call, between.2, between.1, there) where
+          there : sent_on (composed s actions).group.words.cut (composed s actions).group.gateways.answers x
+              (gateway_of (composed s actions).group.shape caller) reply_told x (gateway_of s caller) ≡ reply_told ∷ []
+          there = subst (λ (e : Dimensions). sent_on (composed s actions).group.words.cut
+              (composed s actions).group.gateways.answers x (gateway_of e caller) reply_told x (gateway_of s caller)
+              ≡ reply_told ∷ []) (sym shape)
+              (sent-here (composed s actions).group.words.cut (composed s actions).group.gateways.answers x (gateway_of s caller) reply_told
+              (uncut s named (few s named caller out actions run serves) (composed s actions).group
+              (going s named caller out actions run serves) x (gateway_of s caller) out)
+              ∙ ap (λ (ts : List Told). ts ++ reply_told ∷ []) between.0)
 
     pub collects : CanBe s actions (Loaded s named caller o x [] [] (reply_told ∷ []))
-    collects = acts s named caller out actions run serves (Collect caller o.position x) (Loaded s named caller o x [] [] (reply_told ∷ [])) tt
-        (serves.mine.low, here-other s named (few s named caller out actions run serves) (composed s actions).group (going s named caller out actions run serves) x xin)
+    collects = acts s named caller out actions run serves (Collect caller o.position x) (Loaded s named caller o x [] [] (reply_told ∷ [])) tt (
+      serves.mine.low,
+      here-other s named (few s named caller out actions run serves) (composed s actions).group
+          (going s named caller out actions run serves) x xin,
+    )
         (record {
-          serves = serves-still named caller (composed s actions).group (stepped (composed s actions).group.words.cut x handed.step (composed s actions).group.works)
+          serves = serves-still named caller (composed s actions).group
+              (stepped (composed s actions).group.words.cut x handed.step (composed s actions).group.works)
               (tell (composed s actions).group x (handed_to caller o.position handed.answer) (composed s actions).group.gateways) serves;
           open_call = sent.0;
           asked = sent.1;
@@ -144,17 +165,23 @@ module _ (s : Dimensions) (named : Processes) (caller : ℕ) (out : named (gatew
         })
 
   -- so it is answered
-  pub handed-out : (actions : List Action) (run : AreActions s actions) (serves : CanServe named caller (composed s actions).group) → IsDrained (machine (composed s actions))
+  pub handed-out : (actions : List Action) (run : AreActions s actions)
+      (serves : CanServe named caller (composed s actions).group) → IsDrained (machine (composed s actions))
       → (o : OpenCall) → (composed s actions).group.gateways.call caller ≡ Some o → (x : ProcessId) → IsOther s named x → o.stage ≡ AskedOf x
-      → IsHeld s ((composed s actions).group.works.process x) (AskFor caller o.position o.op) → Between (gateway_of s caller) x (composed s actions).group.gateways → CanBe s actions (Answers named caller o.op)
+      → IsHeld s ((composed s actions).group.works.process x) (AskFor caller o.position o.op)
+      → Between (gateway_of s caller) x (composed s actions).group.gateways
+      → CanBe s actions (Answers named caller o.op)
   handed-out actions run serves drained o call x xin asked held between =
-      can-be-then (Loaded s named caller o x [] [] (told ∷ [])) (Answers named caller o.op) s actions (collects actions run serves drained o call x xin held between)
-      (λ more longer loaded. learned (actions ++ more) (learns s named caller out (actions ++ more) longer o x xin told loaded refl refl (λ n. ap (stage_learned told n) asked)))
+      can-be-then (Loaded s named caller o x [] [] (told ∷ [])) (Answers named caller o.op) s actions
+      (collects actions run serves drained o call x xin held between)
+      (λ more longer loaded. learned (actions ++ more) (learns s named caller out (actions ++ more) longer o x xin told
+      loaded refl refl (λ n. ap (stage_learned told n) asked)))
     where
       told : Told
       told = reply_told actions run serves drained o call x xin held between
 
-      learned : (longer : List Action) → CanBe s longer (Learned s named caller o x told (machine (composed s longer))) → CanBe s longer (Answers named caller o.op)
+      learned : (longer : List Action) → CanBe s longer (Learned s named caller o x told (machine (composed s longer)))
+          → CanBe s longer (Answers named caller o.op)
       learned longer r = (
         r.0,
         r.1,

@@ -63,19 +63,24 @@ drained-more w (x ∷ es) e all goes asks = (all.0, all.1, drained-more (step w 
 
 module _ (u : World) (p : ProcessId) where
   -- one event more
-  waited-more : (n : ℕ) (w : World) (e : Event) → MayCome w e → IsNoFailure e → AsksDrained w e → Waited u p n w → Waited u p (n + waits_here p e (step w e).turn.answer) (step w e).world
+  waited-more : (n : ℕ) (w : World) (e : Event) → MayCome w e → IsNoFailure e → AsksDrained w e → Waited u p n w
+      → Waited u p (n + waits_here p e (step w e).turn.answer) (step w e).world
   waited-more n w e may goes asks h = record {
     events = h.events ++ e ∷ [];
     may = run-more u h.events e h.may (subst (λ (x : World). MayCome x e) (sym h.leads) may);
     drained = drained-more u h.events e h.drained goes (subst (λ (x : World). AsksDrained x e) (sym h.leads) asks);
     leads = after-more u h.events e ∙ ap (λ (x : World). (step x e).world) h.leads;
-    count = ap (block_waits p) (turns-more u h.events e) ∙ sum_by_push (λ (turn : Turn). waits_here p turn.event turn.answer) (turns_from u h.events) (step (world_after u h.events) e).turn
-        ∙ (let now : waits_here p e (step (world_after u h.events) e).turn.answer ≡ waits_here p e (step w e).turn.answer = ap (λ (x : World). waits_here p e (step x e).turn.answer) h.leads in
+    count = ap (block_waits p) (turns-more u h.events e)
+        ∙ sum_by_push (λ (turn : Turn). waits_here p turn.event turn.answer) (turns_from u h.events)
+        (step (world_after u h.events) e).turn
+        ∙ (let now : waits_here p e (step (world_after u h.events) e).turn.answer
+        ≡ waits_here p e (step w e).turn.answer = ap (λ (x : World). waits_here p e (step x e).turn.answer) h.leads in
         let before = h.count in omega (arith, now, before));
   }
 
   -- a call that has to wait
-  pub waited-ask : (n : ℕ) (w : World) (caller b : ℕ) (op : Asked) → MayCome w (event.Ask caller op p) → IsDrained w → (step w (event.Ask caller op p)).turn.answer ≡ says.Retry (cause.Block b)
+  pub waited-ask : (n : ℕ) (w : World) (caller b : ℕ) (op : Asked) → MayCome w (event.Ask caller op p) → IsDrained w
+      → (step w (event.Ask caller op p)).turn.answer ≡ says.Retry (cause.Block b)
       → Waited u p n w → Waited u p (suc n) (step w (event.Ask caller op p)).world
   waited-ask n w caller b op may drained waits h = subst (λ (m : ℕ). Waited u p m (step w (event.Ask caller op p)).world)
       (let one = ap (waits_here p (event.Ask caller op p)) waits ∙ ap (λ (t : _). if t then 1 else 0) (same-refl p) in omega (arith, one))

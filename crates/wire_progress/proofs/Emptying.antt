@@ -31,22 +31,31 @@ use Rattle.wire_progress.specs.Emptying.{IsGiven, IsEmptied, MembersCanBeDrained
 
 module _ (s : Dimensions) (named : Processes) (one : ProcessId) (one_in : IsProcess s one) (one_out : named one ≡ false) where
   -- then nothing is on the wires
-  pub emptied : (before : Composed) (actions : List Action) (run : AreActions s actions) → OthersAreHere (composed s actions).group named → NamedAreTaken (composed s actions).group named
+  pub emptied : (before : Composed) (actions : List Action) (run : AreActions s actions)
+      → OthersAreHere (composed s actions).group named → NamedAreTaken (composed s actions).group named
       → (composed s actions).group.gateways ≡ before.group.gateways → IsDrained (machine (composed s actions)) → IsEmptied before (composed s actions) named
   emptied before actions run others taken gateways drained = record {
     others = others;
     taken = taken;
     wires = λ x p xin pin other x_out p_out. sym (same-wire s named one one_in one_out actions run others taken x p xin pin other x_out p_out)
-        ∙ drained x p (subst (λ (t : Dimensions). IsProcess t x) (sym (shape-machine s named one one_in one_out actions run others taken)) xin)
-        (subst (λ (t : Dimensions). IsProcess t p) (sym (shape-machine s named one one_in one_out actions run others taken)) pin, (runs_compose s actions run).dead p pin ∙ lives s named one one_in one_out actions run others taken p p_out) other;
-    quiet = quiet_always (composed s actions).group.shape (events_of (composed s actions)) (runs_compose s actions run).run drained (runs_compose s actions run).up;
+        ∙ drained x p (subst (λ (t : Dimensions). IsProcess t x) (sym (shape-machine s named one one_in one_out actions run others taken)) xin) (
+          subst (λ (t : Dimensions). IsProcess t p)
+              (sym (shape-machine s named one one_in one_out actions run others taken)) pin,
+          (runs_compose s actions run).dead p pin ∙ lives s named one one_in one_out actions run others taken p p_out,
+        )
+        other;
+    quiet = quiet_always (composed s actions).group.shape (events_of (composed s actions))
+        (runs_compose s actions run).run drained (runs_compose s actions run).up;
     calls = λ name op out. given name op out;
     gateways = gateways;
   } where
     given : (name : CallName) (op : Asked) → named (DataNode (home_of (key_of op.act) (composed s actions).group.shape.k)) ≡ false
-        → IsGiven (ask_process (composed s actions).group.shape name op ((composed s actions).group.works.process (DataNode (home_of (key_of op.act) (composed s actions).group.shape.k)))).answer
+        → IsGiven (ask_process (composed s actions).group.shape name op
+        ((composed s actions).group.works.process
+        (DataNode (home_of (key_of op.act) (composed s actions).group.shape.k)))).answer
     given name op out = given-asked (composed s actions).group.shape name op d ((composed s actions).group.works.process (DataNode d)) head.0 d
-        (ap (λ (p : Process). head_at p d) same ∙ head.1) (ap (λ (p : Process). (replica_of p d).log) same ∙ head.2) (ap (λ (p : Process). p.name) same ∙ called)
+        (ap (λ (p : Process). head_at p d) same ∙ head.1) (ap (λ (p : Process). (replica_of p d).log) same ∙ head.2)
+        (ap (λ (p : Process). p.name) same ∙ called)
       where
         d : ℕ
         d = home_of (key_of op.act) (composed s actions).group.shape.k
@@ -66,17 +75,28 @@ module _ (s : Dimensions) (named : Processes) (one : ProcessId) (one_in : IsProc
         called : (process_of (machine (composed s actions)) (DataNode d)).name ≡ DataNode d
         called = named-always (composed s actions).group.shape (events_of (composed s actions)) (runs_compose s actions run).run (DataNode d) below-machine
 
-        head : (h : Head) × (head_at (process_of (machine (composed s actions)) (DataNode d)) d ≡ Some h) × ((replica_of (process_of (machine (composed s actions)) (DataNode d)) d).log ≡ [])
-        head = (quiet_always (composed s actions).group.shape (events_of (composed s actions)) (runs_compose s actions run).run drained (runs_compose s actions run).up).finished d 0 below-machine
-            (record { within = omega arith; lives = (runs_compose s actions run).dead (DataNode d) below ∙ alive; lowest = λ q low. absurd (omega (arith, low)) })
+        head : (h : Head) × (head_at (process_of (machine (composed s actions)) (DataNode d)) d ≡ Some h)
+            × ((replica_of (process_of (machine (composed s actions)) (DataNode d)) d).log ≡ [])
+        head = (quiet_always (composed s actions).group.shape (events_of (composed s actions))
+            (runs_compose s actions run).run drained (runs_compose s actions run).up).finished d 0 below-machine
+            (record {
+              within = omega arith;
+              lives = (runs_compose s actions run).dead (DataNode d) below ∙ alive;
+              lowest = λ q low. absurd (omega (arith, low));
+            })
 
-  pub members-drained : (actions : List Action) → AreActions s actions → OthersAreHere (composed s actions).group named → CanBe s actions (λ c. IsEmptied (composed s actions) c named)
+  pub members-drained : (actions : List Action) → AreActions s actions → OthersAreHere (composed s actions).group named
+      → CanBe s actions (λ c. IsEmptied (composed s actions) c named)
   members-drained actions run others =
-      can-be-then (λ d. TakesNamed (composed s actions).group d.group named) (λ c. IsEmptied (composed s actions) c named) s actions (named_can_be_taken s actions named run others)
-      (λ more longer takes. done more takes.gateways (drains s named one one_in one_out (suc (load_of (machine (composed s (actions ++ more))))) (actions ++ more) longer takes.others takes.taken (omega arith)))
+      can-be-then (λ d. TakesNamed (composed s actions).group d.group named)
+      (λ c. IsEmptied (composed s actions) c named) s actions (named_can_be_taken s actions named run others)
+      (λ more longer takes. done more takes.gateways
+      (drains s named one one_in one_out (suc (load_of (machine (composed s (actions ++ more))))) (actions ++ more)
+      longer takes.others takes.taken (omega arith)))
     where
       done : (more : List Action) → (composed s (actions ++ more)).group.gateways ≡ (composed s actions).group.gateways
-          → CanBe s (actions ++ more) (λ d. Stays named (composed s (actions ++ more)) d × IsDrained (machine d)) → CanBe s (actions ++ more) (λ c. IsEmptied (composed s actions) c named)
+          → CanBe s (actions ++ more) (λ d. Stays named (composed s (actions ++ more)) d × IsDrained (machine d))
+          → CanBe s (actions ++ more) (λ c. IsEmptied (composed s actions) c named)
       done more same r = (r.0, r.1, emptied (composed s actions) (actions ++ more ++ r.0) r.1 r.2.0.others r.2.0.taken (r.2.0.gateways ∙ same) r.2.1, r.3)
 
 pub members_can_be_drained : MembersCanBeDrained

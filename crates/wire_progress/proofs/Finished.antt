@@ -26,7 +26,8 @@ pub home-below : (key : List ℕ) (k : ℕ) → 1 ≤ k → home_of key k < k
 home-below key k some = omega (arith, some)
 
 pub shape-machine : (s : Dimensions) (actions : List Action) → AreActions s actions → (machine (composed s actions)).shape ≡ s
-shape-machine s actions run = shape-after (composed s actions).group.shape (events_of (composed s actions)) (runs_compose s actions run).run ∙ honest.shape-from (opening_composed s) actions
+shape-machine s actions run = shape-after (composed s actions).group.shape (events_of (composed s actions))
+    (runs_compose s actions run).run ∙ honest.shape-from (opening_composed s) actions
 
 -- living heads have nothing in their logs
 abbrev pub LogsAreEmpty : World → Type 0
@@ -34,7 +35,9 @@ LogsAreEmpty w = (p : ProcessId) (d : ℕ) (h : Head) → Lives w p → d < w.sh
 
 pub logs-empty : (s : Dimensions) (es : List Event) → IsRun s es → IsDrained (after s es) → LogsAreEmpty (after s es)
 logs-empty s es run drained = subst LogsAreEmpty same
-    (λ p d y lives low heads. log-empty h.world.shape (state_of h) (subst (λ (t : Dimensions). Reached t (state_of h)) (sym shape) both.0) (subst (λ (t : Dimensions). Told t (state_of h)) (sym shape) both.1) empty p d y lives.0 lives.1 low heads)
+    (λ p d y lives low heads. log-empty h.world.shape (state_of h)
+    (subst (λ (t : Dimensions). Reached t (state_of h)) (sym shape) both.0)
+    (subst (λ (t : Dimensions). Told t (state_of h)) (sym shape) both.1) empty p d y lives.0 lives.1 low heads)
   where
     h : History
     h = history_of s es

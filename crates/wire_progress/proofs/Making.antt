@@ -25,7 +25,9 @@ last-may w [] e run = run.0
 last-may w (x ∷ es) e run = last-may (step w x).world es e run.1
 
 -- the last answers are the same where all are
-last-same : (ts : List Turn) (t : Turn) (ms : List Made) (m : Made) → map (λ (t : Turn). t.answer) (ts ++ t ∷ []) ≡ map (λ x. x.answer) (ms ++ m ∷ []) → map (λ (t : Turn). t.answer) ts ≡ map (λ x. x.answer) ms → t.answer ≡ m.answer
+last-same : (ts : List Turn) (t : Turn) (ms : List Made) (m : Made) → map (λ (t : Turn). t.answer) (ts ++ t ∷ [])
+    ≡ map (λ x. x.answer) (ms ++ m ∷ []) → map (λ (t : Turn). t.answer) ts ≡ map (λ x. x.answer) ms
+    → t.answer ≡ m.answer
 last-same [] t [] m all before = ap first all where
   first : List Answer → Answer
   first [] = t.answer
@@ -46,7 +48,8 @@ module _ (c : Composed) (h : Whole c) (a : Action) (may : MayAct c.group a) (m :
 
   pub makes-one : MakesOne c a m
   makes-one = record {
-    may = last-may (opening c.group.shape) (events_in c.made) m.event (subst (λ (es : List Event). IsRunFrom (opening c.group.shape) es) (events-more c.made m) makes-now.run.1);
+    may = last-may (opening c.group.shape) (events_in c.made) m.event
+        (subst (λ (es : List Event). IsRunFrom (opening c.group.shape) es) (events-more c.made m) makes-now.run.1);
     world = ap (λ (more : List Made). after c.group.shape (events_in (c.made ++ more))) makes ∙ after-made c.group.shape c.made m;
     answer = last-same (turns_of c.group.shape (events_in c.made)) (step (machine c) m.event).turn c.made m
         (sym (ap (λ (ts : List Turn). map (λ (t : Turn). t.answer) ts) turns) ∙ makes-now.answers) h.composes.makes.answers;

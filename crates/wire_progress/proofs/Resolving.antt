@@ -39,24 +39,32 @@ module _ (s : Dimensions) (named : Processes) (caller : ℕ) (out : named (gatew
     only-held x xin between r its (Parted (inl cut)) =
         cc (
           ap (λ (n : ℕ). (composed s actions).group.words.cut (gateway_of s n) x) (sym its) ∙ cut,
-          uncut s named (few s named caller out actions run serves) (composed s actions).group (going s named caller out actions run serves) (gateway_of s caller) x xin.1,
+          uncut s named (few s named caller out actions run serves) (composed s actions).group
+              (going s named caller out actions run serves) (gateway_of s caller) x xin.1,
         )
     only-held x xin between r its (Parted (inr cut)) =
         cc (
           ap (λ (n : ℕ). (composed s actions).group.words.cut x (gateway_of s n)) (sym its) ∙ cut,
-          uncut s named (few s named caller out actions run serves) (composed s actions).group (going s named caller out actions run serves) x (gateway_of s caller) out,
+          uncut s named (few s named caller out actions run serves) (composed s actions).group
+              (going s named caller out actions run serves) x (gateway_of s caller) out,
         )
     only-held x xin between r its (Coming there) =
         absurd (subst (Holds r) between.2 (subst (λ (n : ℕ). Holds r ((composed s actions).group.gateways.requests (gateway_of s n) x)) its there))
     only-held x xin between r its (Kept there) = absurd (subst (Holds r) between.1 there)
     only-held x xin between r its (Answering a there) =
-        absurd (subst (Holds (answer_to r a)) between.0 (subst (λ (n : ℕ). Holds (answer_to r a) ((composed s actions).group.gateways.answers x (gateway_of s n))) its there))
+        absurd (subst (Holds (answer_to r a)) between.0
+        (subst (λ (n : ℕ). Holds (answer_to r a) ((composed s actions).group.gateways.answers x (gateway_of s n)))
+        its there))
 
-    pub awaited : (o : OpenCall) → (composed s actions).group.gateways.call caller ≡ Some o → (stage : Stage) → o.stage ≡ stage → IsAwaited s (view (composed s actions).group) caller o.position o.op stage
-    awaited o call stage is = subst (IsAwaited s (view (composed s actions).group) caller o.position o.op) is (subst (CallAwaited s (view (composed s actions).group) caller) call (unlost s actions run caller))
+    pub awaited : (o : OpenCall) → (composed s actions).group.gateways.call caller ≡ Some o → (stage : Stage)
+        → o.stage ≡ stage → IsAwaited s (view (composed s actions).group) caller o.position o.op stage
+    awaited o call stage is = subst (IsAwaited s (view (composed s actions).group) caller o.position o.op) is
+        (subst (CallAwaited s (view (composed s actions).group) caller) call (unlost s actions run caller))
 
     -- so a call that waits for nobody else is resolved
-    settled : (op : Asked) (x : ProcessId) → IsOther s named x → Between (gateway_of s caller) x (composed s actions).group.gateways → IsOpenFor caller op x (composed s actions).group.gateways
+    settled : (op : Asked) (x : ProcessId) → IsOther s named x
+        → Between (gateway_of s caller) x (composed s actions).group.gateways
+        → IsOpenFor caller op x (composed s actions).group.gateways
         → Resolved s named caller op (composed s actions)
     settled op x xin between (o, call, same_op, waits) = by o.stage refl where
       free : IsFree o.stage → Resolved s named caller op (composed s actions)
@@ -74,27 +82,35 @@ module _ (s : Dimensions) (named : Processes) (caller : ℕ) (out : named (gatew
         holder = x;
         other = xin;
         stage = is ∙ ap AskedOf at;
-        held = only-held x xin between (AskFor caller o.position o.op) refl (subst (λ (y : ProcessId). Waits s (view (composed s actions).group) y (AskFor caller o.position o.op)) at (awaited o call (AskedOf z) is).1);
+        held = only-held x xin between (AskFor caller o.position o.op) refl
+            (subst (λ (y : ProcessId). Waits s (view (composed s actions).group) y (AskFor caller o.position o.op)) at
+            (awaited o call (AskedOf z) is).1);
         between = between;
       }) where
         at : z ≡ x
         at = waits z (ap waits_for is)
       by (TracedAt z) is = absurd (only-held x xin between (TraceOf caller o.position (home_of (key_of o.op.act) s.k)) refl
-          (subst (λ (y : ProcessId). Waits s (view (composed s actions).group) y (TraceOf caller o.position (home_of (key_of o.op.act) s.k))) (waits z (ap waits_for is)) (awaited o call (TracedAt z) is).1))
+          (subst (λ (y : ProcessId). Waits s (view (composed s actions).group) y
+          (TraceOf caller o.position (home_of (key_of o.op.act) s.k))) (waits z (ap waits_for is))
+          (awaited o call (TracedAt z) is).1))
 
     -- one that waits for a named member is given up
-    gives-up : (o : OpenCall) (x : ProcessId) → (composed s actions).group.gateways.call caller ≡ Some o → waits_for o.stage ≡ Some x → IsProcess s x → named x ≡ true → CanBe s actions (Resolved s named caller o.op)
+    gives-up : (o : OpenCall) (x : ProcessId) → (composed s actions).group.gateways.call caller ≡ Some o
+        → waits_for o.stage ≡ Some x → IsProcess s x → named x ≡ true → CanBe s actions (Resolved s named caller o.op)
     gives-up o x call waits member inside = acts s named caller out actions run serves (GiveUp caller) (Resolved s named caller o.op) tt (
       serves.mine,
       record {
         member = x;
         waits = ap call_waits_for call ∙ waits;
-        taken = serves.taken (gateway_of (composed s actions).group.shape caller) x serves.mine.gateway.member (subst (λ (t : Dimensions). named (gateway_of t caller) ≡ false) (sym (going s named caller out actions run serves).shape) out)
+        taken = serves.taken (gateway_of (composed s actions).group.shape caller) x serves.mine.gateway.member
+            (subst (λ (t : Dimensions). named (gateway_of t caller) ≡ false)
+            (sym (going s named caller out actions run serves).shape) out)
             (subst (λ (t : Dimensions). IsProcess t x) (sym (going s named caller out actions run serves).shape) member) inside;
       },
     )
         (inr (record {
-          serves = serves-still named caller (composed s actions).group (composed s actions).group.works (gateways_after (composed s actions).group (GiveUp caller)) serves;
+          serves = serves-still named caller (composed s actions).group (composed s actions).group.works
+              (gateways_after (composed s actions).group (GiveUp caller)) serves;
           call = record o { stage = stage_given_up o.op o.stage };
           open_call = after;
           same_op = refl;
@@ -102,14 +118,21 @@ module _ (s : Dimensions) (named : Processes) (caller : ℕ) (out : named (gatew
         }))
       where
         after : (gateways_after (composed s actions).group (GiveUp caller)).call caller ≡ Some (record o { stage = stage_given_up o.op o.stage })
-        after = subst (λ (open_call : Option OpenCall). (if_open open_call (composed s actions).group.gateways (λ o. staged caller o (stage_given_up o.op o.stage) (composed s actions).group.gateways)).call caller ≡ Some (record o { stage = stage_given_up o.op o.stage })) (sym call)
+        after = subst
+            (λ (open_call : Option OpenCall).
+            (if_open open_call (composed s actions).group.gateways
+            (λ o. staged caller o (stage_given_up o.op o.stage) (composed s actions).group.gateways)).call caller
+            ≡ Some (record o { stage = stage_given_up o.op o.stage })) (sym call)
             (changed_at-here (composed s actions).group.gateways.call caller (Some (record o { stage = stage_given_up o.op o.stage })))
 
-  pub resolves : (actions : List Action) (run : AreActions s actions) → CanServe named caller (composed s actions).group → (o : OpenCall) → (composed s actions).group.gateways.call caller ≡ Some o → CanBe s actions (Resolved s named caller o.op)
+  pub resolves : (actions : List Action) (run : AreActions s actions) → CanServe named caller (composed s actions).group
+      → (o : OpenCall) → (composed s actions).group.gateways.call caller ≡ Some o
+      → CanBe s actions (Resolved s named caller o.op)
   resolves actions run serves o call = by o.stage refl where
     free : IsFree o.stage → CanBe s actions (Resolved s named caller o.op)
     free is = can-be Anyhow (Resolved s named caller o.op) s actions run
-        (reaches-here Anyhow (composed s actions) (Resolved s named caller o.op) tt (inr (record { serves = serves; call = o; open_call = call; same_op = refl; free = is })))
+        (reaches-here Anyhow (composed s actions) (Resolved s named caller o.op) tt
+        (inr (record { serves = serves; call = o; open_call = call; same_op = refl; free = is })))
 
     waiting : (x : ProcessId) → waits_for o.stage ≡ Some x → IsProcess s x → CanBe s actions (Resolved s named caller o.op)
     waiting x waits member = which (named x) refl where

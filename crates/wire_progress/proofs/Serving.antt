@@ -33,7 +33,8 @@ pub record CanServe (named : Processes) (caller : ℕ) (g : Group) : Type 0 wher
   pub mine : IsCaller g caller
 
 -- so it is whatever the works and the gateways are
-pub serves-still : (named : Processes) (caller : ℕ) (g : Group) (works : Works) (gw : Gateways) → CanServe named caller g → CanServe named caller (record g { works = works; gateways = gw })
+pub serves-still : (named : Processes) (caller : ℕ) (g : Group) (works : Works) (gw : Gateways)
+    → CanServe named caller g → CanServe named caller (record g { works = works; gateways = gw })
 serves-still named caller g works gw h = record {
   others = record { few = h.others.few; cut = h.others.cut; here = λ q qin away. record { member = qin; runs = (h.others.here q qin away).runs } };
   taken = h.taken;
@@ -59,7 +60,8 @@ pub record SettlesTo (s : Dimensions) (named : Processes) (caller : ℕ) (op : A
   pub between : Between (gateway_of s caller) x d.group.gateways
 
 module _ (s : Dimensions) (named : Processes) (caller : ℕ) (out : named (gateway_of s caller) ≡ false) where
-  pub caller-in : (longer : List Action) → OthersAreHere (composed s longer).group named → caller < callers → IsProcess s (gateway_of s caller) → IsCaller (composed s longer).group caller
+  pub caller-in : (longer : List Action) → OthersAreHere (composed s longer).group named → caller < callers
+      → IsProcess s (gateway_of s caller) → IsCaller (composed s longer).group caller
   caller-in longer others low gin = record {
     low = low;
     gateway = others.here (gateway_of (composed s longer).group.shape caller)
@@ -82,15 +84,18 @@ module _ (s : Dimensions) (named : Processes) (caller : ℕ) (out : named (gatew
     alive = lives s named (gateway_of s caller) gateway-other.0 out actions run serves.others serves.taken
 
     pub same-process : (x : ProcessId) → IsOther s named x → process_of (machine (composed s actions)) x ≡ (composed s actions).group.works.process x
-    same-process x xin = (runs_compose s actions run).processes x (record { member = subst (λ (t : Dimensions). IsProcess t x) (sym going.shape) xin.0; lives = alive x xin.1 })
+    same-process x xin = (runs_compose s actions run).processes x
+        (record { member = subst (λ (t : Dimensions). IsProcess t x) (sym going.shape) xin.0; lives = alive x xin.1 })
 
     -- one action
-    pub acts : (a : Action) (P : Composed → Type 0) → GoesOn a → MayAct (composed s actions).group a → P (composed_with (composed s actions) a) → CanBe s actions P
+    pub acts : (a : Action) (P : Composed → Type 0) → GoesOn a → MayAct (composed s actions).group a
+        → P (composed_with (composed s actions) a) → CanBe s actions P
     acts a P goes may is = can-be Anyhow P s actions run (reaches-by Anyhow (composed s actions) P a goes may tt is)
 
     pub settles-to : (op : Asked) (x : ProcessId) → IsOther s named x → CanBe s actions (SettlesTo s named caller op x (composed s actions))
     settles-to op x xin = by (can-be (Settles s named caller op x) Settled s actions run
-        (reaches-weaker (Settles s named caller op x) (composed s actions) (λ d. Between (gateway_of s caller) x d.group.gateways) Settled (λ d kept none. (kept, none))
+        (reaches-weaker (Settles s named caller op x) (composed s actions)
+        (λ d. Between (gateway_of s caller) x d.group.gateways) Settled (λ d kept none. (kept, none))
         (settles-all s named few caller op (gateway_of s caller) x gateway-other xin (composed s actions) going)))
       where
         Settled : Composed → Type 0
@@ -104,7 +109,9 @@ module _ (s : Dimensions) (named : Processes) (caller : ℕ) (out : named (gatew
             serves = record {
               others = others;
               taken = λ p y pin p_out yin inside. ap (λ (w : Words). w.taken p y) kept.words
-                  ∙ serves.taken p y (subst (λ (t : Dimensions). IsProcess t p) (kept.going.shape ∙ sym going.shape) pin) p_out (subst (λ (t : Dimensions). IsProcess t y) (kept.going.shape ∙ sym going.shape) yin) inside;
+                  ∙ serves.taken p y (subst (λ (t : Dimensions). IsProcess t p) (kept.going.shape ∙ sym going.shape)
+                  pin) p_out (subst (λ (t : Dimensions). IsProcess t y) (kept.going.shape ∙ sym going.shape)
+                  yin) inside;
               mine = caller-in (actions ++ r.0) others serves.mine.low gateway-other.0;
             };
             settles = kept;
@@ -118,26 +125,31 @@ module _ (s : Dimensions) (named : Processes) (caller : ℕ) (out : named (gatew
           others : OthersAreHere (composed s (actions ++ r.0)).group named
           others = others-of s named few (composed s (actions ++ r.0)).group kept.going
 
-  pub drains-to : (actions : List Action) (run : AreActions s actions) → CanServe named caller (composed s actions).group → CanBe s actions (DrainsTo s named caller (composed s actions))
-  drains-to actions run serves = by (drains s named (gateway_of s caller) gin.0 out (suc (load_of (machine (composed s actions)))) actions run serves.others serves.taken (omega arith)) where
-    gin : IsOther s named (gateway_of s caller)
-    gin = gateway-other actions run serves
+  pub drains-to : (actions : List Action) (run : AreActions s actions)
+      → CanServe named caller (composed s actions).group
+      → CanBe s actions (DrainsTo s named caller (composed s actions))
+  drains-to actions run serves =
+      by (drains s named (gateway_of s caller) gin.0 out (suc (load_of (machine (composed s actions)))) actions run
+      serves.others serves.taken (omega arith)) where
+        gin : IsOther s named (gateway_of s caller)
+        gin = gateway-other actions run serves
 
-    by : CanBe s actions (λ d. Stays named (composed s actions) d × IsDrained (machine d)) → CanBe s actions (DrainsTo s named caller (composed s actions))
-    by r = (r.0, r.1, record { serves = now; gateways = stays.gateways; drained = r.2.1; held = held; delivers = stays.delivers }, r.3) where
-      stays : Stays named (composed s actions) (composed s (actions ++ r.0))
-      stays = r.2.0
+        by : CanBe s actions (λ d. Stays named (composed s actions) d × IsDrained (machine d)) → CanBe s actions (DrainsTo s named caller (composed s actions))
+        by r = (r.0, r.1, record { serves = now; gateways = stays.gateways; drained = r.2.1; held = held; delivers = stays.delivers }, r.3) where
+          stays : Stays named (composed s actions) (composed s (actions ++ r.0))
+          stays = r.2.0
 
-      now : CanServe named caller (composed s (actions ++ r.0)).group
-      now = record { others = stays.others; taken = stays.taken; mine = caller-in (actions ++ r.0) stays.others serves.mine.low gin.0 }
+          now : CanServe named caller (composed s (actions ++ r.0)).group
+          now = record { others = stays.others; taken = stays.taken; mine = caller-in (actions ++ r.0) stays.others serves.mine.low gin.0 }
 
-      held : (x : ProcessId) (q : Request) → IsOther s named x → IsHeld s ((composed s actions).group.works.process x) q → IsHeld s ((composed s (actions ++ r.0)).group.works.process x) q
-      held x (TraceOf who call d) xin none = none
-      held x (AskFor who call op) xin (y, there, whose, which) = (
-        y,
-        subst (λ (p : Process). Contains (held_at p (home_of (key_of op.act) s.k)) y) (same-process (actions ++ r.0) r.1 now x xin)
-            (stays.held x (home_of (key_of op.act) s.k) y (subst (λ (t : Dimensions). IsProcess t x) (sym (shape-from (opening_composed s) actions)) xin.0)
-            (subst (λ (p : Process). Contains (held_at p (home_of (key_of op.act) s.k)) y) (sym (same-process actions run serves x xin)) there)),
-        whose,
-        which,
-      )
+          held : (x : ProcessId) (q : Request) → IsOther s named x → IsHeld s ((composed s actions).group.works.process x) q
+              → IsHeld s ((composed s (actions ++ r.0)).group.works.process x) q
+          held x (TraceOf who call d) xin none = none
+          held x (AskFor who call op) xin (y, there, whose, which) = (
+            y,
+            subst (λ (p : Process). Contains (held_at p (home_of (key_of op.act) s.k)) y) (same-process (actions ++ r.0) r.1 now x xin)
+                (stays.held x (home_of (key_of op.act) s.k) y (subst (λ (t : Dimensions). IsProcess t x) (sym (shape-from (opening_composed s) actions)) xin.0)
+                (subst (λ (p : Process). Contains (held_at p (home_of (key_of op.act) s.k)) y) (sym (same-process actions run serves x xin)) there)),
+            whose,
+            which,
+          )

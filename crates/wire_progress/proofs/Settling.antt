@@ -33,7 +33,8 @@ pub record Settles (s : Dimensions) (named : Processes) (caller : ℕ) (op : Ask
   pub open_for : IsOpenFor caller op x c.group.gateways → IsOpenFor caller op x d.group.gateways
   pub free : (o : OpenCall) → IsFreeCall caller o c.group.gateways → IsFreeCall caller o d.group.gateways
 
-settles-trans : (s : Dimensions) (named : Processes) (caller : ℕ) (op : Asked) (x : ProcessId) (c d e : Composed) → Settles s named caller op x c d → Settles s named caller op x d e → Settles s named caller op x c e
+settles-trans : (s : Dimensions) (named : Processes) (caller : ℕ) (op : Asked) (x : ProcessId) (c d e : Composed)
+    → Settles s named caller op x c d → Settles s named caller op x d e → Settles s named caller op x c e
 settles-trans s named caller op x c d e one two = record {
   going = two.going;
   words = two.words ∙ one.words;
@@ -47,11 +48,13 @@ read-call x p (r ∷ rest) gw = refl
 
 pub treated-call : (g : Group) (p : ProcessId) (place : ℕ) (r : Option Request) → (request_treated g p place r).call ≡ g.gateways.call
 treated-call g p place None = refl
-treated-call g p place (Some r) = tell-call g p (told_of r (treating g.shape r (g.works.process p)).answer) (record g.gateways { parked = changed g.gateways.parked p (without (g.gateways.parked p) place) })
+treated-call g p place (Some r) = tell-call g p (told_of r (treating g.shape r (g.works.process p)).answer)
+    (record g.gateways { parked = changed g.gateways.parked p (without (g.gateways.parked p) place) })
 
 treated-requests : (g : Group) (p : ProcessId) (place : ℕ) (r : Option Request) → (request_treated g p place r).requests ≡ g.gateways.requests
 treated-requests g p place None = refl
-treated-requests g p place (Some r) = tell-requests g p (told_of r (treating g.shape r (g.works.process p)).answer) (record g.gateways { parked = changed g.gateways.parked p (without (g.gateways.parked p) place) })
+treated-requests g p place (Some r) = tell-requests g p (told_of r (treating g.shape r (g.works.process p)).answer)
+    (record g.gateways { parked = changed g.gateways.parked p (without (g.gateways.parked p) place) })
 
 module _ (caller : ℕ) (op : Asked) (x : ProcessId) where
   -- calls that stay are open as before
@@ -80,7 +83,12 @@ module _ (caller : ℕ) (op : Asked) (x : ProcessId) where
       still false z is = is
 
       by : (caller ≡ t.caller) ⊎ (caller ≢ t.caller) → IsOpenFor caller op x (learned_first y p n (t ∷ rest) gw)
-      by (inl same) = (record o { stage = one_or (o.position == t.call) (stage_learned t n o.stage) o.stage }, own t gw o rest call same, same_op, λ z is. waits z (still (o.position == t.call) z is))
+      by (inl same) = (
+        record o { stage = one_or (o.position == t.call) (stage_learned t n o.stage) o.stage },
+        own t gw o rest call same,
+        same_op,
+        λ z is. waits z (still (o.position == t.call) z is),
+      )
       by (inr apart) = (o, other t gw rest apart ∙ call, same_op, waits)
 
     free-learned : (ts : List Told) (gw : Gateways) (o : OpenCall) → IsFreeCall caller o gw → IsFreeCall caller o (learned_first y p n ts gw)
@@ -94,7 +102,8 @@ module _ (caller : ℕ) (op : Asked) (x : ProcessId) where
       by (inl same) = (own t gw o rest call same ∙ ap (λ (stage : Stage). Some (record o { stage = stage })) (same-stage (o.position == t.call)), free)
       by (inr apart) = (other t gw rest apart ∙ call, free)
 
-module _ (s : Dimensions) (named : Processes) (few : size_of s named ≤ s.m) (caller : ℕ) (op : Asked) (g x : ProcessId) (gin : IsOther s named g) (xin : IsOther s named x) where
+module _ (s : Dimensions) (named : Processes) (few : size_of s named ≤ s.m) (caller : ℕ) (op : Asked) (g x : ProcessId)
+    (gin : IsOther s named g) (xin : IsOther s named x) where
   abbrev K : Composed → Composed → Type 0
   K = Settles s named caller op x
 
@@ -119,13 +128,17 @@ module _ (s : Dimensions) (named : Processes) (few : size_of s named ≤ s.m) (c
       (record {
         going = record { shape = going.shape; cut = going.cut; inside = going.inside; here = going.here };
         words = refl;
-        open_for = open-same caller op x c.group.gateways (read_first g x (c.group.gateways.requests g x) c.group.gateways) (read-call g x (c.group.gateways.requests g x) c.group.gateways);
-        free = free-same caller op x c.group.gateways (read_first g x (c.group.gateways.requests g x) c.group.gateways) (read-call g x (c.group.gateways.requests g x) c.group.gateways);
+        open_for = open-same caller op x c.group.gateways
+            (read_first g x (c.group.gateways.requests g x) c.group.gateways)
+            (read-call g x (c.group.gateways.requests g x) c.group.gateways);
+        free = free-same caller op x c.group.gateways (read_first g x (c.group.gateways.requests g x) c.group.gateways)
+            (read-call g x (c.group.gateways.requests g x) c.group.gateways);
       })
       (subst (λ (rs : List Request). (read_first g x rs c.group.gateways).requests g x ≡ rest) (sym is) (pair-here c.group.gateways.requests g x rest)))
       (λ d kept left. reads-all rest d kept.going left)
 
-  treats-all : (rs : List Request) (c : Composed) → Going s named c.group → c.group.gateways.parked x ≡ rs → c.group.gateways.requests g x ≡ [] → Reaches K c NoneKept
+  treats-all : (rs : List Request) (c : Composed) → Going s named c.group → c.group.gateways.parked x ≡ rs
+      → c.group.gateways.requests g x ≡ [] → Reaches K c NoneKept
   treats-all [] c going is none = reaches-here K c NoneKept (self c going) (is, none)
   treats-all (r ∷ rest) c going is none =
       reaches-then K (settles-trans s named caller op x) c Next NoneKept
@@ -133,7 +146,8 @@ module _ (s : Dimensions) (named : Processes) (few : size_of s named ≤ s.m) (c
       (record {
         going = record { shape = going.shape; cut = going.cut; inside = going.inside; here = going.here };
         words = refl;
-        open_for = open-same caller op x c.group.gateways (request_treated c.group x 0 (parked_at c.group x 0)) (treated-call c.group x 0 (parked_at c.group x 0));
+        open_for = open-same caller op x c.group.gateways (request_treated c.group x 0 (parked_at c.group x 0))
+            (treated-call c.group x 0 (parked_at c.group x 0));
         free = free-same caller op x c.group.gateways (request_treated c.group x 0 (parked_at c.group x 0)) (treated-call c.group x 0 (parked_at c.group x 0));
       })
       (left, ap (λ (w : ProcessId → ProcessId → List Request). w g x) (treated-requests c.group x 0 (parked_at c.group x 0)) ∙ none))
@@ -147,7 +161,12 @@ module _ (s : Dimensions) (named : Processes) (few : size_of s named ≤ s.m) (c
 
       left : (request_treated c.group x 0 (parked_at c.group x 0)).parked x ≡ rest
       left = subst (λ (q : Option Request). (request_treated c.group x 0 q).parked x ≡ rest) (sym there)
-          (ap (λ (w : ProcessId → List Request). w x) (tell-parked c.group x (told_of r (treating c.group.shape r (c.group.works.process x)).answer) (record c.group.gateways { parked = changed c.group.gateways.parked x (without (c.group.gateways.parked x) 0) }))
+          (ap (λ (w : ProcessId → List Request). w x)
+          (tell-parked c.group x (told_of r (treating c.group.shape r (c.group.works.process x)).answer)
+          (record c.group.gateways {
+            parked = changed c.group.gateways.parked x
+                (without (c.group.gateways.parked x) 0);
+          }))
           ∙ changed-here c.group.gateways.parked x (without (c.group.gateways.parked x) 0)
           ∙ ap (λ (rs : List Request). without rs 0) is)
 
@@ -162,7 +181,9 @@ module _ (s : Dimensions) (named : Processes) (few : size_of s named ≤ s.m) (c
         open_for = open-learned caller op x x g (c.group.signs.pinged g) (c.group.gateways.answers x g) c.group.gateways;
         free = free-learned caller op x x g (c.group.signs.pinged g) (c.group.gateways.answers x g) c.group.gateways;
       })
-      (subst (λ (ts : List Told). ((learned_first x g (c.group.signs.pinged g) ts c.group.gateways).answers x g ≡ rest) × (((learned_first x g (c.group.signs.pinged g) ts c.group.gateways).parked x ≡ []) × ((learned_first x g (c.group.signs.pinged g) ts c.group.gateways).requests g x ≡ [])))
+      (subst (λ (ts : List Told). ((learned_first x g (c.group.signs.pinged g) ts c.group.gateways).answers x g ≡ rest)
+      × (((learned_first x g (c.group.signs.pinged g) ts c.group.gateways).parked x ≡ [])
+      × ((learned_first x g (c.group.signs.pinged g) ts c.group.gateways).requests g x ≡ [])))
       (sym is) (pair-here c.group.gateways.answers x g rest, (none.0, none.1))))
       (λ d kept next. learns-all rest d kept.going next.0 next.1)
     where

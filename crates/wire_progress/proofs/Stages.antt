@@ -17,7 +17,8 @@ abbrev pub IsFree : Stage → Type 0
 IsFree stage = waits_for stage ≡ None
 
 -- what was told ends a call, or it is asked again, or traced
-pub told-either : (t : Told) (n : ℕ) (a : Answer) (b : Bool) → ((stage_told t n a b ≡ Answered t n) × IsEnd a) ⊎ (stage_told t n a b ≡ Unasked) ⊎ (stage_told t n a b ≡ Unknown)
+pub told-either : (t : Told) (n : ℕ) (a : Answer) (b : Bool) → ((stage_told t n a b ≡ Answered t n) × IsEnd a)
+    ⊎ (stage_told t n a b ≡ Unasked) ⊎ (stage_told t n a b ≡ Unknown)
 told-either t n (says.Reply reply) b = inl (refl, tt)
 told-either t n says.NoSpace b = inl (refl, tt)
 told-either t n says.Gone true = inr (inl refl)

@@ -1,5 +1,6 @@
 -- What a member tells gateways of a request: one answer, unless it gave a ticket.
-use Rattle.std.proofs.Common.{ℕ, ◌≡◌, ◌==◌, nat_lt, ◌⊎◌, inl, inr, Bool, true, false, List, [], ◌∷◌, Option, Some, None, Contains, refl, sym, subst, if◌then◌else◌}
+use Rattle.std.proofs.Common.{ℕ, ◌≡◌, ◌==◌, nat_lt, ◌⊎◌, inl, inr, Bool, true, false, List, [], ◌∷◌, Option, Some, None}
+use Rattle.std.proofs.Common.{Contains, refl, sym, subst, if◌then◌else◌}
 use Rattle.std.proofs.lemmas.List.Elements.{Contains-push}
 use Rattle.group_types.specs.Dimensions.{Dimensions}
 use Rattle.group_types.specs.Hash.{home_of}
@@ -18,23 +19,27 @@ use Rattle.group_wire.specs.State.{Request, AskFor, TraceOf, Told, Gateways, Gro
 use Rattle.group_wire.specs.Sending.{sent_on, treating}
 use Rattle.group_wire.specs.Serving.{tell, told_of}
 use Rattle.group_wire.proofs.AtOnce.{sent-here}
-use Rattle.wire_progress.proofs.Waits.{Answering, Coming, Holding, Holds, IsHeld, Keeps, Kept, Parted, View, Waits, answer_to, caller_of, holds-last, holds-sent}
+use Rattle.wire_progress.proofs.Waits.{Answering, Coming, Holding, Holds, IsHeld, Keeps, Kept, Parted, View, Waits}
+use Rattle.wire_progress.proofs.Waits.{answer_to, caller_of, holds-last, holds-sent}
 
 -- a trace gets no ticket
 pub fate-no-ticket : (s : Dimensions) (caller call d n : ℕ) (p : Process) (h : Option Head) → fate_of s caller call d p h ≡ says.Ticket n → ⊥
 fate-no-ticket s caller call d n p None is = cc is
-fate-no-ticket s caller call d n p (Some h) is = by (is_in_log caller call (replica_of p d).log) (is_adopted s p h) (at None (replica_of p d).kept caller) is where
-  which : (k : kept.Kept) (a b c : Bool) → (if a then says.Reply (reply_from k.outcome) else (if b then says.Stale k.call else gone_or c)) ≡ says.Ticket n → ⊥
-  which k true b c is = cc is
-  which k false true c is = cc is
-  which k false false true is = cc is
-  which k false false false is = cc is
+fate-no-ticket s caller call d n p (Some h) is = by (is_in_log caller call (replica_of p d).log) (is_adopted s p h)
+    (at None (replica_of p d).kept caller) is where
+      which : (k : kept.Kept) (a b c : Bool)
+          → (if a then says.Reply (reply_from k.outcome) else (if b then says.Stale k.call else gone_or c))
+          ≡ says.Ticket n → ⊥
+      which k true b c is = cc is
+      which k false true c is = cc is
+      which k false false true is = cc is
+      which k false false false is = cc is
 
-  by : (b c : Bool) (o : Option kept.Kept) → fate_unless b (fate_from c call o) ≡ says.Ticket n → ⊥
-  by true c o is = cc is
-  by false true None is = cc is
-  by false false None is = cc is
-  by false c (Some k) is = which k (k.call == call) (nat_lt call k.call) c is
+      by : (b c : Bool) (o : Option kept.Kept) → fate_unless b (fate_from c call o) ≡ says.Ticket n → ⊥
+      by true c o is = cc is
+      by false true None is = cc is
+      by false false None is = cc is
+      by false c (Some k) is = which k (k.call == call) (nat_lt call k.call) c is
 
 pub told-or : (r : Request) (a : Answer) → ((n : ℕ) × (a ≡ says.Ticket n)) ⊎ (told_of r a ≡ answer_to r a ∷ [])
 told-or r (says.Ticket n) = inl (n, refl)
@@ -68,15 +73,19 @@ told-or (TraceOf caller call d) (says.Stale n) = inr refl
 -- after a ticket the call is held
 pub ticket-held : (s : Dimensions) (n : ℕ) (r : Request) (p : Process) → (treating s r p).answer ≡ says.Ticket n → IsHeld s (treating s r p).step.process r
 ticket-held s n (TraceOf caller call d) p ticket = absurd (fate-no-ticket s caller call d n p (head_at p d) ticket)
-ticket-held s n (AskFor caller call op) p ticket = by (ask-held s (record { caller = caller; call = call }) op (home_of (key_of op.act) s.k) n p (head_at p (home_of (key_of op.act) s.k)) ticket) where
-  by : HeldBehind p (home_of (key_of op.act) s.k) (record { caller = caller; call = call }) n (ask_process s (record { caller = caller; call = call }) op p).step.process
-      → IsHeld s (ask_process s (record { caller = caller; call = call }) op p).step.process (AskFor caller call op)
-  by behind = (
-    held_of behind.update,
-    subst (λ (ys : List Held). Contains ys (held_of behind.update)) (sym behind.held) (Contains-push (held_at p (home_of (key_of op.act) s.k)) (held_of behind.update)),
-    behind.caller,
-    behind.call,
-  )
+ticket-held s n (AskFor caller call op) p ticket =
+    by (ask-held s (record { caller = caller; call = call }) op (home_of (key_of op.act) s.k) n p
+    (head_at p (home_of (key_of op.act) s.k)) ticket) where
+      by : HeldBehind p (home_of (key_of op.act) s.k) (record { caller = caller; call = call }) n
+          (ask_process s (record { caller = caller; call = call }) op p).step.process
+          → IsHeld s (ask_process s (record { caller = caller; call = call }) op p).step.process (AskFor caller call op)
+      by behind = (
+        held_of behind.update,
+        subst (λ (ys : List Held). Contains ys (held_of behind.update)) (sym behind.held)
+            (Contains-push (held_at p (home_of (key_of op.act) s.k)) (held_of behind.update)),
+        behind.caller,
+        behind.call,
+      )
 
 -- what is told changes answers alone, and these grow
 module _ (g : Group) (p : ProcessId) where
@@ -99,7 +108,9 @@ module _ (g : Group) (p : ProcessId) where
 
   pub tells-kept : (ts : List Told) (v : View) → Keeps g.shape v (record v { gateways = tell g p ts v.gateways })
   tells-kept ts v x r (Parted is) = Parted is
-  tells-kept ts v x r (Coming there) = Coming (subst (λ (w : ProcessId → ProcessId → List Request). Holds r (w (gateway_of g.shape (caller_of r)) x)) (sym (tell-requests ts v.gateways)) there)
+  tells-kept ts v x r (Coming there) =
+      Coming (subst (λ (w : ProcessId → ProcessId → List Request). Holds r (w (gateway_of g.shape (caller_of r)) x))
+      (sym (tell-requests ts v.gateways)) there)
   tells-kept ts v x r (Kept there) = Kept (subst (λ (w : ProcessId → List Request). Holds r (w x)) (sym (tell-parked ts v.gateways)) there)
   tells-kept ts v x r (Holding is) = Holding is
   tells-kept ts v x r (Answering a there) = Answering a (tell-answers ts v.gateways (answer_to r a) x (gateway_of g.shape (caller_of r)) there)
@@ -111,13 +122,31 @@ module _ (g : Group) (p : ProcessId) where
     t : Told
     t = answer_to (AskFor caller call op) a
 
-    by : (b : Bool) → g.words.cut p (gateway_of g.shape caller) ≡ b → Waits g.shape (record { cut = g.words.cut; process = process; gateways = tell g p (answer_to (AskFor caller call op) a ∷ []) gw }) p (AskFor caller call op)
+    by : (b : Bool) → g.words.cut p (gateway_of g.shape caller) ≡ b
+        → Waits g.shape
+        (record {
+          cut = g.words.cut;
+          process = process;
+          gateways = tell g p (answer_to (AskFor caller call op) a ∷ [])
+              gw;
+        }) p (AskFor caller call op)
     by true cut = Parted (inr cut)
-    by false uncut = Answering a (subst (Holds t) (sym (sent-here g.words.cut gw.answers p (gateway_of g.shape caller) t uncut)) (holds-last t (gw.answers p (gateway_of g.shape caller))))
+    by false uncut =
+        Answering a (subst (Holds t) (sym (sent-here g.words.cut gw.answers p (gateway_of g.shape caller) t uncut))
+        (holds-last t (gw.answers p (gateway_of g.shape caller))))
   told-waits process gw (TraceOf caller call d) a = by (g.words.cut p (gateway_of g.shape caller)) refl where
     t : Told
     t = answer_to (TraceOf caller call d) a
 
-    by : (b : Bool) → g.words.cut p (gateway_of g.shape caller) ≡ b → Waits g.shape (record { cut = g.words.cut; process = process; gateways = tell g p (answer_to (TraceOf caller call d) a ∷ []) gw }) p (TraceOf caller call d)
+    by : (b : Bool) → g.words.cut p (gateway_of g.shape caller) ≡ b
+        → Waits g.shape
+        (record {
+          cut = g.words.cut;
+          process = process;
+          gateways = tell g p (answer_to (TraceOf caller call d) a ∷ [])
+              gw;
+        }) p (TraceOf caller call d)
     by true cut = Parted (inr cut)
-    by false uncut = Answering a (subst (Holds t) (sym (sent-here g.words.cut gw.answers p (gateway_of g.shape caller) t uncut)) (holds-last t (gw.answers p (gateway_of g.shape caller))))
+    by false uncut =
+        Answering a (subst (Holds t) (sym (sent-here g.words.cut gw.answers p (gateway_of g.shape caller) t uncut))
+        (holds-last t (gw.answers p (gateway_of g.shape caller))))

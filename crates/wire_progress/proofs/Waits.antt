@@ -42,9 +42,11 @@ holds-without x (y ∷ xs) (suc place) (inr there) = by (holds-without x xs plac
   by (inl is) = inl is
   by (inr left) = inr (inr left)
 
-pub holds-sent : {X : Type 0} (x : X) (cut : ProcessId → Processes) (wires : ProcessId → ProcessId → List X) (p q : ProcessId) (frame : X) (a b : ProcessId) → Holds x (wires a b) → Holds x (sent_on cut wires p q frame a b)
+pub holds-sent : {X : Type 0} (x : X) (cut : ProcessId → Processes) (wires : ProcessId → ProcessId → List X)
+    (p q : ProcessId) (frame : X) (a b : ProcessId) → Holds x (wires a b) → Holds x (sent_on cut wires p q frame a b)
 holds-sent x cut wires p q frame = changed-pairs (λ a b xs. Holds x (wires a b) → Holds x xs) wires p q (one_or (cut p q) (wires p q) (wires p q ++ frame ∷ []))
-    (λ there. one_or-is (Holds x) (cut p q) (wires p q) (wires p q ++ frame ∷ []) (λ _. there) (λ _. holds-more x (wires p q) (frame ∷ []) there)) (λ a b there. there)
+    (λ there. one_or-is (Holds x) (cut p q) (wires p q) (wires p q ++ frame ∷ []) (λ _. there)
+    (λ _. holds-more x (wires p q) (frame ∷ []) there)) (λ a b there. there)
 
 -- the caller of a request, and an answer to it
 abbrev pub caller_of : Request → ℕ
@@ -91,14 +93,17 @@ abbrev pub Unlost : Dimensions → View → Type 0
 Unlost s v = (caller : ℕ) → CallAwaited s v caller (v.gateways.call caller)
 
 -- one that is told, or given up
-pub told-awaited : (s : Dimensions) (v : View) (caller position : ℕ) (op : Asked) (t : Told) (n : ℕ) (b : Bool) → IsAwaited s v caller position op (stage_told t n t.answer b)
+pub told-awaited : (s : Dimensions) (v : View) (caller position : ℕ) (op : Asked) (t : Told) (n : ℕ) (b : Bool)
+    → IsAwaited s v caller position op (stage_told t n t.answer b)
 told-awaited s v caller position op t n b = by (told-either t n t.answer b) where
-  by : ((stage_told t n t.answer b ≡ Answered t n) × IsEnd t.answer) ⊎ (stage_told t n t.answer b ≡ Unasked) ⊎ (stage_told t n t.answer b ≡ Unknown) → IsAwaited s v caller position op (stage_told t n t.answer b)
+  by : ((stage_told t n t.answer b ≡ Answered t n) × IsEnd t.answer) ⊎ (stage_told t n t.answer b ≡ Unasked)
+      ⊎ (stage_told t n t.answer b ≡ Unknown) → IsAwaited s v caller position op (stage_told t n t.answer b)
   by (inl (is, end)) = subst (IsAwaited s v caller position op) (sym is) end
   by (inr (inl is)) = subst (IsAwaited s v caller position op) (sym is) tt
   by (inr (inr is)) = subst (IsAwaited s v caller position op) (sym is) tt
 
-pub given-up-awaited : (s : Dimensions) (v : View) (caller position : ℕ) (op : Asked) (stage : Stage) → IsAwaited s v caller position op stage → IsAwaited s v caller position op (stage_given_up op stage)
+pub given-up-awaited : (s : Dimensions) (v : View) (caller position : ℕ) (op : Asked) (stage : Stage)
+    → IsAwaited s v caller position op stage → IsAwaited s v caller position op (stage_given_up op stage)
 given-up-awaited s v caller position op (AskedOf x) h = by (again-either op.act) where
   by : (again op.act ≡ Unasked) ⊎ (again op.act ≡ Unknown) → IsAwaited s v caller position op (again op.act)
   by (inl is) = subst (IsAwaited s v caller position op) (sym is) tt
@@ -129,27 +134,37 @@ module _ (s : Dimensions) (v w : View) (kept : Keeps s v w) where
   unlost-kept same h = λ caller.
       subst (λ (calls : ℕ → Option OpenCall). CallAwaited s w caller (calls caller)) (sym same) (call-kept caller (v.gateways.call caller) (h caller))
 
-  pub unlost-call : (caller : ℕ) (now : Option OpenCall) → w.gateways.call ≡ changed_at v.gateways.call caller now → CallAwaited s w caller now → Unlost s v → Unlost s w
+  pub unlost-call : (caller : ℕ) (now : Option OpenCall) → w.gateways.call ≡ changed_at v.gateways.call caller now
+      → CallAwaited s w caller now → Unlost s v → Unlost s w
   unlost-call caller now same here h = λ c.
       subst (λ (calls : ℕ → Option OpenCall). CallAwaited s w c (calls c)) (sym same)
       (changed_at-each (λ c call. CallAwaited s w c call) v.gateways.call caller now here (λ c _. call-kept c (v.gateways.call c) (h c)) c)
 
 -- requests and answers stay where they are
-pub same-kept : (s : Dimensions) (v : View) (gw : Gateways) → gw.requests ≡ v.gateways.requests → gw.parked ≡ v.gateways.parked → gw.answers ≡ v.gateways.answers → Keeps s v (record v { gateways = gw })
+pub same-kept : (s : Dimensions) (v : View) (gw : Gateways) → gw.requests ≡ v.gateways.requests
+    → gw.parked ≡ v.gateways.parked → gw.answers ≡ v.gateways.answers → Keeps s v (record v { gateways = gw })
 same-kept s v gw one two three x r (Parted is) = Parted is
-same-kept s v gw one two three x r (Coming there) = Coming (subst (λ (w : ProcessId → ProcessId → List Request). Holds r (w (gateway_of s (caller_of r)) x)) (sym one) there)
+same-kept s v gw one two three x r (Coming there) =
+    Coming (subst (λ (w : ProcessId → ProcessId → List Request). Holds r (w (gateway_of s (caller_of r)) x)) (sym one)
+    there)
 same-kept s v gw one two three x r (Kept there) = Kept (subst (λ (w : ProcessId → List Request). Holds r (w x)) (sym two) there)
 same-kept s v gw one two three x r (Holding is) = Holding is
-same-kept s v gw one two three x r (Answering a there) = Answering a (subst (λ (w : ProcessId → ProcessId → List Told). Holds (answer_to r a) (w x (gateway_of s (caller_of r)))) (sym three) there)
+same-kept s v gw one two three x r (Answering a there) =
+    Answering a (subst (λ (w : ProcessId → ProcessId → List Told). Holds (answer_to r a)
+    (w x (gateway_of s (caller_of r)))) (sym three) there)
 
 -- a process that holds what it held
-pub held-changed : (s : Dimensions) (process : ProcessId → Process) (p : ProcessId) (q : Process) → ((e : ℕ) (y : Held) → Contains (held_at (process p) e) y → Contains (held_at q e) y) → (x : ProcessId) (r : Request) → IsHeld s (process x) r → IsHeld s (changed process p q x) r
+pub held-changed : (s : Dimensions) (process : ProcessId → Process) (p : ProcessId) (q : Process)
+    → ((e : ℕ) (y : Held) → Contains (held_at (process p) e) y → Contains (held_at q e) y)
+    → (x : ProcessId) (r : Request) → IsHeld s (process x) r → IsHeld s (changed process p q x) r
 held-changed s process p q more x r = changed-each (λ x now. IsHeld s (process x) r → IsHeld s now r) process p q (here r) (λ x _ is. is) x where
   here : (r : Request) → IsHeld s (process p) r → IsHeld s q r
   here (AskFor caller call op) (y, there, whose, which) = (y, more (home_of (key_of op.act) s.k) y there, whose, which)
   here (TraceOf caller call d) none = none
 
-pub held-kept : (s : Dimensions) (v : View) (p : ProcessId) (q : Process) → ((e : ℕ) (y : Held) → Contains (held_at (v.process p) e) y → Contains (held_at q e) y) → Keeps s v (record v { process = changed v.process p q })
+pub held-kept : (s : Dimensions) (v : View) (p : ProcessId) (q : Process)
+    → ((e : ℕ) (y : Held) → Contains (held_at (v.process p) e) y → Contains (held_at q e) y)
+    → Keeps s v (record v { process = changed v.process p q })
 held-kept s v p q more x r (Parted is) = Parted is
 held-kept s v p q more x r (Coming there) = Coming there
 held-kept s v p q more x r (Kept there) = Kept there

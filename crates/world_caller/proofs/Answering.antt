@@ -81,10 +81,12 @@ module _ (s : Dimensions) (es : List Event) (run : IsRun s es) where
   causes = subst AnswersHaveCauses (sym here-is) (answers_always s es run)
 
   pub home-in : (op : Asked) → home_in h.world op < h.world.shape.k
-  home-in op = home-below (fnv1a (key_of op.act)) h.world.shape.k (let first = run.0.k in let same = ap (λ (t : Dimensions). t.k) (shape-is s es run) in omega (arith, first, same))
+  home-in op = home-below (fnv1a (key_of op.act)) h.world.shape.k (let first = run.0.k in
+      let same = ap (λ (t : Dimensions). t.k) (shape-is s es run) in omega (arith, first, same))
 
   -- where a living process heads a partition of a drained group its log is empty
-  head-finished : ¬ (IsDown h.world) → IsDrained h.world → (p : ProcessId) (d : ℕ) (hd : Head) → IsProcess h.world.shape p → v.dead p ≡ false → d < h.world.shape.k → head_at (v.process p) d ≡ Some hd
+  head-finished : ¬ (IsDown h.world) → IsDrained h.world → (p : ProcessId) (d : ℕ) (hd : Head)
+      → IsProcess h.world.shape p → v.dead p ≡ false → d < h.world.shape.k → head_at (v.process p) d ≡ Some hd
       → (replica_of (v.process p) d).log ≡ []
   head-finished up drained p d hd pin lives below is =
       subst (λ (q : ProcessId). (replica_of (v.process q) d).log ≡ []) (sym from.0) ((quiet up drained).finished d hd.rank below (record {
@@ -105,7 +107,8 @@ module _ (s : Dimensions) (es : List Event) (run : IsRun s es) where
     why : AskCause h.world (step h.world (Ask caller op p)).world p op (step h.world (Ask caller op p)).turn.answer
     why = causes (Ask caller op p) may
 
-    ticket : ¬ (IsDown h.world) → (r : ℕ) → Heads h.world (home_in h.world op) r → p ≡ of_rank (home_in h.world op) r → (n : ℕ) → (step h.world (Ask caller op p)).turn.answer ≡ says.Ticket n
+    ticket : ¬ (IsDown h.world) → (r : ℕ) → Heads h.world (home_in h.world op) r → p ≡ of_rank (home_in h.world op) r
+        → (n : ℕ) → (step h.world (Ask caller op p)).turn.answer ≡ says.Ticket n
         → IsTicketed (step h.world (Ask caller op p)).world caller (at 0 h.world.asked caller) p
     ticket up r heads name n is =
         let holds = ask-ticket h (framed s es run) caller op p n may is in record {
@@ -121,15 +124,18 @@ module _ (s : Dimensions) (es : List Event) (run : IsRun s es) where
 
     by : IsDown h.world ⊎ ((¬ (IsDown h.world)) × IsDrained h.world)
         → LeadsOn caller (step h.world (Ask caller op p)).world (asked_to (at 0 h.world.asked caller) p (step h.world (Ask caller op p)).turn.answer)
-    by (inl down) = down-leads h.world (step h.world (Ask caller op p)).world caller (at 0 h.world.asked caller) op p (step h.world (Ask caller op p)).turn.answer down why
+    by (inl down) = down-leads h.world (step h.world (Ask caller op p)).world caller (at 0 h.world.asked caller) op p
+        (step h.world (Ask caller op p)).turn.answer down why
     by (inr (up, drained)) = headed ((quiet up drained).headed (home_in h.world op) (home-in op)) serves where
       headed : ((r : ℕ) × Heads h.world (home_in h.world op) r × HasTakenOver h.world (home_in h.world op) r) → Serves h.world (home_in h.world op) p
           → LeadsOn caller (step h.world (Ask caller op p)).world (asked_to (at 0 h.world.asked caller) p (step h.world (Ask caller op p)).turn.answer)
       headed (r, heads, over) (inr (without, is)) = absurd (without r heads)
       headed (r, heads, over) (inl (q, its, is)) =
           let name : p ≡ of_rank (home_in h.world op) r = is ∙ ap (of_rank (home_in h.world op)) (one-head h.world (home_in h.world op) q r its heads) in
-          ready-leads h.world (step h.world (Ask caller op p)).world caller (at 0 h.world.asked caller) op p (step h.world (Ask caller op p)).turn.answer up (ap (is_dead h.world) name ∙ heads.lives)
-          (record { rank = r; name = name; heads = heads; taken_over = over }) (λ d n same. (quiet up drained).asked caller op p may (d, n, same)) (ticket up r heads name) why
+          ready-leads h.world (step h.world (Ask caller op p)).world caller (at 0 h.world.asked caller) op p
+          (step h.world (Ask caller op p)).turn.answer up (ap (is_dead h.world) name ∙ heads.lives)
+          (record { rank = r; name = name; heads = heads; taken_over = over })
+          (λ d n same. (quiet up drained).asked caller op p may (d, n, same)) (ticket up r heads name) why
 
   collects-lead : (caller call : ℕ) (p : ProcessId) → due h.world ≡ None → MayCome h.world (Collect caller call p) → IsTicketed h.world caller call p
       → LeadsOn caller (step h.world (Collect caller call p)).world (collected_to (step h.world (Collect caller call p)).turn.answer)
@@ -137,9 +143,12 @@ module _ (s : Dimensions) (es : List Event) (run : IsRun s es) where
     lives : is_dead h.world p ≡ false
     lives = ap (is_dead h.world) t.named ∙ t.heads.lives
 
-    by : IsDown h.world ⊎ ((¬ (IsDown h.world)) × IsDrained h.world) → LeadsOn caller (step h.world (Collect caller call p)).world (collected_to (step h.world (Collect caller call p)).turn.answer)
+    by : IsDown h.world ⊎ ((¬ (IsDown h.world)) × IsDrained h.world)
+        → LeadsOn caller (step h.world (Collect caller call p)).world
+        (collected_to (step h.world (Collect caller call p)).turn.answer)
     by (inl down) = absurd (t.up down)
-    by (inr (up, drained)) = collect-leads h.world (step h.world (Collect caller call p)).world caller call p (step h.world (Collect caller call p)).turn.answer t lives
+    by (inr (up, drained)) = collect-leads h.world (step h.world (Collect caller call p)).world caller call p
+        (step h.world (Collect caller call p)).turn.answer t lives
         (λ d x holds. number-low p d x (of-shape p may.1) lives (subst (λ (u : Dimensions). d < u.k) (shape-is s es run) holds.partition) holds.held
         (λ hd is. head-finished up drained p d hd may.1 lives holds.partition is))
         (causes (Collect caller call p) may)

@@ -25,7 +25,8 @@ after-append w (e ∷ es) fs = after-append (step w e).world es fs
 brings-append : (caller : ℕ) (op : Asked) (w : World) (next middle last : Next) (es fs : List Event)
     → Brings caller op w next es middle → Brings caller op (world_after w es) middle fs last → Brings caller op w next (es ++ fs) last
 brings-append caller op w next middle last [] fs first more = subst (λ (n : Next). Brings caller op w n fs last) first more
-brings-append caller op w (Goes stage) middle last (e ∷ es) fs first more = (first.0, first.1, brings-append caller op (step w e).world first.0 middle last es fs first.2 more)
+brings-append caller op w (Goes stage) middle last (e ∷ es) fs first more =
+    (first.0, first.1, brings-append caller op (step w e).world first.0 middle last es fs first.2 more)
 brings-append caller op w (Ends end) middle last (e ∷ es) fs first more = absurd first
 
 pub brings-run : (caller : ℕ) (op : Asked) (w : World) (next last : Next) (es : List Event) → Brings caller op w next es last → IsRunFrom w es
@@ -44,13 +45,16 @@ come-more caller op w v u next last es come more is = record {
   brings = brings-append caller op w (Goes Asks) next last come.events es come.brings (subst (λ (x : World). Brings caller op x next es last) come.after more);
 }
 
-pub come-delivered : (caller : ℕ) (op : Asked) (w v u : World) (stage : Stage) → HasCome caller op w v (Goes stage) → AreDelivered v u → HasCome caller op w u (Goes stage)
+pub come-delivered : (caller : ℕ) (op : Asked) (w v u : World) (stage : Stage) → HasCome caller op w v (Goes stage)
+    → AreDelivered v u → HasCome caller op w u (Goes stage)
 come-delivered caller op w v u stage come are = come-more caller op w v u (Goes stage) (Goes stage) are.events come (are.brings caller op stage) are.after
 
-pub come-made : (caller : ℕ) (op : Asked) (w v u : World) (stage : Stage) (next : Next) → HasCome caller op w v (Goes stage) → IsMade caller op v stage u next → HasCome caller op w u next
+pub come-made : (caller : ℕ) (op : Asked) (w v u : World) (stage : Stage) (next : Next)
+    → HasCome caller op w v (Goes stage) → IsMade caller op v stage u next → HasCome caller op w u next
 come-made caller op w v u stage next come made = come-more caller op w v u (Goes stage) next (made.event ∷ []) come (next, made.is, refl) made.after
 
-pub stopped-err : {A E : Type 0} (result : Result A E) (caller : ℕ) (op : Asked) (w v : World) (next : Next) → HasCome caller op w v next → OnErr result (HasStopped caller op w v)
+pub stopped-err : {A E : Type 0} (result : Result A E) (caller : ℕ) (op : Asked) (w v : World) (next : Next)
+    → HasCome caller op w v next → OnErr result (HasStopped caller op w v)
 stopped-err (Ok _) caller op w v next come = tt
 stopped-err (Err _) caller op w v next come = record { last = next; come = come }
 
@@ -64,8 +68,16 @@ delivered-more w v u are counted is delivers = record {
   after = is.after ∙ ap (λ (x : World). (step x is.event).world) are.after ∙ sym (after-append w are.events (is.event ∷ []));
   later = let before = are.later in let now : u.events ≡ suc v.events = ap (λ (x : World). x.events) is.after in omega (arith, before, now);
   brings = λ caller op stage. brings-append caller op w (Goes stage) (Goes stage) (Goes stage) are.events (is.event ∷ []) (are.brings caller op stage)
-      (subst (λ (x : World). Brings caller op x (Goes stage) (is.event ∷ []) (Goes stage)) are.after
-      (Goes stage, record { counted = counted; may = delivers.may; done = subst (λ (o : Option Event). IsDone o caller op v stage is.event (Goes stage)) (sym is.first) (refl, refl) }, refl));
+      (subst (λ (x : World). Brings caller op x (Goes stage) (is.event ∷ []) (Goes stage)) are.after (
+        Goes stage,
+        record {
+          counted = counted;
+          may = delivers.may;
+          done = subst (λ (o : Option Event). IsDone o caller op v stage is.event (Goes stage)) (sym is.first)
+              (refl, refl);
+        },
+        refl,
+      ));
   stands = λ caller stage stands. subst (λ (x : World). Stands caller x stage) (sym is.after) (delivers.keeps caller stage (are.stands caller stage stands));
 }
 

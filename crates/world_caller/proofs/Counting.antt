@@ -1,5 +1,6 @@
 -- How often a call is asked: once more than it has to wait for a block.
-use Rattle.std.proofs.Common.{ℕ, zero, suc, ◌≡◌, ◌≢◌, ◌<◌, ◌≤◌, ◌+◌, Bool, true, false, List, [], ◌∷◌, ◌++◌, Option, Some, None, ◌⊎◌, inl, inr, refl, sym, ap, subst, ◌∙◌, arith}
+use Rattle.std.proofs.Common.{ℕ, zero, suc, ◌≡◌, ◌≢◌, ◌<◌, ◌≤◌, ◌+◌, Bool, true, false, List, [], ◌∷◌, ◌++◌, Option}
+use Rattle.std.proofs.Common.{Some, None, ◌⊎◌, inl, inr, refl, sym, ap, subst, ◌∙◌, arith}
 use Rattle.std.proofs.lemmas.Bool.{cases_eq, cases_lt}
 use Rattle.std.proofs.lemmas.List.Sums.{sum_by-cons}
 use Rattle.group_types.specs.Dimensions.{Dimensions}
@@ -37,14 +38,17 @@ use Rattle.world_caller.proofs.Standing.{served-before, up-stays}
 
 module _ (caller : ℕ) (op : Asked) (p : ProcessId) where
   module _ (s : Dimensions) where
-    event-counts : (before : List Event) → IsRun s before → (stage : Stage) (e : Event) (n : Next) → ¬ (IsDown (after s before)) → Fixed caller op p (after s before) → IsEvent caller op (after s before) stage e n
+    event-counts : (before : List Event) → IsRun s before → (stage : Stage) (e : Event) (n : Next)
+        → ¬ (IsDown (after s before)) → Fixed caller op p (after s before)
+        → IsEvent caller op (after s before) stage e n
         → Counts caller op p (after s before) stage e n
     event-counts before run stage e n up fixed event = by (due (after s before)) refl event.done where
       by : (o : Option Event) → due (after s before) ≡ o → IsDone o caller op (after s before) stage e n → Counts caller op p (after s before) stage e n
       by (Some d) first (is, same) =
           let comes = next-comes s before run up d (due-first (after s before) d first).1 in
           subst (λ (x : Next). Counts caller op p (after s before) stage e x) (sym same)
-          (subst (λ (x : Event). Counts caller op p (after s before) stage x (Goes stage)) (sym is) (delivery-counts caller op p (after s before) stage d comes.delivery))
+          (subst (λ (x : Event). Counts caller op p (after s before) stage x (Goes stage)) (sym is)
+          (delivery-counts caller op p (after s before) stage d comes.delivery))
       by None none own = drained (due-none (after s before) none) where
         drained : IsDown (after s before) ⊎ ((¬ (IsDown (after s before))) × IsDrained (after s before)) → Counts caller op p (after s before) stage e n
         drained (inl down) = absurd (up down)
@@ -55,7 +59,8 @@ module _ (caller : ℕ) (op : Asked) (p : ProcessId) where
       drained : AskedDrained w es
       few : at 0 (world_after w es).asked caller ≤ at 0 w.asked caller + block_waits p (turns_from w es) + still next
 
-    counted-more : (w : World) (stage : Stage) (e : Event) (es : List Event) (n : Next) → Counts caller op p w stage e n → AreCounted (step w e).world n es → AreCounted w (Goes stage) (e ∷ es)
+    counted-more : (w : World) (stage : Stage) (e : Event) (es : List Event) (n : Next) → Counts caller op p w stage e n
+        → AreCounted (step w e).world n es → AreCounted w (Goes stage) (e ∷ es)
     counted-more w stage e es n one rest = record {
       drained = (one.goes, one.drained, rest.drained);
       few =
@@ -64,7 +69,8 @@ module _ (caller : ℕ) (op : Asked) (p : ProcessId) where
           let first = one.few in let later = rest.few in omega (arith, split, first, later);
     }
 
-    counted : (es before : List Event) → (run : IsRun s before) → (next last : Next) → ¬ (IsDown (after s before)) → Fixed caller op p (after s before) → Brings caller op (after s before) next es last
+    counted : (es before : List Event) → (run : IsRun s before) → (next last : Next) → ¬ (IsDown (after s before))
+        → Fixed caller op p (after s before) → Brings caller op (after s before) next es last
         → AreCounted (after s before) next es
     counted [] before run next last up fixed brings = record { drained = tt; few = omega arith }
     counted (e ∷ es) before run (Ends end) last up fixed brings = absurd brings
@@ -91,7 +97,8 @@ module _ (caller : ℕ) (op : Asked) (p : ProcessId) where
         still-fixed : Fixed caller op p (step (after s before) e).world
         still-fixed = subst (λ (w : World). Fixed caller op p (step w e).world) is
             (λ q serves. subst (Fixed caller op p) (sym is) fixed q
-            (served-before (history_of s before) (framed s before run) e may one.goes (home_in (history_of s before).world op) q (home-in s before run op) serves))
+            (served-before (history_of s before) (framed s before run) e may one.goes
+            (home_in (history_of s before).world op) q (home-in s before run op) serves))
 
         longer : after s (before ++ e ∷ []) ≡ (step (after s before) e).world
         longer =
@@ -114,7 +121,9 @@ lowest dead (suc n) = by (lowest dead n) (dead n) refl where
 -- one process is asked of a partition
 pub one-serves : (w : World) (d : ℕ) → (p : ProcessId) × ((q : ProcessId) → Serves w d q → q ≡ p)
 one-serves w d = by (lowest (λ r. is_dead w (of_rank d r)) (suc w.shape.m)) where
-  by : ((r : ℕ) × (r < suc w.shape.m) × (is_dead w (of_rank d r) ≡ false) × ((q : ℕ) → q < r → is_dead w (of_rank d q) ≡ true)) ⊎ ((q : ℕ) → q < suc w.shape.m → is_dead w (of_rank d q) ≡ true)
+  by : ((r : ℕ) × (r < suc w.shape.m) × (is_dead w (of_rank d r) ≡ false)
+      × ((q : ℕ) → q < r → is_dead w (of_rank d q) ≡ true))
+      ⊎ ((q : ℕ) → q < suc w.shape.m → is_dead w (of_rank d q) ≡ true)
       → (p : ProcessId) × ((q : ProcessId) → Serves w d q → q ≡ p)
   by (inl (r, low, lives, below)) = (of_rank d r, is-it) where
     heads : Heads w d r
@@ -142,8 +151,10 @@ down-few caller op w (e ∷ es) last down causes (n, event, brings) = by (due w)
   by (Some d) first done = absurd ((due-first w d first).0 down)
   by None none (p, serves, is, leads) =
       let over = down-ends w (step w (Ask caller op p)).world p op (at 0 w.asked caller) n (step w (Ask caller op p)).turn.answer down
-      (causes (Ask caller op p) (subst (MayCome w) is event.may)) (ap (λ (x : Event). asked_to (at 0 w.asked caller) p (step w x).turn.answer) (sym is) ∙ leads) in
-      let nothing : es ≡ [] = none-behind caller op (step w e).world over.0 es last (subst (λ (x : Next). Brings caller op (step w e).world x es last) over.1 brings) in
+      (causes (Ask caller op p) (subst (MayCome w) is event.may))
+      (ap (λ (x : Event). asked_to (at 0 w.asked caller) p (step w x).turn.answer) (sym is) ∙ leads) in
+      let nothing : es ≡ [] = none-behind caller op (step w e).world over.0 es last
+      (subst (λ (x : Next). Brings caller op (step w e).world x es last) over.1 brings) in
       let one : at 0 (step w (Ask caller op p)).world.asked caller ≡ suc (at 0 w.asked caller) = at-put 0 0 w.asked caller (suc (at 0 w.asked caller)) in
       let same : at 0 (world_after w (e ∷ es)).asked caller ≡ at 0 (step w (Ask caller op p)).world.asked caller
       = ap (λ (xs : List Event). at 0 (world_after w (e ∷ xs)).asked caller) nothing ∙ ap (λ (x : Event). at 0 (step w x).world.asked caller) is in

@@ -45,7 +45,8 @@ due-none w = by (is_down w) refl where
 pub framed : (s : Dimensions) (es : List Event) → IsRun s es → FramedHistory (history_of s es)
 framed s es run = framed-from (no_history s) es (framed-opening s) run.1
 
-ticket-kept : (h : History) → FramedHistory h → (e : Event) → IsDelivery e → MayCome h.world e → (caller call : ℕ) (p : ProcessId) → IsTicketed h.world caller call p
+ticket-kept : (h : History) → FramedHistory h → (e : Event) → IsDelivery e → MayCome h.world e
+    → (caller call : ℕ) (p : ProcessId) → IsTicketed h.world caller call p
     → IsTicketed (step h.world e).world caller call p
 ticket-kept h frame (Deliver from to) delivery may caller call p t = ticket-stays h frame from to may caller call p t
 ticket-kept h frame (Ask caller op q) delivery may who number p t = absurd delivery

@@ -29,7 +29,8 @@ both true true _ _ = refl
 both true false _ is = cc is
 both false b is _ = cc is
 
-ticket-holds : (b : Bool) (d n : ℕ) (u : Update) (t : ProcessStep) → (ticketed b d u t).answer ≡ says.Ticket n → HoldsNamed u.caller u.call d (ticketed b d u t).step.process
+ticket-holds : (b : Bool) (d n : ℕ) (u : Update) (t : ProcessStep) → (ticketed b d u t).answer ≡ says.Ticket n
+    → HoldsNamed u.caller u.call d (ticketed b d u t).step.process
 ticket-holds true d n u t is = cc is
 ticket-holds false d n u t is =
     let x : Held = record { caller = u.caller; call = u.call; number = u.number; outcome = u.outcome } in (
@@ -39,7 +40,8 @@ ticket-holds false d n u t is =
       both (u.caller == u.caller) (u.call == u.call) (equal-self u.caller) (equal-self u.call),
     )
 
-act-holds : (s : Dimensions) (name : CallName) (op : Asked) (d n : ℕ) (h : Head) (p : Process) (decision : Decision) → (act_on s name op d h p decision).answer ≡ says.Ticket n
+act-holds : (s : Dimensions) (name : CallName) (op : Asked) (d n : ℕ) (h : Head) (p : Process) (decision : Decision)
+    → (act_on s name op d h p decision).answer ≡ says.Ticket n
     → HoldsNamed name.caller name.call d (act_on s name op d h p decision).step.process
 act-holds s name op d n h p (decides.Answer r) is = cc is
 act-holds s name op d n h p (decides.Retry m) is = cc is

@@ -72,7 +72,8 @@ module _ (w v : World) (caller call : ℕ) (op : Asked) (p : ProcessId) where
 
 -- of a collect
 pub collect-leads : (w v : World) (caller call : ℕ) (p : ProcessId) (a : Answer) → IsTicketed w caller call p → is_dead w p ≡ false
-    → ((d : ℕ) (x : Held) → HoldsCall w p caller call d x → x.number ≤ (replica_of (process_of w p) d).applied) → CollectCause w p caller call a → LeadsOn caller v (collected_to a)
+    → ((d : ℕ) (x : Held) → HoldsCall w p caller call d x → x.number ≤ (replica_of (process_of w p) d).applied)
+    → CollectCause w p caller call a → LeadsOn caller v (collected_to a)
 collect-leads w v caller call p says.Down t lives low why = absurd (t.up why)
 collect-leads w v caller call p says.Lost t lives low why = cc (lives, why.1)
 collect-leads w v caller call p (says.Reply reply) t lives low why = record { next = Ends (ends.Reply reply); is = refl; stands = tt }

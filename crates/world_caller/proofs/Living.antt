@@ -6,7 +6,8 @@ use Rattle.group_run.specs.Meaning.{is_dead}
 use Rattle.group_run.specs.World.{World}
 use Rattle.world_caller.specs.Calling.{Serves}
 
-pub parity-serves : (w : World) (d i : ℕ) → i < w.shape.m → is_dead w (DataNode d) ≡ true → ((j : ℕ) → j < i → is_dead w (ParityNode j) ≡ true) → is_dead w (ParityNode i) ≡ false
+pub parity-serves : (w : World) (d i : ℕ) → i < w.shape.m → is_dead w (DataNode d) ≡ true
+    → ((j : ℕ) → j < i → is_dead w (ParityNode j) ≡ true) → is_dead w (ParityNode i) ≡ false
     → Serves w d (ParityNode i)
 parity-serves w d i low gone below lives = inl (suc i, record { within = omega (arith, low); lives = lives; lowest = lower }, refl) where
   lower : (q : ℕ) → q < suc i → is_dead w (of_rank d q) ≡ true

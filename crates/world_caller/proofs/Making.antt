@@ -13,7 +13,8 @@ use Rattle.group_run.specs.World.{World, step}
 use Rattle.group_core.specs.Runs.{HasRun}
 use Rattle.scenario_run.proofs.Leading.{IsLedTo, led-step}
 use Rattle.world_caller.specs.Calling.{HasCome, IsCalled, IsDone, IsOver, Serves, asked_to, collected_to, due, most_events}
-use Rattle.world_caller.specs.Laws.{AsksAlways, AsksFew, AsksLeadOn, CanGoOn, CollectsAlways, CollectsLeadOn, Delivers, DeliversAlways, DueDelivers, FewAlways, IsTicketed, LeadsOn}
+use Rattle.world_caller.specs.Laws.{AsksAlways, AsksFew, AsksLeadOn, CanGoOn, CollectsAlways, CollectsLeadOn, Delivers}
+use Rattle.world_caller.specs.Laws.{DeliversAlways, DueDelivers, FewAlways, IsTicketed, LeadsOn}
 use Rattle.world_caller.specs.Making.{AreDelivered, IsDelivered, IsMade}
 use Rattle.world_caller.specs.declared.stage.Next.{Next}
 use Rattle.world_caller.specs.declared.stage.Stage.TheVariants.{Asks, Collects}
@@ -28,14 +29,22 @@ leads-there caller v to next leads is = let same : leads.next ≡ next = cc (sym
 
 pub ask-made : (w v : World) (caller call : ℕ) (op : Asked) (p : ProcessId) (answer : Answer) (next : Next) → AsksAlways → HasRun w
     → due w ≡ None → w.events < most_events → MayCome w (Ask caller op p)
-    → Serves w (home_in w op) p → v ≡ (step w (Ask caller op p)).world → answer ≡ (step w (Ask caller op p)).turn.answer → asked_to call p answer ≡ Some next → call ≡ at 0 w.asked caller
+    → Serves w (home_in w op) p → v ≡ (step w (Ask caller op p)).world → answer ≡ (step w (Ask caller op p)).turn.answer
+    → asked_to call p answer ≡ Some next → call ≡ at 0 w.asked caller
     → IsMade caller op w Asks v next
 ask-made w v caller call op p answer next law run none counted may serves after answered is named = record {
   event = Ask caller op p;
-  is = record { counted = counted; may = may; done = subst (λ (o : Option Event). IsDone o caller op w Asks (Ask caller op p) next) (sym none) (p, serves, refl, there) };
+  is = record {
+    counted = counted;
+    may = may;
+    done = subst (λ (o : Option Event). IsDone o caller op w Asks (Ask caller op p) next) (sym none)
+        (p, serves, refl, there);
+  };
   after = after;
   stands = subst (λ (x : World). CanGoOn caller x next) (sym after)
-      (leads-there caller (step w (Ask caller op p)).world (asked_to (at 0 w.asked caller) p (step w (Ask caller op p)).turn.answer) next (lead caller op p none may serves) there);
+      (leads-there caller (step w (Ask caller op p)).world
+      (asked_to (at 0 w.asked caller) p (step w (Ask caller op p)).turn.answer) next
+      (lead caller op p none may serves) there);
 } where
   lead : AsksLeadOn w
   lead = subst AsksLeadOn (sym run.is) (law w.shape run.events run.run)
@@ -45,14 +54,21 @@ ask-made w v caller call op p answer next law run none counted may serves after 
 
 pub collect-made : (w v : World) (caller call : ℕ) (op : Asked) (p : ProcessId) (answer : Answer) (next : Next) → CollectsAlways → HasRun w
     → due w ≡ None → w.events < most_events → MayCome w (Collect caller call p)
-    → IsTicketed w caller call p → v ≡ (step w (Collect caller call p)).world → answer ≡ (step w (Collect caller call p)).turn.answer → collected_to answer ≡ Some next
+    → IsTicketed w caller call p → v ≡ (step w (Collect caller call p)).world
+    → answer ≡ (step w (Collect caller call p)).turn.answer → collected_to answer ≡ Some next
     → IsMade caller op w (Collects call p) v next
 collect-made w v caller call op p answer next law run none counted may ticket after answered is = record {
   event = Collect caller call p;
-  is = record { counted = counted; may = may; done = subst (λ (o : Option Event). IsDone o caller op w (Collects call p) (Collect caller call p) next) (sym none) (refl, there) };
+  is = record {
+    counted = counted;
+    may = may;
+    done = subst (λ (o : Option Event). IsDone o caller op w (Collects call p) (Collect caller call p) next)
+        (sym none) (refl, there);
+  };
   after = after;
   stands = subst (λ (x : World). CanGoOn caller x next) (sym after)
-      (leads-there caller (step w (Collect caller call p)).world (collected_to (step w (Collect caller call p)).turn.answer) next (lead caller call p none may ticket) there);
+      (leads-there caller (step w (Collect caller call p)).world
+      (collected_to (step w (Collect caller call p)).turn.answer) next (lead caller call p none may ticket) there);
 } where
   lead : CollectsLeadOn w
   lead = subst CollectsLeadOn (sym run.is) (law w.shape run.events run.run)
@@ -61,7 +77,8 @@ collect-made w v caller call op p answer next law run none counted may ticket af
   there = ap collected_to (sym answered) ∙ is
 
 -- a call that is over
-pub called : (caller : ℕ) (op : Asked) (w v : World) (next : Next) (end : CallEnd) → FewAlways → HasRun w → HasCome caller op w v next → IsOver v next end → IsCalled caller op w end v
+pub called : (caller : ℕ) (op : Asked) (w v : World) (next : Next) (end : CallEnd) → FewAlways → HasRun w
+    → HasCome caller op w v next → IsOver v next end → IsCalled caller op w end v
 called caller op w v next end law run come over = record {
   events = come.events;
   last = next;

@@ -48,7 +48,8 @@ module _ (h : History) (framed : FramedHistory h) where
         let after : lost_in h.world.shape (state_of (prolonged h e)) ≡ dead_nodes (step h.world e).world.nodes
         = lost-nodes h.world.shape (prolonged h e).world.nodes (prolonged h e).settled (event_comes h e framed may).frame.nodes_many in
         let same : lost_in h.world.shape (state_of (prolonged h e)) ≡ lost_in h.world.shape (state_of h)
-        = ap count_dead (same-words (λ x. (state_of (prolonged h e)).dead (process_at h.world.shape x)) (λ x. (state_of h).dead (process_at h.world.shape x)) 0 (h.world.shape.k + h.world.shape.m)
+        = ap count_dead (same-words (λ x. (state_of (prolonged h e)).dead (process_at h.world.shape x))
+        (λ x. (state_of h).dead (process_at h.world.shape x)) 0 (h.world.shape.k + h.world.shape.m)
         (λ x low. dead-stays (process_at h.world.shape x) (process_at-in h.world.shape x (omega (arith, low))))) in
         let many : h.world.shape.m < dead_nodes (step h.world e).world.nodes = down in
         up (omega (arith, before, after, same, many))
@@ -57,14 +58,19 @@ module _ (h : History) (framed : FramedHistory h) where
     heads-stay d r below heads = record {
       within = heads.within;
       lives = dead-stays (of_rank d r) (rank-in h.world.shape d r below heads.within) ∙ heads.lives;
-      lowest = λ q less. dead-stays (of_rank d q) (rank-in h.world.shape d q below (let high = heads.within in omega (arith, less, high))) ∙ heads.lowest q less;
+      lowest = λ q less. dead-stays (of_rank d q)
+          (rank-in h.world.shape d q below (let high = heads.within in omega (arith, less, high)))
+          ∙ heads.lowest q less;
     }
 
     headed-before : (d r : ℕ) → d < h.world.shape.k → Heads (step h.world e).world d r → Heads h.world d r
     headed-before d r below heads = record {
       within = heads.within;
       lives = sym (dead-stays (of_rank d r) (rank-in h.world.shape d r below heads.within)) ∙ heads.lives;
-      lowest = λ q less. sym (dead-stays (of_rank d q) (rank-in h.world.shape d q below (let high = heads.within in omega (arith, less, high)))) ∙ heads.lowest q less;
+      lowest = λ q less.
+          sym (dead-stays (of_rank d q)
+          (rank-in h.world.shape d q below (let high = heads.within in omega (arith, less, high))))
+          ∙ heads.lowest q less;
     }
 
     -- who is asked was to be asked before
@@ -73,18 +79,22 @@ module _ (h : History) (framed : FramedHistory h) where
     served-before d p below (inr (none, is)) = inr (λ r heads. none r (heads-stay d r below heads), is)
 
   -- a ticket's call is held
-  pub ask-ticket : (caller : ℕ) (op : Asked) (p : ProcessId) (n : ℕ) → MayCome h.world (Ask caller op p) → (step h.world (Ask caller op p)).turn.answer ≡ says.Ticket n
+  pub ask-ticket : (caller : ℕ) (op : Asked) (p : ProcessId) (n : ℕ) → MayCome h.world (Ask caller op p)
+      → (step h.world (Ask caller op p)).turn.answer ≡ says.Ticket n
       → HoldsNamed caller (at 0 h.world.asked caller) (home_in h.world op) (process_of (step h.world (Ask caller op p)).world p)
   ask-ticket caller op p n may =
       by (call-comes h.world.shape h.world.nodes h.settled framed p (ask_process h.world.shape (next_name h.world caller) op (node_of h.world p).process) may.1
       (node_of h.world p).down (node_of h.world p).dead refl refl) where
-        by : {w : State} {answer : Answer} → Answers h.world.shape (state_of h) w p (ask_process h.world.shape (next_name h.world caller) op (node_of h.world p).process) answer
+        by : {w : State} {answer : Answer}
+            → Answers h.world.shape (state_of h) w p
+            (ask_process h.world.shape (next_name h.world caller) op (node_of h.world p).process) answer
             → answer ≡ says.Ticket n → HoldsNamed caller (at 0 h.world.asked caller) (home_in h.world op) (w.process p)
         by {w} {answer} (Idle same (inl down)) is = cc (sym down ∙ is)
         by {w} {answer} (Idle same (inr lost)) is = cc (sym lost ∙ is)
         by {w} {answer} (Acts up lives acts same) is =
             subst (HoldsNamed caller (at 0 h.world.asked caller) (home_in h.world op)) (sym acts.process)
-            (ask-holds h.world.shape (next_name h.world caller) op (home_in h.world op) n (node_of h.world p).process (head_at (node_of h.world p).process (home_in h.world op)) (sym same ∙ is))
+            (ask-holds h.world.shape (next_name h.world caller) op (home_in h.world op) n (node_of h.world p).process
+            (head_at (node_of h.world p).process (home_in h.world op)) (sym same ∙ is))
 
   -- a delivery leaves what is held
   deliver-held : (from to q : ProcessId) (d : ℕ) → MayCome h.world (Deliver from to) → IsProcess h.world.shape q
@@ -98,7 +108,9 @@ module _ (h : History) (framed : FramedHistory h) where
           here : (q ≡ to) ⊎ (q ≢ to) → held_at (w.process q) d ≡ held_at ((state_of h).process q) d
           here (inl is) =
               ap (λ (y : ProcessId). held_at (w.process y) d) is ∙ ap (λ p. held_at p d) acts.process
-              ∙ ap (λ (held : List (List Held)). at [] held d) (holds-receive h.world.shape from m ((state_of h).process to)) ∙ sym (ap (λ (y : ProcessId). held_at ((state_of h).process y) d) is)
+              ∙ ap (λ (held : List (List Held)). at [] held d)
+              (holds-receive h.world.shape from m ((state_of h).process to))
+              ∙ sym (ap (λ (y : ProcessId). held_at ((state_of h).process y) d) is)
           here (inr other) = ap (λ p. held_at p d) (acts.others q qin other ∙ pops.processes q qin)
 
   pub ticket-stays : (from to : ProcessId) → MayCome h.world (Deliver from to) → (caller call : ℕ) (p : ProcessId) → IsTicketed h.world caller call p

@@ -43,7 +43,8 @@ ask-waits : (caller call : ℕ) (op : Asked) (p : ProcessId) (n : Next) (a : Ans
 ask-waits caller call op p n (says.Reply reply) is = let none = still-is _ n is in omega (arith, none)
 ask-waits caller call op p n (says.Ticket number) is = let none = still-is _ n is in omega (arith, none)
 ask-waits caller call op p n (says.Retry (cause.Block b)) is =
-    let one = still-is (Goes Asks) n is in let here : ◌≡◌ {A = ℕ} (if same_process p p then 1 else 0) 1 = ap (λ (c : Bool). if c then 1 else 0) (same-self p) in omega (arith, one, here)
+    let one = still-is (Goes Asks) n is in let here : ◌≡◌ {A = ℕ} (if same_process p p then 1 else 0) 1 =
+    ap (λ (c : Bool). if c then 1 else 0) (same-self p) in omega (arith, one, here)
 ask-waits caller call op p n (says.Retry (cause.Pending d m)) is = cc is
 ask-waits caller call op p n says.NoSpace is = let none = still-is _ n is in omega (arith, none)
 ask-waits caller call op p n says.Down is = let none = still-is _ n is in omega (arith, none)
@@ -74,7 +75,8 @@ collect-ends n says.Gone is = cc is
 collect-ends n (says.Stale m) is = cc is
 
 -- where the group is down an ask ends the call
-pub down-ends : (w v : World) (p : ProcessId) (op : Asked) (call : ℕ) (n : Next) (a : Answer) → IsDown w → AskCause w v p op a → asked_to call p a ≡ Some n → (end : CallEnd) × (n ≡ Ends end)
+pub down-ends : (w v : World) (p : ProcessId) (op : Asked) (call : ℕ) (n : Next) (a : Answer) → IsDown w
+    → AskCause w v p op a → asked_to call p a ≡ Some n → (end : CallEnd) × (n ≡ Ends end)
 down-ends w v p op call n says.Down down why is = let same : Ends ends.Down ≡ n = cc is in (ends.Down, sym same)
 down-ends w v p op call n says.Lost down why is = absurd (why.0 down)
 down-ends w v p op call n says.Moved down why is = absurd (why.0.group down)
@@ -105,7 +107,9 @@ module _ (caller : ℕ) (op : Asked) (p : ProcessId) where
   delivery-counts w stage (Flush q) delivery = absurd delivery
   delivery-counts w stage (Trace who call d q) delivery = absurd delivery
 
-  ask-counts : (w : World) (n : Next) → IsDrained w → asked_to (at 0 w.asked caller) p (step w (Ask caller op p)).turn.answer ≡ Some n → Counts w Asks (Ask caller op p) n
+  ask-counts : (w : World) (n : Next) → IsDrained w
+      → asked_to (at 0 w.asked caller) p (step w (Ask caller op p)).turn.answer ≡ Some n
+      → Counts w Asks (Ask caller op p) n
   ask-counts w n drained is = record {
     goes = tt;
     drained = drained;
@@ -113,8 +117,16 @@ module _ (caller : ℕ) (op : Asked) (p : ProcessId) where
         let more = ask-waits caller (at 0 w.asked caller) op p n (step w (Ask caller op p)).turn.answer is in omega (arith, one, more);
   }
 
-  collect-counts : (w : World) (call : ℕ) (q : ProcessId) (n : Next) → collected_to (step w (Collect caller call q)).turn.answer ≡ Some n → Counts w (Collects call q) (Collect caller call q) n
-  collect-counts w call q n is = record { goes = tt; drained = tt; few = let none = collect-ends n (step w (Collect caller call q)).turn.answer is in omega (arith, none) }
+  collect-counts : (w : World) (call : ℕ) (q : ProcessId) (n : Next)
+      → collected_to (step w (Collect caller call q)).turn.answer ≡ Some n
+      → Counts w (Collects call q) (Collect caller call q) n
+  collect-counts w call q n is =
+      record {
+        goes = tt;
+        drained = tt;
+        few = let none = collect-ends n (step w (Collect caller call q)).turn.answer is
+            in omega (arith, none);
+      }
 
   -- only this process is asked
   abbrev pub Fixed : World → Type 0
@@ -127,4 +139,5 @@ module _ (caller : ℕ) (op : Asked) (p : ProcessId) where
       (ap (λ (x : ProcessId). asked_to (at 0 w.asked caller) x (step w (Ask caller op p)).turn.answer) (sym (fixed q serves))
       ∙ ap (λ (x : Event). asked_to (at 0 w.asked caller) q (step w x).turn.answer) (sym here) ∙ leads))
   own-counts w (Collects call q) e n drained fixed (is, leads) =
-      subst (λ (x : Event). Counts w (Collects call q) x n) (sym is) (collect-counts w call q n (ap (λ (x : Event). collected_to (step w x).turn.answer) (sym is) ∙ leads))
+      subst (λ (x : Event). Counts w (Collects call q) x n) (sym is)
+      (collect-counts w call q n (ap (λ (x : Event). collected_to (step w x).turn.answer) (sym is) ∙ leads))

@@ -7,4 +7,5 @@ pub bytes-preserved : goal.bytes-preserved
 bytes-preserved c = byte_added c.bytes.at c.args.dst.now c.args.src.now c.bytes.dst _ (sym c.requires) (omega arith) refl c.bytes.invariant
 
 pub returns : goal.returns
-returns c = all_written c.bytes.at c.args.dst.now _ c.bytes.dst (omega arith) (length-add_bytes c.args.dst.now c.args.src.now (sym c.requires)) c.bytes.invariant
+returns c = all_written c.bytes.at c.args.dst.now _ c.bytes.dst (omega arith)
+    (length-add_bytes c.args.dst.now c.args.src.now (sym c.requires)) c.bytes.invariant

@@ -10,7 +10,8 @@ pieces-preserved c =
     let p = c.piece-item.result in
     let bytes = c.bytes.ensures ∙ ap (λ (p : Piece). p.bytes) c.piece-item.is in
     let content = content_at c.args.pieces.now c.pieces.piece-index p c.pieces-test.true in
-    below_more (λ j. (at : ℕ) → entry (contents_of c.args.pieces.now) j at < 256) c.pieces.piece-index c.pieces.invariant (λ at. rw (content ∙ sym bytes) (c.read.ensures at))
+    below_more (λ j. (at : ℕ) → entry (contents_of c.args.pieces.now) j at < 256) c.pieces.piece-index
+    c.pieces.invariant (λ at. rw (content ∙ sym bytes) (c.read.ensures at))
 
 pub returns : goal.returns
 returns c = λ j at below. c.pieces.invariant j (omega (arith, below, c.pieces-test.false, c.pieces.auto.piece-index-end)) at

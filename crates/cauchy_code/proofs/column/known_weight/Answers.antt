@@ -15,5 +15,6 @@ coefficient-requires-clause-i c = number_holds (λ i. i < c.args.m) c.args.rows.
 pub rows-preserved : goal.rows-preserved
 rows-preserved c =
     let here = number_at c.args.rows.now c.rows.a c.index-rows-a.result c.rows-test.true in
-    ap (bit_xor c.rows.weight) (c.mul-weight.ensures ∙ ap (product (get_or c.args.weights.now c.rows.a 0)) (c.coefficient.ensures.value ∙ ap (λ i. coefficient c.args.m i c.args.d) (sym here)))
+    ap (bit_xor c.rows.weight) (c.mul-weight.ensures ∙ ap (product (get_or c.args.weights.now c.rows.a 0))
+    (c.coefficient.ensures.value ∙ ap (λ i. coefficient c.args.m i c.args.d) (sym here)))
     ∙ weight_more c.rows.a c.args.m (λ a. get_or c.args.weights.now a 0) c.args.rows.now c.args.d c.rows.weight _ _ c.rows.invariant refl refl

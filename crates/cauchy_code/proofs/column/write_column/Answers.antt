@@ -20,7 +20,9 @@ rows-preserved c =
     let p = c.index-rows-a.result in
     let content = content_at c.args.rows.now c.rows.a p c.rows-test.true in
     let long : length c.bytes.result.now ≡ length c.rows.into =
-    ap length c.bytes.ensures ∙ (All-get_or (λ (p : Piece). length p.bytes ≡ length c.args.into.now) c.args.rows.now c.rows.a p c.rows-test.true c.requires.rows_long ∙ sym c.rows.invariant.long) in
+    ap length c.bytes.ensures
+    ∙ (All-get_or (λ (p : Piece). length p.bytes ≡ length c.args.into.now) c.args.rows.now c.rows.a p
+    c.rows-test.true c.requires.rows_long ∙ sym c.rows.invariant.long) in
     record {
       long = ap length c.mul_add_into.ensures ∙ (length-add_scaled _ _ _ long ∙ c.rows.invariant.long);
       sum = λ at. ap (λ (bytes : List ℕ). get_or bytes at 0) c.mul_add_into.ensures
@@ -46,10 +48,13 @@ pub known-preserved : goal.known-preserved
 known-preserved c =
     let p = c.piece-item.result in
     let is = c.piece-item.is in
-    let bytes : c.bytes-in-known.result.now ≡ (get_or c.args.known.now c.known.piece-index p).bytes = c.bytes-in-known.ensures ∙ ap (λ (p : Piece). p.bytes) is in
+    let bytes : c.bytes-in-known.result.now ≡ (get_or c.args.known.now c.known.piece-index p).bytes =
+    c.bytes-in-known.ensures ∙ ap (λ (p : Piece). p.bytes) is in
     let content = content_at c.args.known.now c.known.piece-index p c.known-test.true in
     let long : length c.bytes-in-known.result.now ≡ length c.known.into =
-    ap length bytes ∙ (All-get_or (λ (p : Piece). length p.bytes ≡ length c.args.into.now) c.args.known.now c.known.piece-index p c.known-test.true c.requires.known_long ∙ sym c.known.invariant.long) in
+    ap length bytes
+    ∙ (All-get_or (λ (p : Piece). length p.bytes ≡ length c.args.into.now) c.args.known.now c.known.piece-index p
+    c.known-test.true c.requires.known_long ∙ sym c.known.invariant.long) in
     let number : p.number ≡ get_or (numbers_of c.args.known.now) c.known.piece-index 0 =
     ap (λ (p : Piece). p.number) is ∙ sym (number_at c.args.known.now c.known.piece-index p c.known-test.true) in
     record {
@@ -65,4 +70,5 @@ pub returns : goal.returns
 returns c =
     let all : c.known.piece-index ≡ length c.args.known.now = omega (arith, c.known-test.false, c.known.auto.piece-index-end) in
     λ at. c.known.invariant.sum at
-    ∙ ap (λ n. bit_xor (pieces_sum (length c.args.rows.now) (λ a. get_or c.args.weights.now a 0) c.args.rows.now at) (known_sum n c.args.m (λ a. get_or c.args.weights.now a 0) c.args.rows.now c.args.known.now at)) all
+    ∙ ap (λ n. bit_xor (pieces_sum (length c.args.rows.now) (λ a. get_or c.args.weights.now a 0) c.args.rows.now at)
+    (known_sum n c.args.m (λ a. get_or c.args.weights.now a 0) c.args.rows.now c.args.known.now at)) all

@@ -11,5 +11,6 @@ invariant-rows l = record {
 abbrev pub invariant-known : goal.invariant-known
 invariant-known l = record {
   long : length l.into ≡ length l.fn.into;
-  sum : (at : ℕ) → get_or l.into at 0 ≡ bit_xor (pieces_sum (length l.rows) (λ a. get_or l.weights a 0) l.rows at) (known_sum l.piece-index l.m (λ a. get_or l.weights a 0) l.rows l.known at);
+  sum : (at : ℕ) → get_or l.into at 0 ≡ bit_xor (pieces_sum (length l.rows) (λ a. get_or l.weights a 0) l.rows at)
+      (known_sum l.piece-index l.m (λ a. get_or l.weights a 0) l.rows l.known at);
 }

@@ -17,7 +17,9 @@ solve_any-requires-clause-known_below c =
 pub solve_any-requires-clause-few_known : goal.solve_any-requires-clause-few_known
 solve_any-requires-clause-few_known c =
     let known = c.args.known.now in
-    let few = at_most (numbers_of known) c.args.shape.k (differ_right c.args.lost.now (numbers_of known) c.requires.partitions.different) (All-right (λ x. x < c.args.shape.k) c.args.lost.now (numbers_of known) c.requires.partitions.below) in
+    let few = at_most (numbers_of known) c.args.shape.k
+    (differ_right c.args.lost.now (numbers_of known) c.requires.partitions.different)
+    (All-right (λ x. x < c.args.shape.k) c.args.lost.now (numbers_of known) c.requires.partitions.below) in
     omega (arith, few, c.m.ensures.in_range.k, length-map known (λ p. p.number), ap length c.pieces-2.ensures)
 
 pub returns : goal.returns
@@ -27,7 +29,8 @@ returns c =
     let all = All-left long (c.args.rows.now ++ c.args.known.now) c.args.out.now c.requires.long in
     let solved : IsSolved c.args.shape.m n c.args.lost.now c.args.rows.now c.args.known.now c.solve_any.new.out =
     rw (c.m.ensures.value, c.pieces.ensures, c.pieces-2.ensures) at c.solve_any.ensures.solved in
-    let is = decoded_from c.args.shape.k c.args.shape.m n c.args.lost.now c.args.rows.now c.args.known.now c.solve_any.new.out (omega (arith, c.m.ensures.in_range.k, c.m.ensures.in_range.m))
+    let is = decoded_from c.args.shape.k c.args.shape.m n c.args.lost.now c.args.rows.now c.args.known.now
+    c.solve_any.new.out (omega (arith, c.m.ensures.in_range.k, c.m.ensures.in_range.m))
     c.requires.partitions c.requires.rows_differ c.requires.rows_below c.requires.as_many (rw c.solve_any.ensures.numbers c.requires.out)
     (All-left long c.args.rows.now c.args.known.now all) (All-right long c.args.rows.now c.args.known.now all) solved in
     record { numbers = c.solve_any.ensures.numbers; kept = c.solve_any.ensures.kept; agrees = is.agrees; only = is.only; closed_form = is.closed }

@@ -5,8 +5,12 @@ use Rattle.cauchy_code.proofs.pass.add_pairs.Given as goal
 abbrev pub invariant-pairs : goal.invariant-pairs
 invariant-pairs l = record {
   within : l.j ≤ length l.pieces;
-  first : (k x : ℕ) → k < l.len → get_or l.fn.first k 0 ≡ bit_xor x (pieces_sum l.from (λ a. get_or l.in_first a 0) l.pieces (l.at + k)) → get_or l.first k 0 ≡ bit_xor x (pieces_sum l.j (λ a. get_or l.in_first a 0) l.pieces (l.at + k));
-  second : (k x : ℕ) → k < l.len → get_or l.fn.second k 0 ≡ bit_xor x (pieces_sum l.from (λ a. get_or l.in_second a 0) l.pieces (l.at + k)) → get_or l.second k 0 ≡ bit_xor x (pieces_sum l.j (λ a. get_or l.in_second a 0) l.pieces (l.at + k));
+  first : (k x : ℕ) → k < l.len
+      → get_or l.fn.first k 0 ≡ bit_xor x (pieces_sum l.from (λ a. get_or l.in_first a 0) l.pieces (l.at + k))
+      → get_or l.first k 0 ≡ bit_xor x (pieces_sum l.j (λ a. get_or l.in_first a 0) l.pieces (l.at + k));
+  second : (k x : ℕ) → k < l.len
+      → get_or l.fn.second k 0 ≡ bit_xor x (pieces_sum l.from (λ a. get_or l.in_second a 0) l.pieces (l.at + k))
+      → get_or l.second k 0 ≡ bit_xor x (pieces_sum l.j (λ a. get_or l.in_second a 0) l.pieces (l.at + k));
 }
 
 abbrev pub decreases-pairs : goal.decreases-pairs

@@ -11,10 +11,14 @@ returns c =
     let known = c.args.known.now in
     let summed = λ (w : Weights) (started : IsStarted w) (k : ℕ) (below : k < length c.args.a.now).
     let at = c.args.at + k in
-    let in_p = part_at rows 0 at (get_or c.part-p.result.now k 0) c.index-rows-0.result (omega (arith, c.requires.two_rows)) c.index-rows-0.is (c.part-p.ensures.bytes k below) in
-    let in_q = part_at rows 1 at (get_or c.part-q.result.now k 0) c.index-rows-1.result (omega (arith, c.requires.two_rows)) c.index-rows-1.is (c.part-q.ensures.bytes k below) in
-    let in_r = part_at known 0 at (get_or c.part-r.result.now k 0) c.index-known-0.result (omega (arith, c.requires.two_known)) c.index-known-0.is (c.part-r.ensures.bytes k below) in
-    let in_s = part_at known 1 at (get_or c.part-s.result.now k 0) c.index-known-1.result (omega (arith, c.requires.two_known)) c.index-known-1.is (c.part-s.ensures.bytes k below) in
+    let in_p = part_at rows 0 at (get_or c.part-p.result.now k 0) c.index-rows-0.result
+    (omega (arith, c.requires.two_rows)) c.index-rows-0.is (c.part-p.ensures.bytes k below) in
+    let in_q = part_at rows 1 at (get_or c.part-q.result.now k 0) c.index-rows-1.result
+    (omega (arith, c.requires.two_rows)) c.index-rows-1.is (c.part-q.ensures.bytes k below) in
+    let in_r = part_at known 0 at (get_or c.part-r.result.now k 0) c.index-known-0.result
+    (omega (arith, c.requires.two_known)) c.index-known-0.is (c.part-r.ensures.bytes k below) in
+    let in_s = part_at known 1 at (get_or c.part-s.result.now k 0) c.index-known-1.result
+    (omega (arith, c.requires.two_known)) c.index-known-1.is (c.part-s.ensures.bytes k below) in
     start_added (length c.args.a.now) w.start c.part-p.result.now c.part-q.result.now c.part-r.result.now c.part-s.result.now
     c.part-p.ensures.length c.part-q.ensures.length c.part-r.ensures.length c.part-s.ensures.length
     (λ q. get_or w.rows q 0) (λ q. get_or w.known q 0) rows known at k started.row started.next_row started.column started.next_column in_p in_q in_r in_s in

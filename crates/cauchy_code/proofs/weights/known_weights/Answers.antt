@@ -10,4 +10,5 @@ known_weight-requires-clause-d c = number_holds (λ d. d ≤ 15) c.args.known.no
 pub known-preserved : goal.known-preserved
 known-preserved c =
     let weight = known_weight (length c.args.rows.now) c.args.m (λ a. get_or c.args.by.now a 0) c.args.rows.now in
-    one_made weight c.args.known.now c.known.j _ c.index-known-j.result c.known.all c.requires.few_known c.known-test.true c.known_weight.ensures c.known.invariant
+    one_made weight c.args.known.now c.known.j _ c.index-known-j.result c.known.all c.requires.few_known
+    c.known-test.true c.known_weight.ensures c.known.invariant

@@ -18,7 +18,9 @@ pub groups-preserved : goal.groups-preserved
 groups-preserved c =
     let low : c.groups.group < length c.args.cluster.now.groups.worlds = subst (λ (n : ℕ). c.groups.group < n) c.groups-group-end.ensures c.groups-test.true in
     record {
-      drained = Drained-more c.args.cluster.now c.groups.cluster c.drain_group.new.cluster c.groups.group c.args.text.now.items c.groups.text.items c.drain_group.new.text.items
-          c.groups.count c.in_ok-count.field-0 c.groups.invariant.drained low c.in_ok-count.ensures.cluster c.in_ok-count.ensures.text c.in_ok-count.ensures.count;
+      drained = Drained-more c.args.cluster.now c.groups.cluster c.drain_group.new.cluster c.groups.group
+          c.args.text.now.items c.groups.text.items c.drain_group.new.text.items
+          c.groups.count c.in_ok-count.field-0 c.groups.invariant.drained low c.in_ok-count.ensures.cluster
+          c.in_ok-count.ensures.text c.in_ok-count.ensures.count;
       within = omega (arith, low);
     }

@@ -12,4 +12,5 @@ returns-clause-ok c =
     let app = number_app c.args.name.now in
     let rows = c.in_ok-matches.ensures.rows ∙ ap (λ (a : App). matches_of a words) c.in_ok-one_number.ensures in
     ok app (app_of c.in_ok-one_number.field-0) words (number_at most_64 (matches_of app words) (codes "number")) c.number.result c.ok_or.result
-    c.in_ok-one_number.ensures c.in_ok-matches.ensures.taken (c.number.ensures ∙ ap (λ (rs : List Row). number_at most_64 rs (codes "number")) rows) c.ok_or.ensures.value
+    c.in_ok-one_number.ensures c.in_ok-matches.ensures.taken
+    (c.number.ensures ∙ ap (λ (rs : List Row). number_at most_64 rs (codes "number")) rows) c.ok_or.ensures.value

@@ -8,7 +8,8 @@ pub returns : goal.returns
 returns c =
     let small : c.args.register < 2 ^ 64 = omega (arith, c.ranges.register.fits) in
     let widened : bit_xor c.from.result c.args.eight ≡ bit_xor c.args.register c.args.eight = ap (λ k. bit_xor k c.args.eight) c.from.ensures in
-    let lt : bit_xor c.from.result c.args.eight < 2 ^ 64 = subst (λ k. k < 2 ^ 64) (sym widened) (xor_lt 64 c.args.register c.args.eight small c.ranges.eight.fits) in
+    let lt : bit_xor c.from.result c.args.eight < 2 ^ 64 =
+    subst (λ k. k < 2 ^ 64) (sym widened) (xor_lt 64 c.args.register c.args.eight small c.ranges.eight.fits) in
     tables_sum (bit_xor c.from.result c.args.eight) c.to_le_bytes.result _ _ _ _ _ _ _ _ lt c.to_le_bytes.ensures
     (record {
       is_eight = c.eight_bytes.ensures;

@@ -16,7 +16,9 @@ returns-in-Ok-clause-seat g c =
     let us : List Update = up_to c.args.base c.for_list.new.replica.replica in
     let owed = λ (q : List ℕ). false || is_touched c.args.list.now q in
     record {
-      stands = stands-as (stands-as {s = c.tidy.new.replica} (stands-adopted {s = c.adopt.new.self} c.args.replica.now.replica c.args.base c.args.list.now c.in-Ok.field-0.copy c.settle_to.ensures.stands c.requires.fits.reached
+      stands = stands-as
+          (stands-as {s = c.tidy.new.replica} (stands-adopted {s = c.adopt.new.self} c.args.replica.now.replica
+          c.args.base c.args.list.now c.in-Ok.field-0.copy c.settle_to.ensures.stands c.requires.fits.reached
           (c.settle_to.ensures.settled.applied.replica ∙ ap (applied_to c.args.base) c.for_list.ensures.same.replica) c.in-Ok.ensures.copy
           c.adopt.ensures.shape c.adopt.ensures.replica (λ k u lt. c.settle_to.ensures.stays.kept c.args.partition.0 _ (c.in-Ok.ensures.ready.1 k u lt)))
           c.tidy.ensures.shape c.tidy.ensures.replica) c.tidy_all.ensures.shape c.tidy_all.ensures.replica;

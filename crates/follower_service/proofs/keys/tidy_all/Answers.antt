@@ -21,7 +21,9 @@ updates-preserved c = record {
   owed = λ owed tidy q is. tidied (is_needed c.tidy.new.self.replica.items c.tidy.new.self.replica.log q) (owed q) (same_key c.update-item.result.key q)
       (is_touched (rest c) q)
       (c.tidy.ensures.owed (λ p. owed p || (same_key c.update-item.result.key p || is_touched (rest c) p))
-      (λ p ready. subst (λ (xs : List Update). (is_needed c.updates.replica.replica.items c.updates.replica.replica.log p || (owed p || is_touched xs p)) ≡ true) (front c)
+      (λ p ready. subst
+      (λ (xs : List Update). (is_needed c.updates.replica.replica.items c.updates.replica.replica.log p ||
+      (owed p || is_touched xs p)) ≡ true) (front c)
       (c.updates.invariant.owed owed tidy p ready)) q is);
 }
 

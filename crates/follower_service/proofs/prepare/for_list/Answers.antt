@@ -20,7 +20,9 @@ makes-end : (b c : Storage) (n : ℕ) (us vs : List Update) → us ≡ vs → Ma
     → MakesReady (AllMiss b.shape.block vs) b c
 makes-end b c n us vs same makes = record {
   shape = makes.shape;
-  pages = last-ones b.shape.block n vs b.made c.made (subst (λ (ws : List Update). MakesNoneOf (AllMiss b.shape.block ws) b.made c.made) (ends n us vs same) makes.pages);
+  pages = last-ones b.shape.block n vs b.made c.made
+      (subst (λ (ws : List Update). MakesNoneOf (AllMiss b.shape.block ws) b.made c.made) (ends n us vs same)
+      makes.pages);
   kept = makes.kept;
 }
 
@@ -32,21 +34,25 @@ reserve_all-requires-clause-writes g c =
     let space : ℕ = space_of c.args.replica.now.shape in
     let applied : Replica = applied_to b r in
     let count : r.applied - b ≡ n = grind (arith, common_steps) in
-    subst (All (λ (u : Update). Writes (space_of (g.B.Beneath.storage c.args.below.now).shape) u.body)) (sym (ends n c.updates.result.now c.args.list.now c.updates.ensures))
+    subst (All (λ (u : Update). Writes (space_of (g.B.Beneath.storage c.args.below.now).shape) u.body))
+    (sym (ends n c.updates.result.now c.args.list.now c.updates.ensures))
     (subst (λ (s : Dimensions). All (λ (u : Update). Writes (space_of s) u.body) (drop n c.args.list.now)) (sym c.requires.seat.stands.shape)
     (subst (λ (m : ℕ). All (λ (u : Update). Writes space u.body) (drop m c.args.list.now)) (known b r c.requires.fits.reached ∙ count)
     (come-writes space (with_log [] applied) (drop (applied.applied - b) c.args.list.now) c.requires.fits.come)))
 
 pub returns-in_err-reserve_all-clause-makes : goal.returns-in_err-reserve_all-clause-makes
-returns-in_err-reserve_all-clause-makes g c = makes-end (g.B.Beneath.storage c.args.below.now) (g.B.Beneath.storage c.reserve_all.new.below) c.saturating_sub-known.result
+returns-in_err-reserve_all-clause-makes g c = makes-end (g.B.Beneath.storage c.args.below.now)
+    (g.B.Beneath.storage c.reserve_all.new.below) c.saturating_sub-known.result
     c.updates.result.now c.args.list.now c.updates.ensures c.reserve_all.ensures.makes
 
 pub returns-in_err-copy_all-clause-makes : goal.returns-in_err-copy_all-clause-makes
-returns-in_err-copy_all-clause-makes g c = makes-end (g.B.Beneath.storage c.args.below.now) (g.B.Beneath.storage c.reserve_all.new.below) c.saturating_sub-known.result
+returns-in_err-copy_all-clause-makes g c = makes-end (g.B.Beneath.storage c.args.below.now)
+    (g.B.Beneath.storage c.reserve_all.new.below) c.saturating_sub-known.result
     c.updates.result.now c.args.list.now c.updates.ensures c.reserve_all.ensures.makes
 
 pub returns-in_err-room-clause-makes : goal.returns-in_err-room-clause-makes
-returns-in_err-room-clause-makes g c = makes-end (g.B.Beneath.storage c.args.below.now) (g.B.Beneath.storage c.reserve_all.new.below) c.saturating_sub-known.result
+returns-in_err-room-clause-makes g c = makes-end (g.B.Beneath.storage c.args.below.now)
+    (g.B.Beneath.storage c.reserve_all.new.below) c.saturating_sub-known.result
     c.updates.result.now c.args.list.now c.updates.ensures c.reserve_all.ensures.makes
 
 pub returns-clause-makes : goal.returns-clause-makes

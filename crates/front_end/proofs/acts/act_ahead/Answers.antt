@@ -12,8 +12,12 @@ returns-then-is_order c =
     let e : drop c.requests.request-index c.args.requests.now ≡ c.request-item.result ∷ drop (c.requests.request-index + 1) c.args.requests.now =
     drop_more c.args.requests.now c.requests.request-index c.request-item.result c.requests-test.true
     ∙ ap (λ (r : Request). r ∷ drop (c.requests.request-index + 1) c.args.requests.now) (sym c.request-item.is) in
-    act-none c.request-item.result (drop (c.requests.request-index + 1) c.args.requests.now) c.requests.keys c.requests.left (c.is_order.ensures.order c.if-is_order.true c.requests.keys (drop (c.requests.request-index + 1) c.args.requests.now))
-    ∙ (front-as (λ ws. slice_get (acts_ahead ws) c.requests.left) c.args.requests.now c.requests.request-index c.requests.keys c.request-item.result e ∙ c.requests.invariant)
+    act-none c.request-item.result (drop (c.requests.request-index + 1) c.args.requests.now) c.requests.keys
+    c.requests.left
+    (c.is_order.ensures.order c.if-is_order.true c.requests.keys
+    (drop (c.requests.request-index + 1) c.args.requests.now))
+    ∙ (front-as (λ ws. slice_get (acts_ahead ws) c.requests.left) c.args.requests.now c.requests.request-index
+    c.requests.keys c.request-item.result e ∙ c.requests.invariant)
 
 pub returns-then-left-count : goal.returns-then-left-count
 returns-then-left-count c =
@@ -21,9 +25,12 @@ returns-then-left-count c =
     drop_more c.args.requests.now c.requests.request-index c.request-item.result c.requests-test.true
     ∙ ap (λ (r : Request). r ∷ drop (c.requests.request-index + 1) c.args.requests.now) (sym c.request-item.is) in
     subst (λ (o : Option Act). IfOk c.act_of.result (λ found. found ≡ o))
-    (act-here c.request-item.result (drop (c.requests.request-index + 1) c.args.requests.now) c.requests.keys c.requests.left (c.is_order.ensures.other c.if-is_order.false c.requests.keys (drop (c.requests.request-index + 1) c.args.requests.now))
+    (act-here c.request-item.result (drop (c.requests.request-index + 1) c.args.requests.now) c.requests.keys
+    c.requests.left (c.is_order.ensures.other c.if-is_order.false c.requests.keys
+    (drop (c.requests.request-index + 1) c.args.requests.now))
     (omega (arith, c.if-left-count.true, c.count_acts-count.ensures))
-    ∙ (front-as (λ ws. slice_get (acts_ahead ws) c.requests.left) c.args.requests.now c.requests.request-index c.requests.keys c.request-item.result e ∙ c.requests.invariant))
+    ∙ (front-as (λ ws. slice_get (acts_ahead ws) c.requests.left) c.args.requests.now c.requests.request-index
+    c.requests.keys c.request-item.result e ∙ c.requests.invariant))
     c.act_of.ensures
 
 pub requests-preserved : goal.requests-preserved
@@ -31,6 +38,9 @@ requests-preserved c =
     let e : drop c.requests.request-index c.args.requests.now ≡ c.request-item.result ∷ drop (c.requests.request-index + 1) c.args.requests.now =
     drop_more c.args.requests.now c.requests.request-index c.request-item.result c.requests-test.true
     ∙ ap (λ (r : Request). r ∷ drop (c.requests.request-index + 1) c.args.requests.now) (sym c.request-item.is) in
-    act-behind c.request-item.result (drop (c.requests.request-index + 1) c.args.requests.now) c.requests.keys c.requests.left c.count_acts-count.result (c.is_order.ensures.other c.if-is_order.false c.requests.keys (drop (c.requests.request-index + 1) c.args.requests.now))
+    act-behind c.request-item.result (drop (c.requests.request-index + 1) c.args.requests.now) c.requests.keys
+    c.requests.left c.count_acts-count.result (c.is_order.ensures.other c.if-is_order.false c.requests.keys
+    (drop (c.requests.request-index + 1) c.args.requests.now))
     c.count_acts-count.ensures (omega (arith, c.if-left-count.false))
-    ∙ (front-as (λ ws. slice_get (acts_ahead ws) c.requests.left) c.args.requests.now c.requests.request-index c.requests.keys c.request-item.result e ∙ c.requests.invariant)
+    ∙ (front-as (λ ws. slice_get (acts_ahead ws) c.requests.left) c.args.requests.now c.requests.request-index
+    c.requests.keys c.request-item.result e ∙ c.requests.invariant)

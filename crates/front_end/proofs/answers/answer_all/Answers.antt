@@ -16,4 +16,5 @@ requests-preserved g c = record {
 }
 
 pub returns-in_err-answer_next-clause-answer : goal.returns-in_err-answer_next-clause-answer
-returns-in_err-answer_next-clause-answer g c = on_fault _ _ c.from_residual.result _ c.from_residual.ensures.1 (up_to-broken _ _ _ _ _ _ _ _ c.requests.invariant.up_to c.in_err-answer_next.ensures.broken)
+returns-in_err-answer_next-clause-answer g c = on_fault _ _ c.from_residual.result _ c.from_residual.ensures.1
+    (up_to-broken _ _ _ _ _ _ _ _ c.requests.invariant.up_to c.in_err-answer_next.ensures.broken)

@@ -5,7 +5,9 @@ use Rattle.front_end.proofs.answers.answer_all.Given as goal
 
 abbrev pub invariant-requests : goal.invariant-requests
 invariant-requests g l = record {
-  up_to : AnsweredUpTo g.C.Caller.ways (g.T.Clock.moment l.clock) (stand l.initial.caller (g.K.Sink.held l.initial.sink)) (stand l.caller (g.K.Sink.held l.sink)) l.initial.connection.waiting l.connection.waiting;
+  up_to : AnsweredUpTo g.C.Caller.ways (g.T.Clock.moment l.clock)
+      (stand l.initial.caller (g.K.Sink.held l.initial.sink)) (stand l.caller (g.K.Sink.held l.sink))
+      l.initial.connection.waiting l.connection.waiting;
   kept : l.connection.kept ≡ l.initial.connection.kept;
   quits : l.connection.quits ≡ l.initial.connection.quits;
   count : l.connection.count ≡ l.initial.connection.count;

@@ -5,7 +5,9 @@ use Rattle.front_end.proofs.serve.serve_pieces.Given as goal
 
 abbrev pub invariant-pieces : goal.invariant-pieces
 invariant-pieces g l = record {
-  goes : GoesOn g.C.Caller.ways (g.T.Clock.moment l.clock) (g.S.Source.input l.initial.source) (g.S.Source.input l.source) (stand l.initial.caller (g.K.Sink.held l.initial.sink)) (stand l.caller (g.K.Sink.held l.sink)) l.connection.kept l.connection.count;
+  goes : GoesOn g.C.Caller.ways (g.T.Clock.moment l.clock) (g.S.Source.input l.initial.source)
+      (g.S.Source.input l.source) (stand l.initial.caller (g.K.Sink.held l.initial.sink))
+      (stand l.caller (g.K.Sink.held l.sink)) l.connection.kept l.connection.count;
   idle : l.connection.waiting ≡ [];
   within : l.connection.count ≤ 4611686018427387904;
   read_later : g.S.Source.faults l.initial.source ≤ g.S.Source.faults l.source;

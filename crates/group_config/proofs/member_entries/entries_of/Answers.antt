@@ -12,7 +12,8 @@ returns-in_err-entry_of c =
     let found : c.entry_of.result ≡ Err c.in_err-entry_of.field-0.0 = search rules in
     let told : c.from_residual.result ≡ Err c.in_err-entry_of.field-0.0 = search rules in
     subst (Answers (entries_of (items_view c.args.items.now))) (sym told)
-    (left-fails c.left.members c.left.left.now c.in-Some.rest.now c.in-Some.first.now (entries_of (items_view c.args.items.now)) c.in_err-entry_of.field-0.0 is c.left.invariant
+    (left-fails c.left.members c.left.left.now c.in-Some.rest.now c.in-Some.first.now
+    (entries_of (items_view c.args.items.now)) c.in_err-entry_of.field-0.0 is c.left.invariant
     (subst (Answers (entry_of (view c.in-Some.first.now))) found c.entry_of.ensures))
 
 pub left-preserved : goal.left-preserved
@@ -21,5 +22,6 @@ left-preserved c =
     let found : c.entry_of.result ≡ Ok c.in_ok-entry_of.field-0 = search rules in
     let pushed : c.push.new.self ≡ c.left.members ++ c.in_ok-entry_of.field-0 ∷ [] = search rules in
     ap (λ (es : List MemberEntry). behind es (entries_of (items_view c.in-Some.rest.now))) pushed
-    ∙ left-next c.left.members c.left.left.now c.in-Some.rest.now c.in-Some.first.now (entries_of (items_view c.args.items.now)) c.in_ok-entry_of.field-0 is c.left.invariant
+    ∙ left-next c.left.members c.left.left.now c.in-Some.rest.now c.in-Some.first.now
+    (entries_of (items_view c.args.items.now)) c.in_ok-entry_of.field-0 is c.left.invariant
     (subst (Answers (entry_of (view c.in-Some.first.now))) found c.entry_of.ensures)

@@ -11,9 +11,11 @@ pub nodes-preserved : goal.nodes-preserved
 nodes-preserved c =
     let below : c.nodes.x < length c.nodes.nodes = omega (arith, c.nodes-test.true, c.nodes.invariant.many) in
     record {
-      told = next-told c.args.down (nodes_of c.args.nodes.now) c.nodes.nodes c.nodes.x c.tell_down.new.self c.index-nodes-x.result below (c.nodes.invariant.many ∙ sym (many-nodes c.args.nodes.now))
+      told = next-told c.args.down (nodes_of c.args.nodes.now) c.nodes.nodes c.nodes.x c.tell_down.new.self
+          c.index-nodes-x.result below (c.nodes.invariant.many ∙ sym (many-nodes c.args.nodes.now))
           c.nodes.invariant.told (ap (λ (x : NodeStanding). x.node) c.tell_down.ensures);
       shapes = λ s all. All-set (λ x. x.shape ≡ s) c.nodes.nodes c.nodes.x c.tell_down.new.self
-          (ap (λ (x : NodeStanding). x.shape) c.tell_down.ensures ∙ c.nodes.invariant.shapes s all c.nodes.x c.index-nodes-x.result below) (c.nodes.invariant.shapes s all);
+          (ap (λ (x : NodeStanding). x.shape) c.tell_down.ensures ∙ c.nodes.invariant.shapes s all c.nodes.x
+          c.index-nodes-x.result below) (c.nodes.invariant.shapes s all);
       many = length-set c.nodes.nodes c.nodes.x c.tell_down.new.self ∙ c.nodes.invariant.many;
     }

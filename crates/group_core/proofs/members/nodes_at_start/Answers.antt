@@ -21,6 +21,8 @@ processes-preserved c =
     record {
       all = ap (λ (xs : List NodeStanding). nodes_of xs ++ map f (range_with_len (x + 1) (c.args.count - (x + 1)))) pushed
           ∙ next-made f items new x c.args.count _ c.processes-test.true c.processes.invariant.all made;
-      shapes = subst (AreOf c.args.shape) (sym pushed) (All-push (λ z. z.shape ≡ c.args.shape) items new c.processes.invariant.shapes (ap (λ (z : NodeStanding). z.shape) c.in_ok-new.ensures));
+      shapes = subst (AreOf c.args.shape) (sym pushed)
+          (All-push (λ z. z.shape ≡ c.args.shape) items new c.processes.invariant.shapes
+          (ap (λ (z : NodeStanding). z.shape) c.in_ok-new.ensures));
       many = ap length pushed ∙ length-append items (new ∷ []) ∙ ap (λ (n : ℕ). n + 1) c.processes.invariant.many;
     }

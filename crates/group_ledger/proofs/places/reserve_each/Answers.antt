@@ -15,7 +15,8 @@ partitions-preserved c =
     let within : c.partitions.d < length c.partitions.places = grind (arith, common_steps) in
     let room : vec_len c.reserve.new.self + c.args.room ≤ vec_capacity c.reserve.new.self = grind (arith, common_steps) in
     record {
-      items = items-kept c.partitions.places c.partitions.d c.index-places-d.result c.reserve.new.self within c.reserve.ensures.items ∙ c.partitions.invariant.items;
+      items = items-kept c.partitions.places c.partitions.d c.index-places-d.result c.reserve.new.self within
+          c.reserve.ensures.items ∙ c.partitions.invariant.items;
       many = length-set c.partitions.places c.partitions.d c.reserve.new.self ∙ c.partitions.invariant.many;
       room = below-set (λ (v : Vec (Option Run) Global). vec_len v + c.args.room ≤ vec_capacity v) c.partitions.places c.partitions.d c.reserve.new.self within
           c.partitions.invariant.room room;

@@ -30,8 +30,10 @@ pub settle_partition-requires-clause-places_room :
 settle_partition-requires-clause-places_room c =
     let d : ℕ = c.partitions.d in
     let p : Vec (Option Run) Global = c.index-places-d.result in
-    let same : get_or c.partitions.places d p ≡ get_or c.args.places.now d p = alike-at c.partitions.places c.args.places.now d p c.partitions.invariant.ahead in
-    subst (λ (v : Vec (Option Run) Global). vec_len v + length c.args.settled.now ≤ vec_capacity v) (sym same) (c.requires.places_room d p c.partitions-test.true)
+    let same : get_or c.partitions.places d p ≡ get_or c.args.places.now d p =
+    alike-at c.partitions.places c.args.places.now d p c.partitions.invariant.ahead in
+    subst (λ (v : Vec (Option Run) Global). vec_len v + length c.args.settled.now ≤ vec_capacity v) (sym same)
+    (c.requires.places_room d p c.partitions-test.true)
 
 pub partitions-preserved : goal.partitions-preserved
 partitions-preserved c =

@@ -33,7 +33,8 @@ settled-preserved c =
     let longer : length c.settle.new.places.items ≡ length c.settled.places.items + 1 = ap length places-are
     ∙ length-append c.settled.places.items (run_of x.update.body ∷ []) in
     record {
-      left = left-settled d c.len-count.result (drop i all) rest x c.settled.log.items c.settle.new.log.items _ c.settled.places.items c.settle.new.places.items _
+      left = left-settled d c.len-count.result (drop i all) rest x c.settled.log.items c.settle.new.log.items _
+          c.settled.places.items c.settle.new.places.items _
           c.settled.tickets c.settle.new.tickets _ front new log-is places-are tickets-are c.settled.invariant.left;
       count = refl;
       few = grind (arith, common_steps);

@@ -24,8 +24,10 @@ pub messages-preserved : goal.messages-preserved
 messages-preserved c =
     let step = c.in-Some.ensures.steps in
     record {
-      sends = sends-on c.args.shape c.args.known c.in-Some.one c.args.sent.items (into_iter_items c.next.new.self) c.args.links.now c.messages.links c.send.new.links
-          (subst (λ (rest : List Sent). IsSending c.args.shape c.args.known c.args.sent.items rest c.args.links.now c.messages.links) step.0 c.messages.invariant.sends)
+      sends = sends-on c.args.shape c.args.known c.in-Some.one c.args.sent.items (into_iter_items c.next.new.self)
+          c.args.links.now c.messages.links c.send.new.links
+          (subst (λ (rest : List Sent). IsSending c.args.shape c.args.known c.args.sent.items rest c.args.links.now
+          c.messages.links) step.0 c.messages.invariant.sends)
           c.send.ensures.many c.send.ensures.messages c.send.ensures.room;
       long = let one = ap length step.0 in let before = c.messages.invariant.long in let fewer = step.1 in omega (arith, one, before, fewer);
     }

@@ -14,6 +14,11 @@ returns-in-Ok-clause-told g c =
     let text = c.as_bytes.ensures.value ∙ c.carry_line.ensures in
     record {
       is = inl (ap BadConfig c.status_key.ensures);
-      line = inr (record { count = length line; bytes = subst (Appends held held_now) (text ∙ sym (take-length line)) c.in-Ok.ensures.whole; whole = inl (omega arith) });
+      line = inr (record {
+        count = length line;
+        bytes = subst (Appends held held_now) (text ∙ sym (take-length line))
+            c.in-Ok.ensures.whole;
+        whole = inl (omega arith);
+      });
       front = subst (HasWritten held held_now) text c.write_all.ensures.part;
     }

@@ -15,41 +15,60 @@ use Rattle.group_program.proofs.program.run_program.Goals as goal
 pub returns-in-Ok-clause-ran : goal.returns-in-Ok-clause-ran
 returns-in-Ok-clause-ran g c =
     let said : command_of (map (string_bytes {Z = Global}) c.args.words.now) ≡ Some c.in-Ok.command = search rules in
-    inl (subst (λ (o : Option Command). HasCarriedOut g.L.Listener.listened (λ l. tally (g.L.Listener.at l) (g.L.Listener.accepted l) (g.L.Listener.over l)) c.args.listener.now c.run_command.new.listener o (g.T.Clock.moment c.args.clock.now)
+    inl (subst (λ (o : Option Command). HasCarriedOut g.L.Listener.listened
+    (λ l. tally (g.L.Listener.at l) (g.L.Listener.accepted l) (g.L.Listener.over l)) c.args.listener.now
+    c.run_command.new.listener o (g.T.Clock.moment c.args.clock.now)
     (outside (g.S.Source.input c.args.source.now) (g.S.Source.faults c.args.source.now) (g.K.Sink.held c.args.sink.now) (g.K.Sink.faults c.args.sink.now))
-    (outside (g.S.Source.input c.run_command.new.source) (g.S.Source.faults c.run_command.new.source) (g.K.Sink.held c.run_command.new.sink) (g.K.Sink.faults c.run_command.new.sink))
+    (outside (g.S.Source.input c.run_command.new.source) (g.S.Source.faults c.run_command.new.source)
+    (g.K.Sink.held c.run_command.new.sink) (g.K.Sink.faults c.run_command.new.sink))
     c.run_command.result) (sym said) c.run_command.ensures.ran)
 
 pub returns-in-Ok-clause-promises : goal.returns-in-Ok-clause-promises
 returns-in-Ok-clause-promises g c play done =
     let said : command_of (map (string_bytes {Z = Global}) c.args.words.now) ≡ Some c.in-Ok.command = search rules in
-    played_whole group_scripts _ _ c.run_command.result (subst (λ (o : Option Command). HasCarriedOut g.L.Listener.listened (λ l. tally (g.L.Listener.at l) (g.L.Listener.accepted l) (g.L.Listener.over l)) c.args.listener.now c.run_command.new.listener o (g.T.Clock.moment c.args.clock.now)
+    played_whole group_scripts _ _ c.run_command.result
+    (subst (λ (o : Option Command). HasCarriedOut g.L.Listener.listened
+    (λ l. tally (g.L.Listener.at l) (g.L.Listener.accepted l) (g.L.Listener.over l)) c.args.listener.now
+    c.run_command.new.listener o (g.T.Clock.moment c.args.clock.now)
     (outside (g.S.Source.input c.args.source.now) (g.S.Source.faults c.args.source.now) (g.K.Sink.held c.args.sink.now) (g.K.Sink.faults c.args.sink.now))
-    (outside (g.S.Source.input c.run_command.new.source) (g.S.Source.faults c.run_command.new.source) (g.K.Sink.held c.run_command.new.sink) (g.K.Sink.faults c.run_command.new.sink))
+    (outside (g.S.Source.input c.run_command.new.source) (g.S.Source.faults c.run_command.new.source)
+    (g.K.Sink.held c.run_command.new.sink) (g.K.Sink.faults c.run_command.new.sink))
     c.run_command.result) (sym said ∙ play) c.run_command.ensures.ran) done
 
 pub returns-in-Ok-clause-cluster_promises : goal.returns-in-Ok-clause-cluster_promises
 returns-in-Ok-clause-cluster_promises g c play done =
     let said : command_of (map (string_bytes {Z = Global}) c.args.words.now) ≡ Some c.in-Ok.command = search rules in
-    played_whole cluster_scripts _ _ c.run_command.result (subst (λ (o : Option Command). HasCarriedOut g.L.Listener.listened (λ l. tally (g.L.Listener.at l) (g.L.Listener.accepted l) (g.L.Listener.over l)) c.args.listener.now c.run_command.new.listener o (g.T.Clock.moment c.args.clock.now)
+    played_whole cluster_scripts _ _ c.run_command.result
+    (subst (λ (o : Option Command). HasCarriedOut g.L.Listener.listened
+    (λ l. tally (g.L.Listener.at l) (g.L.Listener.accepted l) (g.L.Listener.over l)) c.args.listener.now
+    c.run_command.new.listener o (g.T.Clock.moment c.args.clock.now)
     (outside (g.S.Source.input c.args.source.now) (g.S.Source.faults c.args.source.now) (g.K.Sink.held c.args.sink.now) (g.K.Sink.faults c.args.sink.now))
-    (outside (g.S.Source.input c.run_command.new.source) (g.S.Source.faults c.run_command.new.source) (g.K.Sink.held c.run_command.new.sink) (g.K.Sink.faults c.run_command.new.sink))
+    (outside (g.S.Source.input c.run_command.new.source) (g.S.Source.faults c.run_command.new.source)
+    (g.K.Sink.held c.run_command.new.sink) (g.K.Sink.faults c.run_command.new.sink))
     c.run_command.result) (sym said ∙ play) c.run_command.ensures.ran) done
 
 pub returns-in-Ok-clause-era_promises : goal.returns-in-Ok-clause-era_promises
 returns-in-Ok-clause-era_promises g c play done =
     let said : command_of (map (string_bytes {Z = Global}) c.args.words.now) ≡ Some c.in-Ok.command = search rules in
-    played_whole era_scripts _ _ c.run_command.result (subst (λ (o : Option Command). HasCarriedOut g.L.Listener.listened (λ l. tally (g.L.Listener.at l) (g.L.Listener.accepted l) (g.L.Listener.over l)) c.args.listener.now c.run_command.new.listener o (g.T.Clock.moment c.args.clock.now)
+    played_whole era_scripts _ _ c.run_command.result
+    (subst (λ (o : Option Command). HasCarriedOut g.L.Listener.listened
+    (λ l. tally (g.L.Listener.at l) (g.L.Listener.accepted l) (g.L.Listener.over l)) c.args.listener.now
+    c.run_command.new.listener o (g.T.Clock.moment c.args.clock.now)
     (outside (g.S.Source.input c.args.source.now) (g.S.Source.faults c.args.source.now) (g.K.Sink.held c.args.sink.now) (g.K.Sink.faults c.args.sink.now))
-    (outside (g.S.Source.input c.run_command.new.source) (g.S.Source.faults c.run_command.new.source) (g.K.Sink.held c.run_command.new.sink) (g.K.Sink.faults c.run_command.new.sink))
+    (outside (g.S.Source.input c.run_command.new.source) (g.S.Source.faults c.run_command.new.source)
+    (g.K.Sink.held c.run_command.new.sink) (g.K.Sink.faults c.run_command.new.sink))
     c.run_command.result) (sym said ∙ play) c.run_command.ensures.ran) done
 
 pub returns-in-Ok-clause-serves : goal.returns-in-Ok-clause-serves
 returns-in-Ok-clause-serves g c serve done =
     let said : command_of (map (string_bytes {Z = Global}) c.args.words.now) ≡ Some c.in-Ok.command = search rules in
-    served_whole _ _ _ _ _ _ c.run_command.result done (subst (λ (o : Option Command). HasCarriedOut g.L.Listener.listened (λ l. tally (g.L.Listener.at l) (g.L.Listener.accepted l) (g.L.Listener.over l)) c.args.listener.now c.run_command.new.listener o (g.T.Clock.moment c.args.clock.now)
+    served_whole _ _ _ _ _ _ c.run_command.result done
+    (subst (λ (o : Option Command). HasCarriedOut g.L.Listener.listened
+    (λ l. tally (g.L.Listener.at l) (g.L.Listener.accepted l) (g.L.Listener.over l)) c.args.listener.now
+    c.run_command.new.listener o (g.T.Clock.moment c.args.clock.now)
     (outside (g.S.Source.input c.args.source.now) (g.S.Source.faults c.args.source.now) (g.K.Sink.held c.args.sink.now) (g.K.Sink.faults c.args.sink.now))
-    (outside (g.S.Source.input c.run_command.new.source) (g.S.Source.faults c.run_command.new.source) (g.K.Sink.held c.run_command.new.sink) (g.K.Sink.faults c.run_command.new.sink))
+    (outside (g.S.Source.input c.run_command.new.source) (g.S.Source.faults c.run_command.new.source)
+    (g.K.Sink.held c.run_command.new.sink) (g.K.Sink.faults c.run_command.new.sink))
     c.run_command.result) (sym said ∙ serve) c.run_command.ensures.ran)
 
 pub returns-in-Err-BadWords-clause-ran : goal.returns-in-Err-BadWords-clause-ran
@@ -59,7 +78,9 @@ returns-in-Err-BadWords-clause-ran g c =
     let before : Outside = outside (g.S.Source.input source) (g.S.Source.faults source) (g.K.Sink.held sink) (g.K.Sink.faults sink) in
     let now : Outside = outside (g.S.Source.input source) (g.S.Source.faults source) (g.K.Sink.held c.tell.new.sink) (g.K.Sink.faults c.tell.new.sink) in
     let said : command_of (map (string_bytes {Z = Global}) c.args.words.now) ≡ None = search rules in
-    inl (subst (λ (o : Option Command). HasCarriedOut g.L.Listener.listened (λ l. tally (g.L.Listener.at l) (g.L.Listener.accepted l) (g.L.Listener.over l)) c.args.listener.now c.args.listener.now o (g.T.Clock.moment c.args.clock.now) before now c.tell.result) (sym said)
+    inl (subst (λ (o : Option Command). HasCarriedOut g.L.Listener.listened
+    (λ l. tally (g.L.Listener.at l) (g.L.Listener.accepted l) (g.L.Listener.over l)) c.args.listener.now
+    c.args.listener.now o (g.T.Clock.moment c.args.clock.now) before now c.tell.result) (sym said)
     (has_told BadWords BadWords before now c.tell.result refl c.tell.ensures.status c.tell.ensures.silent c.tell.ensures.line c.tell.ensures.front))
 
 pub returns-in-Err-Want-clause-ran : goal.returns-in-Err-Want-clause-ran

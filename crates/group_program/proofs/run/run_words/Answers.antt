@@ -13,7 +13,10 @@ returns-in-Ok-clause-ran g c =
     record {
       status = c.run_explained.result;
       number_is = c.exit_of.ensures;
-      run = subst (λ (words : List (List ℕ)). HasRunCommand (λ s k. outside (g.S.Source.input s) (g.S.Source.faults s) (g.K.Sink.held k) (g.K.Sink.faults k)) g.L.Listener.listened
-          (λ l. tally (g.L.Listener.at l) (g.L.Listener.accepted l) (g.L.Listener.over l)) g.L.Listener.faults g.M.Machine.ran g.M.Watcher.watched g.M.Carrier.carried
+      run = subst (λ (words : List (List ℕ)).
+          HasRunCommand (λ s k. outside (g.S.Source.input s) (g.S.Source.faults s) (g.K.Sink.held k)
+          (g.K.Sink.faults k)) g.L.Listener.listened
+          (λ l. tally (g.L.Listener.at l) (g.L.Listener.accepted l) (g.L.Listener.over l)) g.L.Listener.faults
+          g.M.Machine.ran g.M.Watcher.watched g.M.Carrier.carried
           g.T.Clock.moment c.args.edges.now c.run_explained.new.edges (command_of words) c.run_explained.result) said c.run_explained.ensures;
     }

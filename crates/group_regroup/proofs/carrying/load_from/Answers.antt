@@ -13,7 +13,8 @@ returns-in-Ok-clause-items c =
     let more : List Item = live_items c.args.partition c.in-Ok.heads.items in
     on-ok c.load.result (λ (is : c.load.new.items.items ≡ before ++ more). λ (xs : List Load) (stand : StandFor before xs).
     subst (λ (ys : List Item). StandFor ys (xs ++ loads_in c.args.world.now c.args.partition.0)) (sym is)
-    (stand-both before more xs (loads_in c.args.world.now c.args.partition.0) stand (listed-stand c.args.world.now c.args.partition c.in-Ok.heads.items c.in-Ok.ensures))) c.load.ensures.items
+    (stand-both before more xs (loads_in c.args.world.now c.args.partition.0) stand
+    (listed-stand c.args.world.now c.args.partition c.in-Ok.heads.items c.in-Ok.ensures))) c.load.ensures.items
 
 pub returns-in-Ok-clause-within : goal.returns-in-Ok-clause-within
 returns-in-Ok-clause-within c =
@@ -21,12 +22,17 @@ returns-in-Ok-clause-within c =
     let before : List Item = c.args.items.now.items in
     let more : List Item = live_items c.args.partition c.in-Ok.heads.items in
     on-ok c.load.result (λ (is : c.load.new.items.items ≡ before ++ more). λ (within : AreWithin k before).
-    subst (AreWithin k) (sym is) (within-both k before more within (live-within k c.args.partition c.in-Ok.heads.items c.requires.partition))) c.load.ensures.items
+    subst (AreWithin k) (sym is)
+    (within-both k before more within (live-within k c.args.partition c.in-Ok.heads.items c.requires.partition)))
+    c.load.ensures.items
 
 pub returns-in-Ok-clause-space : goal.returns-in-Ok-clause-space
 returns-in-Ok-clause-space c =
-    on-ok c.load.result (subst (λ (n : ℕ). n ≤ c.args.space) (listed-bytes c.args.world.now c.args.partition c.in-Ok.heads.items c.in-Ok.ensures)) c.load.ensures.space
+    on-ok c.load.result
+    (subst (λ (n : ℕ). n ≤ c.args.space) (listed-bytes c.args.world.now c.args.partition c.in-Ok.heads.items
+    c.in-Ok.ensures)) c.load.ensures.space
 
 pub returns-in-Ok-clause-fault : goal.returns-in-Ok-clause-fault
 returns-in-Ok-clause-fault c =
-    subst (λ (n : ℕ). IfErr c.load.result (IsLongFault c.args.partition n c.args.space)) (listed-bytes c.args.world.now c.args.partition c.in-Ok.heads.items c.in-Ok.ensures) c.load.ensures.fault
+    subst (λ (n : ℕ). IfErr c.load.result (IsLongFault c.args.partition n c.args.space))
+    (listed-bytes c.args.world.now c.args.partition c.in-Ok.heads.items c.in-Ok.ensures) c.load.ensures.fault

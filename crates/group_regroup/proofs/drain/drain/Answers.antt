@@ -11,7 +11,11 @@ pub deliveries-init : goal.deliveries-init
 deliveries-init c = Delivering-none c.args.world.now c.run.ensures c.requires.up
 
 pub make-requires : goal.make-requires
-make-requires c = record { may = (next-lightens c.args.world.now c.deliveries.world c.deliveries.invariant (Deliver c.in-Some.from c.in-Some.to) (sym c.in-Some.ensures)).may }
+make-requires c =
+    record {
+      may = (next-lightens c.args.world.now c.deliveries.world c.deliveries.invariant
+          (Deliver c.in-Some.from c.in-Some.to) (sym c.in-Some.ensures)).may;
+    }
 
 pub deliveries-smaller : goal.deliveries-smaller
 deliveries-smaller c =
@@ -26,7 +30,9 @@ deliveries-preserved c =
 
 pub returns-in_err-make-clause-err : goal.returns-in_err-make-clause-err
 returns-in_err-make-clause-err c =
-    on-err c.from_residual.result (subst (IsPart c.args.world.now (draining c.args.world.now)) (sym c.in_err-make.ensures.err) (part-made c.args.world.now c.deliveries.world c.deliveries.invariant))
+    on-err c.from_residual.result
+    (subst (IsPart c.args.world.now (draining c.args.world.now)) (sym c.in_err-make.ensures.err)
+    (part-made c.args.world.now c.deliveries.world c.deliveries.invariant))
 
 pub returns-clause-ok : goal.returns-clause-ok
 returns-clause-ok c = all-made c.args.world.now c.deliveries.world c.deliveries.invariant (sym c.in_default.ensures)

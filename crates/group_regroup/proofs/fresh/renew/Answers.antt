@@ -16,7 +16,8 @@ use Rattle.group_regroup.proofs.fresh.renew.Goals as goal
 pub returns-in_err-parcels-clause-err : goal.returns-in_err-parcels-clause-err
 returns-in_err-parcels-clause-err c =
     let w : World = c.args.world.now in
-    on-err c.from_residual.result (subst (λ (r : carry.Reading). IsPart w r.events c.read_all.new.world) (read-stand w c.args.items.items c.requires.loads) c.in_err-parcels.ensures.err)
+    on-err c.from_residual.result (subst (λ (r : carry.Reading). IsPart w r.events c.read_all.new.world)
+    (read-stand w c.args.items.items c.requires.loads) c.in_err-parcels.ensures.err)
 
 pub fill-requires-clause-within : goal.fill-requires-clause-within
 fill-requires-clause-within c =
@@ -32,13 +33,17 @@ returns-clause-world c =
 pub returns-clause-fresh : goal.returns-clause-fresh
 returns-clause-fresh c =
     let w : World = c.args.world.now in
-    let world : c.read_all.new.world ≡ (reading w).world = c.in_ok-parcels.ensures.world ∙ ap (λ (r : carry.Reading). r.world) (read-stand w c.args.items.items c.requires.loads) in
+    let world : c.read_all.new.world ≡ (reading w).world = c.in_ok-parcels.ensures.world
+    ∙ ap (λ (r : carry.Reading). r.world) (read-stand w c.args.items.items c.requires.loads) in
     subst (λ (ps : List carry.Parcel). IfOk c.fill.result (IsFresh (reading w).world c.args.bases.now c.args.lowered.now c.args.shape ps))
     (c.in_ok-parcels.ensures.parcels ∙ ap (λ (r : carry.Reading). r.parcels) (read-stand w c.args.items.items c.requires.loads))
-    (subst (λ (v : World). IfOk c.fill.result (IsFresh v c.args.bases.now c.args.lowered.now c.args.shape (parcels_as c.in_ok-parcels.parcels.items))) world c.fill.ensures)
+    (subst (λ (v : World). IfOk c.fill.result
+    (IsFresh v c.args.bases.now c.args.lowered.now c.args.shape (parcels_as c.in_ok-parcels.parcels.items))) world
+    c.fill.ensures)
 
 pub returns-clause-err : goal.returns-clause-err
 returns-clause-err c =
     let w : World = c.args.world.now in
-    let world : c.read_all.new.world ≡ (reading w).world = c.in_ok-parcels.ensures.world ∙ ap (λ (r : carry.Reading). r.world) (read-stand w c.args.items.items c.requires.loads) in
+    let world : c.read_all.new.world ≡ (reading w).world = c.in_ok-parcels.ensures.world
+    ∙ ap (λ (r : carry.Reading). r.world) (read-stand w c.args.items.items c.requires.loads) in
     on-err c.fill.result (part-whole w c.read_all.new.world (reading w).events (world ∙ read-after w (loads w)))

@@ -18,9 +18,12 @@ pub ranks-preserved : goal.ranks-preserved
 ranks-preserved c =
     let low : c.ranks.i < c.args.world.now.shape.m = omega (arith, c.ranks-test.true, c.m-i-end.ensures.value, ap (λ (s : Dimensions). s.m) c.shape.ensures) in
     let next : suc c.ranks.i ≡ c.ranks.i + 1 = omega arith in
-    subst (λ (j : ℕ). head_of c.args.world.now c.args.partition.0 ≡ of_rank c.args.partition.0 (first_living c.args.world.now c.args.partition.0 (range_with_len (suc j) (c.args.world.now.shape.m - j)))) next
+    subst (λ (j : ℕ). head_of c.args.world.now c.args.partition.0 ≡ of_rank c.args.partition.0
+    (first_living c.args.world.now c.args.partition.0 (range_with_len (suc j) (c.args.world.now.shape.m - j)))) next
     (ranks-next c.args.world.now c.args.partition.0 c.ranks.i low c.ranks.invariant (cc (c.is_dead-in-ranks.ensures, c.if-not-is_dead-2.false)))
 
 pub returns-clause-head : goal.returns-clause-head
 returns-clause-head c =
-    sym (ranks-none c.args.world.now c.args.partition.0 c.ranks.i (omega (arith, c.ranks-test.false, c.m-i-end.ensures.value, ap (λ (s : Dimensions). s.m) c.shape.ensures)) c.ranks.invariant)
+    sym (ranks-none c.args.world.now c.args.partition.0 c.ranks.i
+    (omega (arith, c.ranks-test.false, c.m-i-end.ensures.value, ap (λ (s : Dimensions). s.m) c.shape.ensures))
+    c.ranks.invariant)

@@ -12,4 +12,5 @@ returns c = λ era.
     let d : Entry = c.index-log-place.result in
     let place : c.args.place ≡ 0 + c.args.place = omega arith in
     ap (λ (e : Entry). Some (era, e)) (c.in_ok-entry.ensures ∙ ap (λ (n : ℕ). told_at c.args.bases.now c.args.k c.args.lowered.now n d) place)
-    ∙ sym (told-get c.args.bases.now c.args.k era c.args.lowered.now 0 c.args.log.now c.args.place d (get-index c.args.log.now c.args.place d c.if-log-place.false c.index-log-place.is))
+    ∙ sym (told-get c.args.bases.now c.args.k era c.args.lowered.now 0 c.args.log.now c.args.place d
+    (get-index c.args.log.now c.args.place d c.if-log-place.false c.index-log-place.is))

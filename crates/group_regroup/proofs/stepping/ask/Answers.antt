@@ -17,4 +17,5 @@ told_answer-requires c =
     let width : c.k-k.result ≡ w.shape.k = c.k-k.ensures.value ∙ ap (λ (s : Dimensions). s.k) c.shape.ensures in
     ask-fits c.numbers_fit.ensures w c.run.ensures c.args.bases.now c.args.caller c.args.op.now c.args.at c.requires.low c.requires.events c.requires.may
     c.home-partition.result.0 c.in_ok-out.out.answer home
-    (c.in_ok-out.ensures.answer ∙ ap (λ (o : Asked). (step w (Ask c.args.caller o c.args.at)).turn.answer) (c.in_ok-op.ensures ∙ ap (λ (k : ℕ). op_in c.args.bases.now k c.args.op.now) width))
+    (c.in_ok-out.ensures.answer ∙ ap (λ (o : Asked). (step w (Ask c.args.caller o c.args.at)).turn.answer)
+    (c.in_ok-op.ensures ∙ ap (λ (k : ℕ). op_in c.args.bases.now k c.args.op.now) width))

@@ -13,5 +13,7 @@ pub returns-clause-served : goal.returns-clause-served
 returns-clause-served g c =
     opened g.L.Listener.listened (λ l. tally (g.L.Listener.at l) (g.L.Listener.accepted l) (g.L.Listener.over l)) c.args.settings.now
     (g.K.Sink.held c.args.sink.now) (g.K.Sink.held c.report.new.sink) c.args.listener.now c.serve_group-end.new.listener
-    c.open.new.listener (g.K.Sink.held c.open.new.sink) c.in_ok-open.ensures.listens (c.serve_group-end.ensures.same_at ∙ c.in_ok-open.ensures.at) c.in_ok-open.ensures.written
-    c.serve_group-end.result c.report.result c.serve_group-end.ensures.accepted c.serve_group-end.ensures.done c.serve_group-end.ensures.at_fault c.report.ensures.told
+    c.open.new.listener (g.K.Sink.held c.open.new.sink) c.in_ok-open.ensures.listens (c.serve_group-end.ensures.same_at
+    ∙ c.in_ok-open.ensures.at) c.in_ok-open.ensures.written
+    c.serve_group-end.result c.report.result c.serve_group-end.ensures.accepted c.serve_group-end.ensures.done
+    c.serve_group-end.ensures.at_fault c.report.ensures.told

@@ -17,5 +17,6 @@ invariant-processes l = record {
   items : slots_items l.closed.slots ≡ slots_items l.fn.slots.slots;
   room : l.taken.room ≡ processes_of l.fn.shape;
   done : length l.taken.nodes ≡ l.p;
-  nodes : (q : ℕ) (y : NodeStanding) → q < l.p → get_elem? (slots_items l.fn.slots.slots) (slot_of q) ≡ maybe.some (Some y) → slice_get l.taken.nodes q ≡ Some y;
+  nodes : (q : ℕ) (y : NodeStanding) → q < l.p → get_elem? (slots_items l.fn.slots.slots) (slot_of q)
+      ≡ maybe.some (Some y) → slice_get l.taken.nodes q ≡ Some y;
 }

@@ -30,7 +30,9 @@ pub returns-in-Err-2-clause-decision : goal.returns-in-Err-2-clause-decision
 returns-in-Err-2-clause-decision g c =
     let read = found_in (g.B.Beneath.storage c.args.below.now).shape c.args.partition.0 (g.B.Beneath.storage c.args.below.now).process in
     let other : is_get c.args.op.now.act ≡ false = ap is_get (sym c.act.ensures) ∙ sym c.is_get.ensures ∙ c.if-is_get.false in
-    let holds = subst (λ (bytes : List ℕ). HoldsItem (ruling_with c.args.replica.now.replica c.args.op.now c.args.slot bytes)) c.empty.ensures c.in-Err.ensures.wanted in
+    let holds = subst
+    (λ (bytes : List ℕ). HoldsItem (ruling_with c.args.replica.now.replica c.args.op.now c.args.slot bytes))
+    c.empty.ensures c.in-Err.ensures.wanted in
     put-told (space_of c.args.replica.now.shape) c.args.replica.now.replica c.args.op.now read c.args.slot c.requires.needed
     (λ d. IfOk c.put_off.result (λ x. x ≡ d)) other holds c.put_off.ensures.decision
 
@@ -38,7 +40,9 @@ pub returns-in-Err-2-clause-wanted : goal.returns-in-Err-2-clause-wanted
 returns-in-Err-2-clause-wanted g c =
     let read = found_in (g.B.Beneath.storage c.args.below.now).shape c.args.partition.0 (g.B.Beneath.storage c.args.below.now).process in
     let other : is_get c.args.op.now.act ≡ false = ap is_get (sym c.act.ensures) ∙ sym c.is_get.ensures ∙ c.if-is_get.false in
-    let holds = subst (λ (bytes : List ℕ). HoldsItem (ruling_with c.args.replica.now.replica c.args.op.now c.args.slot bytes)) c.empty.ensures c.in-Err.ensures.wanted in
+    let holds = subst
+    (λ (bytes : List ℕ). HoldsItem (ruling_with c.args.replica.now.replica c.args.op.now c.args.slot bytes))
+    c.empty.ensures c.in-Err.ensures.wanted in
     on_err_weaker c.put_off.result (issued-takes _)
     (put-told (space_of c.args.replica.now.shape) c.args.replica.now.replica c.args.op.now read c.args.slot c.requires.needed
     (λ d. OnErr c.put_off.result (IsIssued d)) other holds c.put_off.ensures.wanted)

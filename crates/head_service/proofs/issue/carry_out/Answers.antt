@@ -16,12 +16,17 @@ pub returns-clause-seat : goal.returns-clause-seat
 returns-clause-seat g c =
     let settled : List Update = up_to c.args.prepared.number c.receive.new.self.replica in
     let all : updates_of c.deref.result.now ≡ settled
-    = ap updates_of (c.deref.ensures.value ∙ c.settle_to.ensures.settled.settled ∙ ap (λ (xs : List Settlement). xs ++ settlements c.args.partition.0 settled) c.requires.settled.empty) ∙ updates-are c.args.partition.0 settled in
+    = ap updates_of (c.deref.ensures.value ∙ c.settle_to.ensures.settled.settled
+    ∙ ap (λ (xs : List Settlement). xs ++ settlements c.args.partition.0 settled) c.requires.settled.empty)
+    ∙ updates-are c.args.partition.0 settled in
     record {
       stands = stands-as c.settle_to.ensures.stands c.tidy.ensures.shape c.tidy.ensures.replica;
       tidy = c.tidy.ensures.owed (λ _. false) (λ q ready.
-          subst (λ (us : List Update). (is_needed c.settle_to.new.replica.replica.items c.settle_to.new.replica.replica.log q || (false || is_touched us q)) ≡ true) (sym all)
+          subst (λ (us : List Update).
+          (is_needed c.settle_to.new.replica.replica.items c.settle_to.new.replica.replica.log q ||
+          (false || is_touched us q)) ≡ true) (sym all)
           (c.settle_to.ensures.owed (λ _. false)
-          (received-tidy c.args.replica.now c.receive.new.self c.args.update c.receive.ensures.replica (c.receive.ensures.owed (is_touched (c.args.update ∷ [])) c.requires.seat.tidy))
+          (received-tidy c.args.replica.now c.receive.new.self c.args.update c.receive.ensures.replica
+          (c.receive.ensures.owed (is_touched (c.args.update ∷ [])) c.requires.seat.tidy))
           q ready));
     }

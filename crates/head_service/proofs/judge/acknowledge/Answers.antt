@@ -7,23 +7,27 @@ use Rattle.head_service.proofs.judge.acknowledge.Goals as goal
 
 pub least_acked-reached-requires : goal.least_acked-reached-requires
 least_acked-reached-requires g c =
-    acks-long c.args.parity c.args.number c.args.peers.now.m c.args.head.now c.acknowledge.new.self c.acknowledge.ensures c.requires.parity c.requires.seat.acks ∙ c.requires.seat.acks
+    acks-long c.args.parity c.args.number c.args.peers.now.m c.args.head.now c.acknowledge.new.self
+    c.acknowledge.ensures c.requires.parity c.requires.seat.acks ∙ c.requires.seat.acks
 
 pub judge-requires-clause-seat : goal.judge-requires-clause-seat
 judge-requires-clause-seat g c = record {
   seat = c.requires.seat.seat;
-  acks = acks-long c.args.parity c.args.number c.args.peers.now.m c.args.head.now c.acknowledge.new.self c.acknowledge.ensures c.requires.parity c.requires.seat.acks ∙ c.requires.seat.acks;
+  acks = acks-long c.args.parity c.args.number c.args.peers.now.m c.args.head.now c.acknowledge.new.self
+      c.acknowledge.ensures c.requires.parity c.requires.seat.acks ∙ c.requires.seat.acks;
 }
 
 pub restore-requires : goal.restore-requires
 restore-requires g c = subst (λ (n : ℕ). c.args.parity < n)
-    (sym (acks-long c.args.parity c.args.number c.args.peers.now.m c.args.head.now c.acknowledge.new.self c.acknowledge.ensures c.requires.parity c.requires.seat.acks ∙ c.requires.seat.acks))
+    (sym (acks-long c.args.parity c.args.number c.args.peers.now.m c.args.head.now c.acknowledge.new.self
+    c.acknowledge.ensures c.requires.parity c.requires.seat.acks ∙ c.requires.seat.acks))
     c.requires.parity
 
 pub returns-in-Ok-clause-seat : goal.returns-in-Ok-clause-seat
 returns-in-Ok-clause-seat g c = record {
   seat = c.judge.ensures.seat;
-  acks = acks-long c.args.parity c.args.number c.args.peers.now.m c.args.head.now c.acknowledge.new.self c.acknowledge.ensures c.requires.parity c.requires.seat.acks ∙ c.requires.seat.acks;
+  acks = acks-long c.args.parity c.args.number c.args.peers.now.m c.args.head.now c.acknowledge.new.self
+      c.acknowledge.ensures c.requires.parity c.requires.seat.acks ∙ c.requires.seat.acks;
 }
 
 -- the head is as it was
@@ -31,7 +35,8 @@ module _ (g : given.Over) (c : goal.After-restore g) where
   pub restored : c.restore.new.self ≡ c.args.head.now
   restored = c.restore.ensures
       ∙ ap (λ (acked : Option ℕ). record c.acknowledge.new.self { acks = put None c.acknowledge.new.self.acks c.args.parity acked }) c.acked-before.ensures
-      ∙ acks-back c.args.parity c.args.number c.args.peers.now.m c.args.head.now c.acknowledge.new.self c.acknowledge.ensures c.requires.parity c.requires.seat.acks
+      ∙ acks-back c.args.parity c.args.number c.args.peers.now.m c.args.head.now c.acknowledge.new.self
+      c.acknowledge.ensures c.requires.parity c.requires.seat.acks
 
 pub returns-in-Err-clause-err : goal.returns-in-Err-clause-err
 returns-in-Err-clause-err g c = (restored g c, record { replica = refl; process = refl })

@@ -16,10 +16,15 @@ returns-clause-seat g c =
     = ap (drop c.len-before.result) (c.deref.ensures.value ∙ c.settle_to.ensures.settled.settled)
     ∙ drop_at c.args.settled.now.items (settlements c.args.partition.0 settled) c.len-before.result (sym c.args.settled.now.ok.0 ∙ sym c.len-before.ensures) in
     let all : updates_of (take (length c.deref.result.now - c.len-before.result) (drop c.len-before.result c.deref.result.now)) ≡ settled
-    = ap updates_of (take_all (length c.deref.result.now - c.len-before.result) (drop c.len-before.result c.deref.result.now) (omega (arith, length-drop c.len-before.result c.deref.result.now)) ∙ behind) ∙ updates-are c.args.partition.0 settled in
+    = ap updates_of
+    (take_all (length c.deref.result.now - c.len-before.result) (drop c.len-before.result c.deref.result.now)
+    (omega (arith, length-drop c.len-before.result c.deref.result.now)) ∙ behind)
+    ∙ updates-are c.args.partition.0 settled in
     record {
       stands = stands-as c.settle_to.ensures.stands c.tidy.ensures.shape c.tidy.ensures.replica;
       tidy = c.tidy.ensures.owed (λ _. false) (λ q ready.
-          subst (λ (us : List Update). (is_needed c.settle_to.new.replica.replica.items c.settle_to.new.replica.replica.log q || (false || is_touched us q)) ≡ true) (sym all)
+          subst (λ (us : List Update).
+          (is_needed c.settle_to.new.replica.replica.items c.settle_to.new.replica.replica.log q ||
+          (false || is_touched us q)) ≡ true) (sym all)
           (c.settle_to.ensures.owed (λ _. false) c.requires.seat.seat.tidy q ready));
     }

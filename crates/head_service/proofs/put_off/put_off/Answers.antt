@@ -11,13 +11,15 @@ use Rattle.head_service.proofs.put_off.put_off.Goals as goal
 pub returns-in-None-2-clause-decision : goal.returns-in-None-2-clause-decision
 returns-in-None-2-clause-decision g c = λ outcome h brought.
     let other : is_touch c.args.op.now.act ≡ false = ap is_touch (sym c.act.ensures) ∙ sym c.is_touch.ensures ∙ c.if-is_touch.false in
-    put-placed (space_of c.args.replica.now.shape) c.args.replica.now.replica c.args.op.now.act (found_by c.args.partition.0 (g.B.Beneath.storage c.args.below.now))
+    put-placed (space_of c.args.replica.now.shape) c.args.replica.now.replica c.args.op.now.act
+    (found_by c.args.partition.0 (g.B.Beneath.storage c.args.below.now))
     outcome h c.brought.result (λ d. IfOk c.put_nowhere.result (λ x. x ≡ d)) c.in-None.ensures.few other
     (c.brought.ensures ∙ ap (λ (act : Act). length (value_of act)) c.act-in-None-2.ensures) brought (c.put_nowhere.ensures.decision outcome h)
 
 pub returns-in-None-2-clause-wanted : goal.returns-in-None-2-clause-wanted
 returns-in-None-2-clause-wanted g c = λ outcome h brought.
     let other : is_touch c.args.op.now.act ≡ false = ap is_touch (sym c.act.ensures) ∙ sym c.is_touch.ensures ∙ c.if-is_touch.false in
-    put-placed (space_of c.args.replica.now.shape) c.args.replica.now.replica c.args.op.now.act (found_by c.args.partition.0 (g.B.Beneath.storage c.args.below.now))
+    put-placed (space_of c.args.replica.now.shape) c.args.replica.now.replica c.args.op.now.act
+    (found_by c.args.partition.0 (g.B.Beneath.storage c.args.below.now))
     outcome h c.brought.result (λ d. OnErr c.put_nowhere.result (IsIssued d)) c.in-None.ensures.few other
     (c.brought.ensures ∙ ap (λ (act : Act). length (value_of act)) c.act-in-None-2.ensures) brought (c.put_nowhere.ensures.wanted outcome h)

@@ -12,7 +12,9 @@ use Rattle.group_run.specs.Replica.{Replica, applied_to, up_to}
 use Rattle.partition_replica.specs.State.{is_needed, is_touched}
 use Rattle.head_service.specs.Settling.{HasSettled}
 use Rattle.head_service.proofs.Seat.{stands-as}
-use Rattle.head_service.proofs.Settling.{all-behind, applied-none, blocks-kept, bytes-next, next-applied, next-log, next-up, nothing-left, one, owed-next, touched-behind, touched-front, up-empty, up-reached}
+use Rattle.head_service.proofs.Settling.{all-behind, applied-none, blocks-kept, bytes-next, next-applied, next-log}
+use Rattle.head_service.proofs.Settling.{next-up, nothing-left, one, owed-next, touched-behind, touched-front, up-empty}
+use Rattle.head_service.proofs.Settling.{up-reached}
 use Rattle.head_service.proofs.settle.settle_to.Given as given
 use Rattle.head_service.proofs.settle.settle_to.Goals as goal
 
@@ -48,16 +50,24 @@ module _ (g : given.Over) (c : goal.In-Ok g) where
   up-is = next-up n r u first low ∙ ap (λ (x : Replica). u ∷ up_to n x) (sym replica-is)
 
   process-is : (g.B.Beneath.storage c.add.new.self).process ≡ bytes_after s d (u ∷ []) (g.B.Beneath.storage c.updates.below).process
-  process-is = c.add.ensures.process ∙ ap (λ (x : Dimensions). bytes_after x d (u ∷ []) (g.B.Beneath.storage c.updates.below).process) c.updates.invariant.stays.shape
+  process-is = c.add.ensures.process
+      ∙ ap (λ (x : Dimensions). bytes_after x d (u ∷ []) (g.B.Beneath.storage c.updates.below).process)
+      c.updates.invariant.stays.shape
 
-  pub bytes-are : bytes_after s d (up_to n c.settle_next.new.self.replica) (g.B.Beneath.storage c.add.new.self).process ≡ bytes_after s d (up_to n r) (g.B.Beneath.storage c.updates.below).process
+  pub bytes-are : bytes_after s d (up_to n c.settle_next.new.self.replica) (g.B.Beneath.storage c.add.new.self).process
+      ≡ bytes_after s d (up_to n r) (g.B.Beneath.storage c.updates.below).process
   bytes-are = ap (bytes_after s d (up_to n c.settle_next.new.self.replica)) process-is
       ∙ bytes-next s d u (up_to n c.settle_next.new.self.replica) (g.B.Beneath.storage c.updates.below).process
       ∙ ap (λ (us : List Update). bytes_after s d us (g.B.Beneath.storage c.updates.below).process) (sym up-is)
 
   blocks-are : d < length (g.B.Beneath.storage c.add.new.self).process.as_leader.rebuilt
   blocks-are = subst (λ (p : Process). d < length p.as_leader.rebuilt) (sym process-is)
-      (omega (arith, blocks-kept s d (u ∷ []) (g.B.Beneath.storage c.updates.below).process c.updates.invariant.stands.blocks, c.updates.invariant.stands.blocks))
+      (omega (
+        arith,
+        blocks-kept s d (u ∷ []) (g.B.Beneath.storage c.updates.below).process
+            c.updates.invariant.stands.blocks,
+        c.updates.invariant.stands.blocks,
+      ))
 
   settled-are : c.push.new.self.items ++ settlements d (up_to n c.settle_next.new.self.replica) ≡ c.updates.settled.items ++ settlements d (up_to n r)
   settled-are = ap (λ (xs : List Settlement). xs ++ settlements d (up_to n c.settle_next.new.self.replica)) c.in-Ok.ensures.items
@@ -75,7 +85,8 @@ updates-preserved g c = record {
     blocks = blocks-are g c;
     ready = λ k v lt. c.add.ensures.stays.kept c.args.partition.0 _
         (all-behind ((g.B.Beneath.storage c.updates.below).is_ready c.args.partition.0) (u g c) c.settle_next.new.self.replica.log (r g c).log
-        (next-log (n g c) (r g c) (u g c) (first g c) (low g c) ∙ ap (λ (x : Replica). u g c ∷ x.log) (sym (replica-is g c))) c.updates.invariant.stands.ready k v lt);
+        (next-log (n g c) (r g c) (u g c) (first g c) (low g c) ∙ ap (λ (x : Replica). u g c ∷ x.log)
+        (sym (replica-is g c))) c.updates.invariant.stands.ready k v lt);
   };
   stays = record {
     shape = c.add.ensures.stays.shape ∙ c.updates.invariant.stays.shape;
@@ -88,10 +99,12 @@ updates-preserved g c = record {
   room = c.settle_next.ensures.room ∙ c.updates.invariant.room;
   capacity = omega (arith, c.updates.invariant.capacity, c.in-Ok.ensures.capacity);
   fits = omega (arith, c.updates.invariant.fits, ap length (up-is g c), c.in-Ok.ensures.len, c.in-Ok.ensures.capacity);
-  within = λ q is. within-is g c q (ap (λ (us : List Update). is_touched us q) (up-is g c) ∙ touched-behind (u g c) (up_to c.args.number c.settle_next.new.self.replica) q is);
+  within = λ q is. within-is g c q (ap (λ (us : List Update). is_touched us q) (up-is g c)
+      ∙ touched-behind (u g c) (up_to c.args.number c.settle_next.new.self.replica) q is);
   owed = λ owed tidy q is. owed-next (is_needed c.settle_next.new.self.replica.items c.settle_next.new.self.replica.log q) (owed q)
       (is_touched (up_to c.args.number c.args.replica.now.replica) q) (same_key (u g c).key q)
-      (λ same. within-is g c q (ap (λ (us : List Update). is_touched us q) (up-is g c) ∙ touched-front (u g c) (up_to c.args.number c.settle_next.new.self.replica) q same))
+      (λ same. within-is g c q (ap (λ (us : List Update). is_touched us q) (up-is g c)
+      ∙ touched-front (u g c) (up_to c.args.number c.settle_next.new.self.replica) q same))
       (c.in-Some.ensures.owed (λ p. owed p || is_touched (up_to c.args.number c.args.replica.now.replica) p) (c.updates.invariant.owed owed tidy) q is);
 }
 
@@ -107,7 +120,8 @@ module _ (g : given.Over) (c : goal.In_default g) where
   none = sym c.settle_next.ensures.handed ∙ c.in_default.is
 
   pub same : c.settle_next.new.self.replica ≡ c.updates.replica.replica
-  same = c.settle_next.ensures.replica ∙ applied-none (c.updates.replica.replica.applied + 1) c.updates.replica.replica (up-empty (c.updates.replica.replica.applied + 1) c.updates.replica.replica none)
+  same = c.settle_next.ensures.replica ∙ applied-none (c.updates.replica.replica.applied + 1) c.updates.replica.replica
+      (up-empty (c.updates.replica.replica.applied + 1) c.updates.replica.replica none)
 
 pub returns-in_default-clause-settled : goal.returns-in_default-clause-settled
 returns-in_default-clause-settled g c =

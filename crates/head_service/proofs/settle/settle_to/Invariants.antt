@@ -13,14 +13,16 @@ invariant-updates g l = record {
   stays : StaysReady (g.B.Beneath.storage l.initial.below) (g.B.Beneath.storage l.below);
   replica : applied_to l.number l.replica.replica ≡ applied_to l.number l.initial.replica.replica;
   bytes : bytes_after (g.B.Beneath.storage l.initial.below).shape l.partition.0 (up_to l.number l.replica.replica) (g.B.Beneath.storage l.below).process
-      ≡ bytes_after (g.B.Beneath.storage l.initial.below).shape l.partition.0 (up_to l.number l.initial.replica.replica) (g.B.Beneath.storage l.initial.below).process;
+      ≡ bytes_after (g.B.Beneath.storage l.initial.below).shape l.partition.0 (up_to l.number l.initial.replica.replica)
+      (g.B.Beneath.storage l.initial.below).process;
   settled : l.settled.items ++ settlements l.partition.0 (up_to l.number l.replica.replica)
       ≡ l.initial.settled.items ++ settlements l.partition.0 (up_to l.number l.initial.replica.replica);
   room : l.replica.room ≡ l.initial.replica.room;
   capacity : vec_capacity l.initial.settled ≤ vec_capacity l.settled;
   fits : vec_len l.settled + length (up_to l.number l.replica.replica) ≤ vec_capacity l.settled;
   within : (q : List ℕ) → is_touched (up_to l.number l.replica.replica) q ≡ true → is_touched (up_to l.number l.initial.replica.replica) q ≡ true;
-  owed : (owed : List ℕ → Bool) → IsTidyBut l.initial.replica owed → IsTidyBut l.replica (λ q. owed q || is_touched (up_to l.number l.initial.replica.replica) q);
+  owed : (owed : List ℕ → Bool) → IsTidyBut l.initial.replica owed
+      → IsTidyBut l.replica (λ q. owed q || is_touched (up_to l.number l.initial.replica.replica) q);
 }
 
 abbrev pub decreases-updates : goal.decreases-updates

@@ -10,7 +10,8 @@ use Rattle.head_service.proofs.settle.tidy.Goals as goal
 abbrev rest : goal.After-tidy → List Settlement
 rest c = drop (c.settled.settlement-index + 1) c.args.settled.now
 
-front : (c : goal.After-tidy) → drop c.settled.settlement-index c.args.settled.now ≡ record { partition = c.settlement.inside.partition.0; update = c.settlement.inside.update } ∷ rest c
+front : (c : goal.After-tidy) → drop c.settled.settlement-index c.args.settled.now
+    ≡ record { partition = c.settlement.inside.partition.0; update = c.settlement.inside.update } ∷ rest c
 front c = drop_more c.args.settled.now c.settled.settlement-index c.settlement-item.result c.settled-test.true
     ∙ ap (λ (x : Settlement). x ∷ rest c) (sym c.settlement-item.is ∙ sym c.settlement.view_is)
 
@@ -21,14 +22,17 @@ settled-preserved c = record {
   owed = λ owed tidy q is. tidied (is_needed c.tidy.new.self.replica.items c.tidy.new.self.replica.log q) (owed q) (same_key c.settlement.inside.update.key q)
       (is_touched (updates_of (rest c)) q)
       (c.tidy.ensures.owed (λ p. owed p || (same_key c.settlement.inside.update.key p || is_touched (updates_of (rest c)) p))
-      (λ p ready. subst (λ (xs : List Settlement). (is_needed c.settled.replica.replica.items c.settled.replica.replica.log p || (owed p || is_touched (updates_of xs) p)) ≡ true) (front c)
+      (λ p ready. subst
+      (λ (xs : List Settlement). (is_needed c.settled.replica.replica.items c.settled.replica.replica.log p ||
+      (owed p || is_touched (updates_of xs) p)) ≡ true) (front c)
       (c.settled.invariant.owed owed tidy p ready)) q is);
 }
 
 pub returns-clause-owed : goal.returns-clause-owed
 returns-clause-owed c owed tidy q is =
     by (is_needed c.settled.replica.replica.items c.settled.replica.replica.log q) (owed q)
-    (subst (λ (xs : List Settlement). (is_needed c.settled.replica.replica.items c.settled.replica.replica.log q || (owed q || is_touched (updates_of xs) q)) ≡ true)
+    (subst (λ (xs : List Settlement). (is_needed c.settled.replica.replica.items c.settled.replica.replica.log q ||
+    (owed q || is_touched (updates_of xs) q)) ≡ true)
     (drop_all c.settled.settlement-index c.args.settled.now c.settled-test.false) (c.settled.invariant.owed owed tidy q is)) where
       by : (needed o : Bool) → (needed || (o || false)) ≡ true → (needed || o) ≡ true
       by true o is = is

@@ -7,5 +7,6 @@ abbrev pub invariant-settled : goal.invariant-settled
 invariant-settled l = record {
   shape : l.replica.shape ≡ l.initial.replica.shape;
   replica : l.replica.replica ≡ l.initial.replica.replica;
-  owed : (owed : List ℕ → Bool) → IsTidyBut l.initial.replica (λ q. owed q || is_touched (updates_of l.settled) q) → IsTidyBut l.replica (λ q. owed q || is_touched (updates_of (drop l.settlement-index l.settled)) q);
+  owed : (owed : List ℕ → Bool) → IsTidyBut l.initial.replica (λ q. owed q || is_touched (updates_of l.settled) q)
+      → IsTidyBut l.replica (λ q. owed q || is_touched (updates_of (drop l.settlement-index l.settled)) q);
 }

@@ -10,4 +10,5 @@ bytes-preserved c =
     (ap (bit_xor (get_or c.bytes.dst c.bytes.at 0)) (c.mul.ensures ∙ sym (get_or-scale c.args.coef src c.bytes.at))) c.bytes.invariant
 
 pub returns : goal.returns
-returns c = all_written c.bytes.at c.args.dst.now _ c.bytes.dst (omega arith) (length-add_scaled c.args.coef c.args.src.now c.args.dst.now c.requires) c.bytes.invariant
+returns c = all_written c.bytes.at c.args.dst.now _ c.bytes.dst (omega arith)
+    (length-add_scaled c.args.coef c.args.src.now c.args.dst.now c.requires) c.bytes.invariant

@@ -11,7 +11,8 @@ use Rattle.leader_role.proofs.cease.ceases.Goals as goal
 pub parities-preserved-then-not-has : goal.parities-preserved-then-not-has
 parities-preserved-then-not-has c = record {
   told = skipped (is_peer c.args.peers.now.name c.args.peers.now.known) c.args.peers.now.m c.parities.parity c.parities-test.true
-      (λ (is : List ℕ). to_parities is (tells.Cease c.args.last)) c.parities.sent.items (c.args.sent.now.items ++ to_all c.args.peers.now (tells.Cease c.args.last))
+      (λ (is : List ℕ). to_parities is (tells.Cease c.args.last)) c.parities.sent.items
+      (c.args.sent.now.items ++ to_all c.args.peers.now (tells.Cease c.args.last))
       (sym c.has.ensures ∙ c.if-not-has.true) c.parities.invariant.told;
   before = c.parities.invariant.before;
 }

@@ -10,7 +10,8 @@ pub partitions-preserved-then-not-is_dead : goal.partitions-preserved-then-not-i
 partitions-preserved-then-not-is_dead c =
     let within : c.partitions.d < c.args.shape.k = omega (arith, c.partitions-test.true, c.k-d-end.ensures.value) in
     skipped (λ (d : ℕ). knows_dead c.args.known.now (DataNode d)) c.args.shape.k c.partitions.d within
-    (λ (ds : List ℕ). ds) c.partitions.dead.items (dead_data c.args.shape c.args.known.now) (sym c.is_dead.ensures ∙ c.if-not-is_dead.true) c.partitions.invariant
+    (λ (ds : List ℕ). ds) c.partitions.dead.items (dead_data c.args.shape c.args.known.now)
+    (sym c.is_dead.ensures ∙ c.if-not-is_dead.true) c.partitions.invariant
 
 pub partitions-preserved : goal.partitions-preserved
 partitions-preserved c =
@@ -23,6 +24,7 @@ pub returns : goal.returns
 returns c p same =
     let over : c.args.shape.k ≤ c.partitions.d = omega (arith, c.partitions-test.false, c.k-d-end.ensures.value) in
     sym (append-nil c.partitions.dead.items)
-    ∙ ap (λ (ds : List ℕ). c.partitions.dead.items ++ ds) (sym (none-left (λ (d : ℕ). knows_dead c.args.known.now (DataNode d)) c.args.shape.k c.partitions.d over))
+    ∙ ap (λ (ds : List ℕ). c.partitions.dead.items ++ ds)
+    (sym (none-left (λ (d : ℕ). knows_dead c.args.known.now (DataNode d)) c.args.shape.k c.partitions.d over))
     ∙ c.partitions.invariant
     ∙ ap (dead_data c.args.shape) (sym same)

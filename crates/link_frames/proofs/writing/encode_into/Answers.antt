@@ -18,5 +18,6 @@ returns-clause-written c =
     c.in_ok-append.ensures.written
     ∙ ap (λ (t : List ℕ). out ++ ((len ++ t) ++ (value ++ c.deref-6.result.now))) c.deref-5.ensures.value
     ∙ ap (λ (t : List ℕ). out ++ ((len ++ before) ++ (value ++ t))) (c.deref-6.ensures.value ∙ c.in_ok-put_four.ensures) in
-    frame_written c.args.frame.now c.total.result c.sum_of-sum.result len before value behind out c.append.new.out.items c.to_be_bytes-len.ensures c.total.ensures c.in_ok-before.ensures c.carried_value-value.ensures
+    frame_written c.args.frame.now c.total.result c.sum_of-sum.result len before value behind out c.append.new.out.items
+    c.to_be_bytes-len.ensures c.total.ensures c.in_ok-before.ensures c.carried_value-value.ensures
     c.in_ok-behind.ensures is_sum is_new

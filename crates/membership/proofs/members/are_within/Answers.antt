@@ -14,7 +14,8 @@ words-preserved c = elim c.else-words-i.branch [
   | else-words-i-via-then-words-i+else-not-others-i w ↦
       one-within c.words.i c.args.words.now c.args.others.now c.words-test.true c.requires (λ dead. w.if-not-others-i.false) c.words.invariant
   | else-words-i-via-else-words-i w ↦
-      one-within c.words.i c.args.words.now c.args.others.now c.words-test.true c.requires (λ dead. absurd (cc (sym dead ∙ w.if-words-i.false))) c.words.invariant
+      one-within c.words.i c.args.words.now c.args.others.now c.words-test.true c.requires
+      (λ dead. absurd (cc (sym dead ∙ w.if-words-i.false))) c.words.invariant
 ]
 
 pub returns : goal.returns

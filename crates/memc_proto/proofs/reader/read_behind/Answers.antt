@@ -8,5 +8,7 @@ use Rattle.memc_proto.proofs.reader.read_behind.Goals as goal
 pub returns-then-ends : goal.returns-then-ends
 returns-then-ends c = λ input begins.
     subst (λ (k : Kept). HasRead k input c.push.new.self.items) (sym c.in_ok-keeping.ensures)
-    (subst (λ (rs : List Request). HasRead (record { mode = Ended; front = [] }) input rs) (sym (c.in_ok-push.ensures.items ∙ ap (λ (rs : List Request). rs ++ c.args.first ∷ []) c.in_ok-requests.ensures.items))
+    (subst (λ (rs : List Request). HasRead (record { mode = Ended; front = [] }) input rs)
+    (sym (c.in_ok-push.ensures.items ∙ ap (λ (rs : List Request). rs ++ c.args.first ∷ [])
+    c.in_ok-requests.ensures.items))
     (has_read-quit [] c.args.first input c.args.text.now begins (sym c.if-ends.ensures)))

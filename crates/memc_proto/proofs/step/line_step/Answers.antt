@@ -20,7 +20,8 @@ pub returns-in-None-clause-step : goal.returns-in-None-clause-step
 returns-in-None-clause-step c =
     let long = length-take c.min.result c.args.piece.now in
     λ stands. line_step-grows c.args.front.now c.args.piece.now stands
-    (none_in c.args.piece.now c.min.result (length c.args.piece.now) (omega (arith, long, c.min.ensures)) (λ k below. c.in-None.ensures k (omega arith) (omega (arith, long, c.min.ensures))))
+    (none_in c.args.piece.now c.min.result (length c.args.piece.now) (omega (arith, long, c.min.ensures))
+    (λ k below. c.in-None.ensures k (omega arith) (omega (arith, long, c.min.ensures))))
     (omega (arith, stands.2, c.saturating_sub-room.ensures))
 
 pub returns-in-None-2-clause-step : goal.returns-in-None-2-clause-step
@@ -29,6 +30,9 @@ returns-in-None-2-clause-step c =
     let room : ℕ = 32768 - length c.args.front.now in
     λ stands. (
       line_step-too_long c.args.front.now c.args.piece.now room stands.1 (omega (arith, stands.2)) (omega (arith, c.saturating_sub-room.ensures))
-          (none_in c.args.piece.now c.min.result room (omega (arith, long, c.min.ensures, c.saturating_sub-room.ensures)) (λ k below. c.in-None.ensures k (omega arith) (omega (arith, long, c.min.ensures, c.saturating_sub-room.ensures)))),
+          (none_in c.args.piece.now c.min.result room
+          (omega (arith, long, c.min.ensures, c.saturating_sub-room.ensures))
+          (λ k below. c.in-None.ensures k (omega arith)
+          (omega (arith, long, c.min.ensures, c.saturating_sub-room.ensures)))),
       refl,
     )

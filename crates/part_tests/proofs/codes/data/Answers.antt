@@ -9,8 +9,10 @@ numbers-init c = rw c.in_ok-list.ensures (blocks_of_zeros c.args.numbers.now)
 pub copy_from_slice-requires : goal.copy_from_slice-requires
 copy_from_slice-requires c =
     ap length c.piece_mut.ensures.value
-    ∙ (block_long c.args.numbers.now c.numbers.list _ c.numbers.invariant (Contains-get_or c.args.numbers.now c.numbers.d-index 0 c.numbers-test.true) ∙ sym c.content.ensures)
+    ∙ (block_long c.args.numbers.now c.numbers.list _ c.numbers.invariant
+    (Contains-get_or c.args.numbers.now c.numbers.d-index 0 c.numbers-test.true) ∙ sym c.content.ensures)
 
 pub numbers-preserved : goal.numbers-preserved
 numbers-preserved c =
-    blocks_written c.args.numbers.now c.numbers.list _ c.copy_from_slice.new.self c.numbers.invariant (Contains-get_or c.args.numbers.now c.numbers.d-index 0 c.numbers-test.true)
+    blocks_written c.args.numbers.now c.numbers.list _ c.copy_from_slice.new.self c.numbers.invariant
+    (Contains-get_or c.args.numbers.now c.numbers.d-index 0 c.numbers-test.true)

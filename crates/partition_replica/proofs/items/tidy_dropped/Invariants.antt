@@ -9,5 +9,7 @@ abbrev pub invariant-dropped : goal.invariant-dropped
 invariant-dropped l = record {
   items : items_in l.index ≡ items_in l.initial.index;
   ready : (q : List ℕ) → is_among (ready_in l.index) q
-      ≡ (is_among (ready_in l.initial.index) q && (not (list_any (λ u. same_key u.key q) (take l.update-index l.dropped)) || is_needed (items_in l.initial.index) l.log.updates q));
+      ≡ (is_among (ready_in l.initial.index) q &&
+      (not (list_any (λ u. same_key u.key q) (take l.update-index l.dropped)) || is_needed (items_in l.initial.index)
+      l.log.updates q));
 }

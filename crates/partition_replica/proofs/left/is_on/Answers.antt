@@ -9,4 +9,5 @@ returns-then-ends_alike c = c.eq.ensures ∙ equal_is c.args.update.now.key c.ar
 pub returns-else-ends_alike : goal.returns-else-ends_alike
 returns-else-ends_alike c =
     c.if-ends_alike.false
-    ∙ ends_differ c.args.update.now.key c.args.key.now c.ends_alike.result (λ same. c.ends_alike.ensures (c.bytes.ensures.value ∙ same ∙ sym c.bytes-2.ensures.value)) c.if-ends_alike.false
+    ∙ ends_differ c.args.update.now.key c.args.key.now c.ends_alike.result
+    (λ same. c.ends_alike.ensures (c.bytes.ensures.value ∙ same ∙ sym c.bytes-2.ensures.value)) c.if-ends_alike.false

@@ -10,23 +10,35 @@ use Rattle.ready_client.proofs.Asking.{asks-none, begins-one, wants-begin}
 
 pub returns-in-Ok-true-clause-comes : goal.returns-in-Ok-true-clause-comes
 returns-in-Ok-true-clause-comes g c = λ told input input_now first before held progress is some come. let begun = c.begin.ensures.begun (cc) in
-    subst (λ (cs : List (OpenCall _)). Comes g.G.Gateway.rules OtherKeys told input input_now first before c.begin.new.gateway held progress cs 0 None) (sym begun.2)
-    (called-behind g.G.Gateway.rules g.G.Gateway.order told input input_now first before c.args.gateway.now c.begin.new.gateway held progress c.args.calls.now begun.0 c.args.op is begun.1 c.begin.ensures.open c.begin.ensures.onward come)
+    subst (λ (cs : List (OpenCall _)). Comes g.G.Gateway.rules OtherKeys told input input_now first before
+    c.begin.new.gateway held progress cs 0 None) (sym begun.2)
+    (called-behind g.G.Gateway.rules g.G.Gateway.order told input input_now first before c.args.gateway.now
+    c.begin.new.gateway held progress c.args.calls.now begun.0 c.args.op is begun.1 c.begin.ensures.open
+    c.begin.ensures.onward come)
 
 pub returns-in-Ok-false-clause-comes : goal.returns-in-Ok-false-clause-comes
-returns-in-Ok-false-clause-comes g c = λ told input input_now first before held progress is some come. let same = c.begin.ensures.full (cc) in rw same.0 (rw same.1 come)
+returns-in-Ok-false-clause-comes g c = λ told input input_now first before held progress is some come. let same =
+    c.begin.ensures.full (cc) in rw same.0 (rw same.1 come)
 
 pub returns-in-Err-clause-comes : goal.returns-in-Err-clause-comes
 returns-in-Err-clause-comes g c = λ told input input_now first before held progress is some come. rw c.in-Err.ensures.want
-    (wants-first g.G.Gateway.rules g.G.Gateway.order OtherKeys told input input_now first before c.args.gateway.now c.begin.new.gateway held progress c.args.calls.now 0 some c.begin.ensures.onward
-    (still-open g.G.Gateway.rules c.args.gateway.now c.begin.new.gateway c.args.calls.now (kept-all g.G.Gateway.rules c.args.gateway.now c.begin.new.gateway c.args.calls.now c.begin.ensures.open) come.opened) come.distinct come)
+    (wants-first g.G.Gateway.rules g.G.Gateway.order OtherKeys told input input_now first before c.args.gateway.now
+    c.begin.new.gateway held progress c.args.calls.now 0 some c.begin.ensures.onward
+    (still-open g.G.Gateway.rules c.args.gateway.now c.begin.new.gateway c.args.calls.now
+    (kept-all g.G.Gateway.rules c.args.gateway.now c.begin.new.gateway c.args.calls.now c.begin.ensures.open)
+    come.opened) come.distinct come)
 
 pub returns-in-Ok-true-clause-asks : goal.returns-in-Ok-true-clause-asks
 returns-in-Ok-true-clause-asks g c = λ told progress held is. let begun = c.begin.ensures.begun (cc) in
-    begins-one g.G.Gateway.rules told c.args.gateway.now c.begin.new.gateway progress c.args.calls.now c.begin.new.self held c.args.op begun.0 is begun.1 begun.2
+    begins-one g.G.Gateway.rules told c.args.gateway.now c.begin.new.gateway progress c.args.calls.now c.begin.new.self
+    held c.args.op begun.0 is begun.1 begun.2
 
 pub returns-in-Ok-false-clause-asks : goal.returns-in-Ok-false-clause-asks
-returns-in-Ok-false-clause-asks g c = λ told progress held is. let same = c.begin.ensures.full (cc) in rw same.0 (rw same.1 (asks-none g.G.Gateway.rules told (connection_at c.args.gateway.now progress c.args.calls.now 0 None held)))
+returns-in-Ok-false-clause-asks g c = λ told progress held is. let same = c.begin.ensures.full (cc) in
+    rw same.0 (rw same.1
+    (asks-none g.G.Gateway.rules told (connection_at c.args.gateway.now progress c.args.calls.now 0 None held)))
 
 pub returns-in-Err-clause-asks : goal.returns-in-Err-clause-asks
-returns-in-Err-clause-asks g c = λ told progress held is. wants-begin g.G.Gateway.rules told c.args.gateway.now c.begin.new.gateway progress c.args.calls.now c.begin.new.self held c.args.op is c.in-Err.ensures.unasked c.in-Err.ensures.want
+returns-in-Err-clause-asks g c = λ told progress held is. wants-begin g.G.Gateway.rules told c.args.gateway.now
+    c.begin.new.gateway progress c.args.calls.now c.begin.new.self held c.args.op is c.in-Err.ensures.unasked
+    c.in-Err.ensures.want

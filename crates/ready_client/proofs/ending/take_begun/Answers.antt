@@ -7,18 +7,25 @@ use Rattle.ready_client.proofs.ending.take_begun.Goals as goal
 
 pub returns-in-Some-clause-comes : goal.returns-in-Some-clause-comes
 returns-in-Some-clause-comes g c = λ overlap told input input_now first before sent come. let ended = c.in-Some.ensures.ended in
-    c.settle.ensures.comes overlap told input input_now first c.args.gateway.now c.take_end.new.gateway before sent ended.0 ended.1 (c.take_end.ensures.others come.distinct) c.take_end.ensures.onward
-    (subst (λ (cs : List (OpenCall _)). Comes g.G.Gateway.rules overlap told input input_now first before c.args.gateway.now (sent ++ c.args.outbox.now) c.args.connection.now cs 0 None) ended.2 come)
+    c.settle.ensures.comes overlap told input input_now first c.args.gateway.now c.take_end.new.gateway before sent
+    ended.0 ended.1 (c.take_end.ensures.others come.distinct) c.take_end.ensures.onward
+    (subst (λ (cs : List (OpenCall _)). Comes g.G.Gateway.rules overlap told input input_now first before
+    c.args.gateway.now (sent ++ c.args.outbox.now) c.args.connection.now cs 0 None) ended.2 come)
 
 pub returns-in-None-clause-comes : goal.returns-in-None-clause-comes
-returns-in-None-clause-comes g c = λ overlap told input input_now first before sent come. let same = c.take_end.ensures.still (cc) in rw same.0 (rw same.1 (rw c.requires.wanted come))
+returns-in-None-clause-comes g c = λ overlap told input input_now first before sent come. let same =
+    c.take_end.ensures.still (cc) in rw same.0 (rw same.1 (rw c.requires.wanted come))
 
 pub returns-in-Some-clause-asks : goal.returns-in-Some-clause-asks
 returns-in-Some-clause-asks g c = λ overlap told input_now sent input first before come. let ended = c.in-Some.ensures.ended in
     rw ended.2 (c.settle.ensures.asks overlap told input_now c.args.gateway.now c.take_end.new.gateway sent ended.0 ended.1 input first before
-    (subst (λ (cs : List (OpenCall _)). Comes g.G.Gateway.rules overlap told input input_now first before c.args.gateway.now (sent ++ c.args.outbox.now) c.args.connection.now cs 0 None) ended.2 come))
+    (subst (λ (cs : List (OpenCall _)). Comes g.G.Gateway.rules overlap told input input_now first before
+    c.args.gateway.now (sent ++ c.args.outbox.now) c.args.connection.now cs 0 None) ended.2 come))
 
 pub returns-in-None-clause-asks : goal.returns-in-None-clause-asks
 returns-in-None-clause-asks g c = λ overlap told input_now sent input first before come. let same = c.take_end.ensures.still (cc) in
-    asks-still g.G.Gateway.rules told c.args.gateway.now c.take_end.new.gateway c.args.connection.now c.args.calls.now.list c.take_end.new.self (sent ++ c.args.outbox.now) _ same.0 same.1
-    (rw c.requires.wanted (asks-none g.G.Gateway.rules told (connection_at c.take_end.new.gateway c.args.connection.now c.take_end.new.self 0 None (sent ++ c.args.outbox.now))))
+    asks-still g.G.Gateway.rules told c.args.gateway.now c.take_end.new.gateway c.args.connection.now
+    c.args.calls.now.list c.take_end.new.self (sent ++ c.args.outbox.now) _ same.0 same.1
+    (rw c.requires.wanted
+    (asks-none g.G.Gateway.rules told (connection_at c.take_end.new.gateway c.args.connection.now c.take_end.new.self
+    0 None (sent ++ c.args.outbox.now))))

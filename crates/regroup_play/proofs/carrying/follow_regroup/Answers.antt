@@ -20,7 +20,8 @@ returns c =
     subst (λ (q : EraPlay). HasDone (Some q) (by_regroup q c.args.shape) (Some now) (text_in c.match-carry.result)) c.play.view_is (elim c.match-carry.branch [
       | in-Ok w ↦
           subst (λ (r : Result (Option (Vec ℕ Global)) LineFault). HasDone (Some p) (by_regroup p c.args.shape) (Some now) (text_in r)) (sym w.result-is)
-          (carry-done p c.args.shape c.carry.new.regroup w.in-Ok.count c.era-era.result (length c.log-from.result.now) (text_in w.write_carried.result) led w.in-Ok.ensures c.era-era.ensures
+          (carry-done p c.args.shape c.carry.new.regroup w.in-Ok.count c.era-era.result (length c.log-from.result.now)
+          (text_in w.write_carried.result) led w.in-Ok.ensures c.era-era.ensures
           (ap length c.log-from.ensures.log ∙ ap (λ (v : World). length v.log) c.world.ensures) w.write_carried.ensures)
       | in-Err w ↦
           subst (λ (r : Result (Option (Vec ℕ Global)) LineFault). HasDone (Some p) (by_regroup p c.args.shape) (Some now) (text_in r)) (sym w.result-is)

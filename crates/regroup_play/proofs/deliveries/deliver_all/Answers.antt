@@ -10,7 +10,8 @@ deliveries-init c = Made-none c.args.regroup.now c.requires.led c.requires.up
 
 pub deliver-requires : goal.deliver-requires
 deliver-requires c = record {
-  may = (next-made c.args.regroup.now c.deliveries.regroup c.deliveries.count c.deliveries.invariant c.in-Some.from c.in-Some.to (sym (c.in-Some.ensures ∙ ap next_delivery c.world.ensures))).may;
+  may = (next-made c.args.regroup.now c.deliveries.regroup c.deliveries.count c.deliveries.invariant c.in-Some.from
+      c.in-Some.to (sym (c.in-Some.ensures ∙ ap next_delivery c.world.ensures))).may;
 }
 
 pub overflow_add-count : goal.overflow_add-count
@@ -23,7 +24,8 @@ pub deliveries-smaller : goal.deliveries-smaller
 deliveries-smaller c =
     let d : Eras = c.deliveries.regroup in
     subst (λ (x : Eras). load_of x.world < load_of d.world) (sym c.in_ok-deliver.ensures.eras)
-    (next-made c.args.regroup.now d c.deliveries.count c.deliveries.invariant c.in-Some.from c.in-Some.to (sym (c.in-Some.ensures ∙ ap next_delivery c.world.ensures))).lower
+    (next-made c.args.regroup.now d c.deliveries.count c.deliveries.invariant c.in-Some.from c.in-Some.to
+    (sym (c.in-Some.ensures ∙ ap next_delivery c.world.ensures))).lower
 
 pub deliveries-preserved : goal.deliveries-preserved
 deliveries-preserved c =
@@ -32,7 +34,9 @@ deliveries-preserved c =
     (sym (c.in-Some.ensures ∙ ap next_delivery c.world.ensures))).more
 
 pub returns-clause-eras : goal.returns-clause-eras
-returns-clause-eras c = all-delivered c.args.regroup.now c.deliveries.regroup c.deliveries.count c.deliveries.invariant c.requires.up (sym (c.in_default.ensures ∙ ap next_delivery c.world.ensures))
+returns-clause-eras c = all-delivered c.args.regroup.now c.deliveries.regroup c.deliveries.count c.deliveries.invariant
+    c.requires.up (sym (c.in_default.ensures ∙ ap next_delivery c.world.ensures))
 
 pub returns-clause-count : goal.returns-clause-count
-returns-clause-count c = all-counted c.args.regroup.now c.deliveries.regroup c.deliveries.count c.deliveries.invariant c.requires.up (sym (c.in_default.ensures ∙ ap next_delivery c.world.ensures))
+returns-clause-count c = all-counted c.args.regroup.now c.deliveries.regroup c.deliveries.count c.deliveries.invariant
+    c.requires.up (sym (c.in_default.ensures ∙ ap next_delivery c.world.ensures))

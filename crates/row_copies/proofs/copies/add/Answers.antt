@@ -12,7 +12,8 @@ copies-preserved c =
     let within : c.copies.place < length c.args.copies.now.items = search rules in
     record {
       now = ap (λ (y : Copy). set c.copies.copies.items c.copies.place y) c.add.ensures.copy
-          ∙ map_over_more (copy_after c.args.shape (ParityNode c.args.number) c.args.d.0 (c.args.update.now ∷ [])) c.args.copies.now.items c.copies.copies.items c.copies.place
+          ∙ map_over_more (copy_after c.args.shape (ParityNode c.args.number) c.args.d.0 (c.args.update.now ∷ []))
+          c.args.copies.now.items c.copies.copies.items c.copies.place
           c.index_mut.result.now within c.copies.invariant.now c.index_mut.ensures.value;
       whole = All-set (IsWhole c.args.shape) c.copies.copies.items c.copies.place c.add.new.self c.add.ensures.whole c.copies.invariant.whole;
     }

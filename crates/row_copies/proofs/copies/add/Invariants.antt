@@ -6,6 +6,7 @@ use Rattle.row_copies.proofs.copies.add.Given as goal
 
 abbrev pub invariant-copies : goal.invariant-copies
 invariant-copies l = record {
-  now : l.copies.items ≡ map (copy_after l.shape (ParityNode l.number) l.d.0 (l.update ∷ [])) (take l.place l.initial.copies.items) ++ drop l.place l.initial.copies.items;
+  now : l.copies.items ≡ map (copy_after l.shape (ParityNode l.number) l.d.0 (l.update ∷ []))
+      (take l.place l.initial.copies.items) ++ drop l.place l.initial.copies.items;
   whole : All (IsWhole l.shape) l.copies.items;
 }

@@ -12,7 +12,8 @@ returns-then-is_none c =
     let long = c.requires in
     let off : is_some (at None c.args.marks.now c.partitions.d) ≡ false =
     ap is_some (at_index None None c.args.marks.now c.partitions.d (omega (arith, below, long))) ∙ (c.is_none.ensures ∙ ap not c.if-is_none.true) in
-    sym (ap (λ (b : Bool). b && list_all marked (range_with_len (c.partitions.d + 1) (c.args.k - (c.partitions.d + 1)))) off) ∙ (sym (all_from marked c.partitions.d c.args.k below) ∙ c.partitions.invariant)
+    sym (ap (λ (b : Bool). b && list_all marked (range_with_len (c.partitions.d + 1) (c.args.k - (c.partitions.d + 1))))
+    off) ∙ (sym (all_from marked c.partitions.d c.args.k below) ∙ c.partitions.invariant)
 
 pub partitions-preserved : goal.partitions-preserved
 partitions-preserved c =
@@ -21,4 +22,5 @@ partitions-preserved c =
     let long = c.requires in
     let on : is_some (at None c.args.marks.now c.partitions.d) ≡ true =
     ap is_some (at_index None None c.args.marks.now c.partitions.d (omega (arith, below, long))) ∙ (c.is_none.ensures ∙ ap not c.if-is_none.false) in
-    sym (ap (λ (b : Bool). b && list_all marked (range_with_len (c.partitions.d + 1) (c.args.k - (c.partitions.d + 1)))) on) ∙ (sym (all_from marked c.partitions.d c.args.k below) ∙ c.partitions.invariant)
+    sym (ap (λ (b : Bool). b && list_all marked (range_with_len (c.partitions.d + 1) (c.args.k - (c.partitions.d + 1))))
+    on) ∙ (sym (all_from marked c.partitions.d c.args.k below) ∙ c.partitions.invariant)

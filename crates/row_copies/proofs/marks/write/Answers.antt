@@ -24,4 +24,5 @@ partitions-preserved c =
     let long = c.requires.marks in
     let read = at_index None None c.args.marks.now c.partitions.d (omega (arith, below, long)) in
     c.raise.ensures
-    ∙ write_more f c.partitions.d c.args.k c.unwrap_or.result c.partitions.into below (c.unwrap_or.ensures ∙ ap (λ (m : Option ℕ). unwrap_or m 0) (sym read)) c.partitions.invariant
+    ∙ write_more f c.partitions.d c.args.k c.unwrap_or.result c.partitions.into below
+    (c.unwrap_or.ensures ∙ ap (λ (m : Option ℕ). unwrap_or m 0) (sym read)) c.partitions.invariant

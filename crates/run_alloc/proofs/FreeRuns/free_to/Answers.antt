@@ -4,7 +4,10 @@ use Rattle.run_alloc.proofs.Pairs.{last_inside}
 use Rattle.run_alloc.proofs.FreeRuns.free_to.Goals as goal
 
 pub returns-in_default-clause-ends : goal.returns-in_default-clause-ends
-returns-in_default-clause-ends c = rw (← c.self.view_is) (free_set_reads c.self.inside.kept.runs c.args.at (not_free c.self.inside.kept.runs c.args.at c.in_default.ensures.last))
+returns-in_default-clause-ends c =
+    rw (← c.self.view_is)
+    (free_set_reads c.self.inside.kept.runs c.args.at
+    (not_free c.self.inside.kept.runs c.args.at c.in_default.ensures.last))
 
 pub overflow_add-end : goal.overflow_add-end
 overflow_add-end c = omega (arith, last_inside c.self.inside.kept.runs c.args.at _ c.in-Some.run' c.in-Some.ensures.last c.in-Some.ensures.spread)
@@ -19,4 +22,5 @@ returns-then-at-end-clause-ends c = rw (← c.self.view_is) (free_set_reads c.se
 
 pub returns-else-at-end-clause-ends : goal.returns-else-at-end-clause-ends
 returns-else-at-end-clause-ends c = rw (← c.self.view_is) (free_set_reads c.self.inside.kept.runs _
-    (behind_taken c.self.inside.kept.runs c.self.inside.size c.self.invariant c.args.at c.in-Some.run' c.in-Some.ensures.last (omega (arith, c.if-at-end.false))))
+    (behind_taken c.self.inside.kept.runs c.self.inside.size c.self.invariant c.args.at c.in-Some.run'
+    c.in-Some.ensures.last (omega (arith, c.if-at-end.false))))

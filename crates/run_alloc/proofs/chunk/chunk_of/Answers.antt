@@ -7,12 +7,14 @@ use Rattle.run_alloc.proofs.chunk.chunk_of.Goals as goal
 
 pub overflow_sub-result : goal.overflow_sub-result
 overflow_sub-result c =
-    let parted = IsPartitionPoint-from_clause (λ (x : Chunk). leb x.low c.args.rank) c.args.chunks.now c.partition_point.result c.partition_point.ensures.partitioned
+    let parted = IsPartitionPoint-from_clause (λ (x : Chunk). leb x.low c.args.rank) c.args.chunks.now
+    c.partition_point.result c.partition_point.ensures.partitioned
     (IsPartitionedBy-leb (λ (x : Chunk). x.low) c.args.chunks.now c.args.rank c.requires.rises) (λ a r q k. search rules) in
     is_some c.args.chunks.now c.args.rank _ c.requires.starts parted
 
 pub returns : goal.returns
 returns c =
-    let parted = IsPartitionPoint-from_clause (λ (x : Chunk). leb x.low c.args.rank) c.args.chunks.now c.partition_point.result c.partition_point.ensures.partitioned
+    let parted = IsPartitionPoint-from_clause (λ (x : Chunk). leb x.low c.args.rank) c.args.chunks.now
+    c.partition_point.result c.partition_point.ensures.partitioned
     (IsPartitionedBy-leb (λ (x : Chunk). x.low) c.args.chunks.now c.args.rank c.requires.rises) (λ a r q k. search rules) in
     is_chunk_of c.args.chunks.now c.args.rank _ c.ranges.rank.fits c.requires.starts c.partition_point.ensures.bound parted

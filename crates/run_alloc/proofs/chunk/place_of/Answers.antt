@@ -8,6 +8,7 @@ use Rattle.run_alloc.proofs.chunk.place_of.Goals as goal
 
 pub returns : goal.returns
 returns c =
-    let parted = IsPartitionPoint-from_clause (λ (r : Run). ltb (rank_of c.args.order r) c.args.rank) c.args.runs.now c.partition_point.result c.partition_point.ensures.partitioned
+    let parted = IsPartitionPoint-from_clause (λ (r : Run). ltb (rank_of c.args.order r) c.args.rank) c.args.runs.now
+    c.partition_point.result c.partition_point.ensures.partitioned
     (IsPartitionedBy-ltb (rank_of c.args.order) c.args.runs.now c.args.rank c.requires) (λ a r q k. search rules) in
     is_place_of (rank_of c.args.order) c.args.runs.now c.args.rank _ c.partition_point.ensures.bound parted

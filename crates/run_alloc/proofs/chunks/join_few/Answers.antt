@@ -10,29 +10,40 @@ pub returns-in-Ok-clause-runs : goal.returns-in-Ok-clause-runs
 returns-in-Ok-clause-runs c =
     let read = c.index_mut.ensures.value ∙ ap (λ (l : List Chunk). get_or l c.args.place c.index_mut.result.now) c.remove-next.ensures.items
     ∙ get_or-remove_below c.args.chunks.now.items (c.args.place + 1) c.index_mut.result.now c.args.place (omega arith) (omega arith) in
-    rw c.remove-next.ensures.items (joined_runs (rank_of c.args.order) c.args.chunks.now.items c.args.place c.requires.amid c.index_mut.result.now c.remove-next.result read c.remove-next.ensures.value (omega arith) c.requires.laid c.join-runs.new.chunk c.join-runs.ensures.low c.join-runs.ensures.runs)
+    rw c.remove-next.ensures.items (joined_runs (rank_of c.args.order) c.args.chunks.now.items c.args.place
+    c.requires.amid c.index_mut.result.now c.remove-next.result read c.remove-next.ensures.value (omega arith)
+    c.requires.laid c.join-runs.new.chunk c.join-runs.ensures.low c.join-runs.ensures.runs)
 
 pub returns-in-Ok-clause-laid : goal.returns-in-Ok-clause-laid
 returns-in-Ok-clause-laid c =
     let read = c.index_mut.ensures.value ∙ ap (λ (l : List Chunk). get_or l c.args.place c.index_mut.result.now) c.remove-next.ensures.items
     ∙ get_or-remove_below c.args.chunks.now.items (c.args.place + 1) c.index_mut.result.now c.args.place (omega arith) (omega arith) in
-    rw c.remove-next.ensures.items (joined_laid (rank_of c.args.order) c.args.chunks.now.items c.args.place c.requires.amid c.index_mut.result.now c.remove-next.result read c.remove-next.ensures.value (omega arith) c.requires.laid c.join-runs.new.chunk c.join-runs.ensures.low c.join-runs.ensures.runs)
+    rw c.remove-next.ensures.items (joined_laid (rank_of c.args.order) c.args.chunks.now.items c.args.place
+    c.requires.amid c.index_mut.result.now c.remove-next.result read c.remove-next.ensures.value (omega arith)
+    c.requires.laid c.join-runs.new.chunk c.join-runs.ensures.low c.join-runs.ensures.runs)
 
 pub returns-in-Ok-clause-starts : goal.returns-in-Ok-clause-starts
 returns-in-Ok-clause-starts c =
     let read = c.index_mut.ensures.value ∙ ap (λ (l : List Chunk). get_or l c.args.place c.index_mut.result.now) c.remove-next.ensures.items
     ∙ get_or-remove_below c.args.chunks.now.items (c.args.place + 1) c.index_mut.result.now c.args.place (omega arith) (omega arith) in
-    rw c.remove-next.ensures.items (joined_starts (rank_of c.args.order) c.args.chunks.now.items c.args.place c.requires.amid c.index_mut.result.now c.remove-next.result read c.remove-next.ensures.value (omega arith) c.requires.laid c.join-runs.new.chunk c.join-runs.ensures.low c.join-runs.ensures.runs)
+    rw c.remove-next.ensures.items (joined_starts (rank_of c.args.order) c.args.chunks.now.items c.args.place
+    c.requires.amid c.index_mut.result.now c.remove-next.result read c.remove-next.ensures.value (omega arith)
+    c.requires.laid c.join-runs.new.chunk c.join-runs.ensures.low c.join-runs.ensures.runs)
 
 pub returns-in-Ok-clause-rich : goal.returns-in-Ok-clause-rich
 returns-in-Ok-clause-rich c =
     let read = c.index_mut.ensures.value ∙ ap (λ (l : List Chunk). get_or l c.args.place c.index_mut.result.now) c.remove-next.ensures.items
     ∙ get_or-remove_below c.args.chunks.now.items (c.args.place + 1) c.index_mut.result.now c.args.place (omega arith) (omega arith) in
-    rw c.remove-next.ensures.items (joined_rich (rank_of c.args.order) c.args.chunks.now.items c.args.place c.requires.amid c.index_mut.result.now c.remove-next.result read c.remove-next.ensures.value (omega arith) c.requires.laid c.join-runs.new.chunk c.join-runs.ensures.low c.join-runs.ensures.runs c.join-runs.ensures.light c.join-runs.ensures.room)
+    rw c.remove-next.ensures.items (joined_rich (rank_of c.args.order) c.args.chunks.now.items c.args.place
+    c.requires.amid c.index_mut.result.now c.remove-next.result read c.remove-next.ensures.value (omega arith)
+    c.requires.laid c.join-runs.new.chunk c.join-runs.ensures.low c.join-runs.ensures.runs c.join-runs.ensures.light
+    c.join-runs.ensures.room)
 
 pub returns-else-place-len-clause-rich : goal.returns-else-place-len-clause-rich
 returns-else-place-len-clause-rich c =
     elim c.else-place-len.branch [
-      | else-place-len-via-then-place-len+else-len-lt-FEW w ↦ rich_enough c.args.chunks.now.items c.args.place c.requires.amid w.index.result.now w.index.ensures (omega (arith, w.index.result.now.runs.ok, w.len-then-place-len.ensures, w.if-len-lt-FEW.false))
+      | else-place-len-via-then-place-len+else-len-lt-FEW w ↦ rich_enough c.args.chunks.now.items c.args.place
+          c.requires.amid w.index.result.now w.index.ensures
+          (omega (arith, w.index.result.now.runs.ok, w.len-then-place-len.ensures, w.if-len-lt-FEW.false))
       | else-place-len-via-else-place-len w ↦ rich_still c.args.chunks.now.items c.args.place c.requires.amid (omega arith)
     ]

@@ -9,19 +9,38 @@ chunk_of-place-requires-clause-rises c = laid-steady (rank_of c.args.order) c.ar
 
 pub place_of-within-requires : goal.place_of-within-requires
 place_of-within-requires c =
-    found_steady (rank_of c.args.order) c.args.chunks.now c.args.rank _ c.chunk_of-place.ensures c.runs_at-runs.result.now c.runs_at-runs.ensures c.requires.laid
+    found_steady (rank_of c.args.order) c.args.chunks.now c.args.rank _ c.chunk_of-place.ensures
+    c.runs_at-runs.result.now c.runs_at-runs.ensures c.requires.laid
 
 pub returns-then-within-gt0 : goal.returns-then-within-gt0
-returns-then-within-gt0 c = last_here (rank_of c.args.order) c.args.chunks.now c.args.rank _ c.chunk_of-place.ensures c.runs_at-runs.result.now c.runs_at-runs.ensures c.requires.laid c.requires.even _ c.place_of-within.ensures _ c.if-within-gt0.true
+returns-then-within-gt0 c = last_here (rank_of c.args.order) c.args.chunks.now c.args.rank _ c.chunk_of-place.ensures
+    c.runs_at-runs.result.now c.runs_at-runs.ensures c.requires.laid c.requires.even _ c.place_of-within.ensures _
+    c.if-within-gt0.true
 
 pub returns-then-place-eq0 : goal.returns-then-place-eq0
-returns-then-place-eq0 c = none_below (rank_of c.args.order) c.args.chunks.now c.args.rank _ c.chunk_of-place.ensures c.runs_at-runs.result.now c.runs_at-runs.ensures c.requires.laid c.requires.even _ c.place_of-within.ensures (omega arith) (omega arith)
+returns-then-place-eq0 c = none_below (rank_of c.args.order) c.args.chunks.now c.args.rank _ c.chunk_of-place.ensures
+    c.runs_at-runs.result.now c.runs_at-runs.ensures c.requires.laid c.requires.even _ c.place_of-within.ensures
+    (omega arith) (omega arith)
 
 pub overflow_sub-result-2 : goal.overflow_sub-result-2
-overflow_sub-result-2 c = omega (arith, last_big (rank_of c.args.order) c.args.chunks.now c.args.rank _ c.chunk_of-place.ensures c.runs_at-runs.result.now c.runs_at-runs.ensures c.requires.laid c.requires.even _ c.place_of-within.ensures c.runs_at-last.result.now (omega arith) c.runs_at-last.ensures)
+overflow_sub-result-2 c =
+    omega (
+      arith,
+      last_big (rank_of c.args.order) c.args.chunks.now c.args.rank _ c.chunk_of-place.ensures
+          c.runs_at-runs.result.now c.runs_at-runs.ensures c.requires.laid c.requires.even _ c.place_of-within.ensures
+          c.runs_at-last.result.now (omega arith) c.runs_at-last.ensures,
+    )
 
 pub returns : goal.returns
-returns c = last_ahead (rank_of c.args.order) c.args.chunks.now c.args.rank _ c.chunk_of-place.ensures c.runs_at-runs.result.now c.runs_at-runs.ensures c.requires.laid c.requires.even _ c.place_of-within.ensures c.runs_at-last.result.now (omega arith) c.runs_at-last.ensures _ (omega arith)
+returns c = last_ahead (rank_of c.args.order) c.args.chunks.now c.args.rank _ c.chunk_of-place.ensures
+    c.runs_at-runs.result.now c.runs_at-runs.ensures c.requires.laid c.requires.even _ c.place_of-within.ensures
+    c.runs_at-last.result.now (omega arith) c.runs_at-last.ensures _ (omega arith)
 
 pub bounds-last-last : goal.bounds-last-last
-bounds-last-last c = omega (arith, last_big (rank_of c.args.order) c.args.chunks.now c.args.rank _ c.chunk_of-place.ensures c.runs_at-runs.result.now c.runs_at-runs.ensures c.requires.laid c.requires.even _ c.place_of-within.ensures c.runs_at-last.result.now (omega arith) c.runs_at-last.ensures)
+bounds-last-last c =
+    omega (
+      arith,
+      last_big (rank_of c.args.order) c.args.chunks.now c.args.rank _ c.chunk_of-place.ensures
+          c.runs_at-runs.result.now c.runs_at-runs.ensures c.requires.laid c.requires.even _ c.place_of-within.ensures
+          c.runs_at-last.result.now (omega arith) c.runs_at-last.ensures,
+    )

@@ -10,12 +10,14 @@ chunk_of-place-requires-clause-rises c = rw c.deref.ensures.value (laid-steady (
 pub pull-requires-clause-rises : goal.pull-requires-clause-rises
 pull-requires-clause-rises c =
     let is = rw (c.deref.ensures.value, c.rank.ensures) at c.chunk_of-place.ensures in
-    found_rises_all (rank_of c.args.order) c.args.chunks.now.items c.args.run _ is c.index_mut.result.now c.index_mut.ensures.value c.requires.laid c.requires.even
+    found_rises_all (rank_of c.args.order) c.args.chunks.now.items c.args.run _ is c.index_mut.result.now
+    c.index_mut.ensures.value c.requires.laid c.requires.even
 
 pub pull-requires-clause-kept : goal.pull-requires-clause-kept
 pull-requires-clause-kept c =
     let is = rw (c.deref.ensures.value, c.rank.ensures) at c.chunk_of-place.ensures in
-    found_kept (rank_of c.args.order) c.args.chunks.now.items c.args.run _ is c.index_mut.result.now c.index_mut.ensures.value c.requires.laid c.requires.even c.requires.kept
+    found_kept (rank_of c.args.order) c.args.chunks.now.items c.args.run _ is c.index_mut.result.now
+    c.index_mut.ensures.value c.requires.laid c.requires.even c.requires.kept
 
 pub returns : goal.returns
 returns c =
@@ -32,7 +34,14 @@ returns c =
       laid = pull_laid rank all run _ is here at c.requires.laid c.requires.even _ refl pulls;
       starts = set_starts rank all run _ is here at c.requires.laid c.requires.even _ refl ∙ c.requires.starts;
       amid = set_amid rank all run _ is here at c.requires.laid c.requires.even _ refl
-          (omega (arith, light, ap length pulls.was, ap length pulls.is, length-append pulls.before pulls.after, length-append pulls.before (run ∷ pulls.after))) (omega (arith, light, c.pull.ensures.capacity));
+          (omega (
+            arith,
+            light,
+            ap length pulls.was,
+            ap length pulls.is,
+            length-append pulls.before pulls.after,
+            length-append pulls.before (run ∷ pulls.after),
+          )) (omega (arith, light, c.pull.ensures.capacity));
       len = search rules;
       capacity = search rules;
     }

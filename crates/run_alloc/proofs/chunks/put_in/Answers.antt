@@ -11,12 +11,18 @@ chunk_of-place-requires-clause-rises c = rw c.deref.ensures.value (laid-steady (
 pub put-requires-clause-rises : goal.put-requires-clause-rises
 put-requires-clause-rises c =
     let is = rw (c.deref.ensures.value, c.rank.ensures) at c.chunk_of-place.ensures in
-    rises-steady (rank_of c.args.order) c.index_mut.result.now.runs.items 0 (2 ^ 64) (found_rises_all (rank_of c.args.order) c.args.chunks.now.items c.args.run _ is c.index_mut.result.now c.index_mut.ensures.value c.requires.laid c.requires.even)
+    rises-steady (rank_of c.args.order) c.index_mut.result.now.runs.items 0 (2 ^ 64)
+    (found_rises_all (rank_of c.args.order) c.args.chunks.now.items c.args.run _ is c.index_mut.result.now
+    c.index_mut.ensures.value c.requires.laid c.requires.even)
 
 pub put-requires-clause-room : goal.put-requires-clause-room
 put-requires-clause-room c =
     let is = rw (c.deref.ensures.value, c.rank.ensures) at c.chunk_of-place.ensures in
-    omega (arith, found_light (rank_of c.args.order) c.args.chunks.now.items c.args.run _ is c.index_mut.result.now c.index_mut.ensures.value c.requires.laid c.requires.even)
+    omega (
+      arith,
+      found_light (rank_of c.args.order) c.args.chunks.now.items c.args.run _ is c.index_mut.result.now
+          c.index_mut.ensures.value c.requires.laid c.requires.even,
+    )
 
 pub returns : goal.returns
 returns c =
@@ -33,7 +39,14 @@ returns c =
       laid = put_laid rank all run _ is here at c.requires.laid c.requires.even _ refl puts c.requires.fresh;
       starts = set_starts rank all run _ is here at c.requires.laid c.requires.even _ refl ∙ c.requires.starts;
       amid = set_amid rank all run _ is here at c.requires.laid c.requires.even _ refl
-          (omega (arith, light, ap length puts.was, ap length puts.is, length-append puts.before puts.after, length-append puts.before (run ∷ puts.after))) (omega (arith, light, c.put.ensures.capacity));
+          (omega (
+            arith,
+            light,
+            ap length puts.was,
+            ap length puts.is,
+            length-append puts.before puts.after,
+            length-append puts.before (run ∷ puts.after),
+          )) (omega (arith, light, c.put.ensures.capacity));
       len = search rules;
       capacity = search rules;
     }

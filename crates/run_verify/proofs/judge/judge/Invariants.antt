@@ -11,7 +11,8 @@ use Rattle.run_verify.proofs.judge.judge.Given as goal
 
 abbrev pub invariant-lines : goal.invariant-lines
 invariant-lines l = record {
-  judged : (v : Verdict) → IsJudgedBehind l.done (sheet_on l.shape l.steps (lines_of l.text)) (state_of (account_of l.account) l.turn l.logging) (lines_of l.rest) v
+  judged : (v : Verdict) → IsJudgedBehind l.done (sheet_on l.shape l.steps (lines_of l.text))
+      (state_of (account_of l.account) l.turn l.logging) (lines_of l.rest) v
       → IsJudged (sheet_on l.shape l.steps (lines_of l.text)) v;
   ends : EndsPlacing l.turn;
   fit : All (IsStepOf l.shape) l.turn;

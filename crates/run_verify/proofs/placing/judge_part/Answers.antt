@@ -15,7 +15,8 @@ changes-init c =
     let test = c.requires.partition in
     let below : c.args.partition < length (lists_of c.args.changes.now) = omega (arith, long, test) in
     record {
-      due = part_begins (lists_of c.args.changes.now) c.args.partition c.args.passed c.changes_of-changes.result.now below c.changes_of-changes.ensures c.requires.due;
+      due = part_begins (lists_of c.args.changes.now) c.args.partition c.args.passed c.changes_of-changes.result.now
+          below c.changes_of-changes.ensures c.requires.due;
       leads = λ found all. all;
       items = (c.in_ok-items.ensures.marked, c.in_ok-items.ensures.none);
       shape = c.in_ok-items.ensures.shape;
@@ -31,13 +32,18 @@ changes-preserved c =
     let below : c.changes.place < length own = grind (arith, common_steps) in
     let long : length (take c.changes.place own) ≡ c.changes.place = length-take-le c.changes.place own (omega (arith, below)) in
     let told = c.in_ok-pass.ensures.passed (take c.changes.place own) long c.changes.invariant.items.1 in
-    let line = subst (HasPassed c.changes.items.shape c.args.partition (take c.changes.place own) c.index-changes-place.result c.changes.rest.now c.pass.new.self) c.in-Line.is told in
-    let here = subst (λ (s : Dimensions). HasPassed s c.args.partition (take c.changes.place own) c.index-changes-place.result c.changes.rest.now c.pass.new.self (passed.Line c.in-Line.more)) c.changes.invariant.shape line in
+    let line = subst (HasPassed c.changes.items.shape c.args.partition (take c.changes.place own)
+    c.index-changes-place.result c.changes.rest.now c.pass.new.self) c.in-Line.is told in
+    let here = subst (λ (s : Dimensions). HasPassed s c.args.partition (take c.changes.place own)
+    c.index-changes-place.result c.changes.rest.now c.pass.new.self (passed.Line c.in-Line.more))
+    c.changes.invariant.shape line in
     let walked =
-    walk_line c.args.shape (lists_of c.args.changes.now) many c.args.partition own c.changes.place c.changes.passed c.index-changes-place.result c.changes.invariant.due below c.index-changes-place.is
+    walk_line c.args.shape (lists_of c.args.changes.now) many c.args.partition own c.changes.place c.changes.passed
+    c.index-changes-place.result c.changes.invariant.due below c.index-changes-place.is
     c.changes.rest.now c.pass.new.self c.in-Line.more here in
     let less =
-    shorter c.args.shape (lists_of c.args.changes.now) many c.args.partition own c.changes.place c.changes.passed c.index-changes-place.result c.changes.invariant.due below c.index-changes-place.is
+    shorter c.args.shape (lists_of c.args.changes.now) many c.args.partition own c.changes.place c.changes.passed
+    c.index-changes-place.result c.changes.invariant.due below c.index-changes-place.is
     c.changes.rest.now c.pass.new.self c.in-Line.more here in
     let few = c.changes.invariant.few in
     record {
@@ -57,10 +63,13 @@ changes-preserved-in-Silent c =
     let below : c.changes.place < length own = grind (arith, common_steps) in
     let long : length (take c.changes.place own) ≡ c.changes.place = length-take-le c.changes.place own (omega (arith, below)) in
     let told = c.in_ok-pass.ensures.passed (take c.changes.place own) long c.changes.invariant.items.1 in
-    let line = subst (HasPassed c.changes.items.shape c.args.partition (take c.changes.place own) c.index-changes-place.result c.changes.rest.now c.pass.new.self) c.in-Silent.is told in
-    let here = subst (λ (s : Dimensions). HasPassed s c.args.partition (take c.changes.place own) c.index-changes-place.result c.changes.rest.now c.pass.new.self passed.Silent) c.changes.invariant.shape line in
+    let line = subst (HasPassed c.changes.items.shape c.args.partition (take c.changes.place own)
+    c.index-changes-place.result c.changes.rest.now c.pass.new.self) c.in-Silent.is told in
+    let here = subst (λ (s : Dimensions). HasPassed s c.args.partition (take c.changes.place own)
+    c.index-changes-place.result c.changes.rest.now c.pass.new.self passed.Silent) c.changes.invariant.shape line in
     let walked =
-    walk_silent c.args.shape (lists_of c.args.changes.now) many c.args.partition own c.changes.place c.changes.passed c.index-changes-place.result c.changes.invariant.due below c.index-changes-place.is
+    walk_silent c.args.shape (lists_of c.args.changes.now) many c.args.partition own c.changes.place c.changes.passed
+    c.index-changes-place.result c.changes.invariant.due below c.index-changes-place.is
     c.changes.rest.now c.pass.new.self here in
     let few = c.changes.invariant.few in
     record {
@@ -80,8 +89,11 @@ returns-in-Fails c =
     let below : c.changes.place < length own = grind (arith, common_steps) in
     let long : length (take c.changes.place own) ≡ c.changes.place = length-take-le c.changes.place own (omega (arith, below)) in
     let told = c.in_ok-pass.ensures.passed (take c.changes.place own) long c.changes.invariant.items.1 in
-    let line = subst (HasPassed c.changes.items.shape c.args.partition (take c.changes.place own) c.index-changes-place.result c.changes.rest.now c.pass.new.self) c.in-Fails.is told in
-    let here = subst (λ (s : Dimensions). HasPassed s c.args.partition (take c.changes.place own) c.index-changes-place.result c.changes.rest.now c.pass.new.self passed.Fails) c.changes.invariant.shape line in
+    let line = subst (HasPassed c.changes.items.shape c.args.partition (take c.changes.place own)
+    c.index-changes-place.result c.changes.rest.now c.pass.new.self) c.in-Fails.is told in
+    let here = subst (λ (s : Dimensions). HasPassed s c.args.partition (take c.changes.place own)
+    c.index-changes-place.result c.changes.rest.now c.pass.new.self passed.Fails) c.changes.invariant.shape line in
     c.changes.invariant.leads (Some (c.changes.passed + 1))
-    (walk_fails c.args.shape (lists_of c.args.changes.now) many c.args.partition own c.changes.place c.changes.passed c.index-changes-place.result c.changes.invariant.due below c.index-changes-place.is
+    (walk_fails c.args.shape (lists_of c.args.changes.now) many c.args.partition own c.changes.place c.changes.passed
+    c.index-changes-place.result c.changes.invariant.due below c.index-changes-place.is
     c.changes.rest.now c.pass.new.self here)

@@ -10,8 +10,10 @@ use Rattle.run_verify.proofs.placing.judge_places.Goals as goal
 
 pub returns-in-Fails : goal.returns-in-Fails
 returns-in-Fails c =
-    let told = subst (HasToldPart c.args.shape (lists_of c.args.changes.now) c.partitions.partition c.partitions.passed c.partitions.rest.now) c.in-Fails.is c.in_ok-now.ensures in
-    from_first c.args.shape (lists_of c.args.changes.now) (lines_of c.args.text.now) (Some c.in-Fails.number) (c.partitions.invariant.leads (Some c.in-Fails.number) told)
+    let told = subst (HasToldPart c.args.shape (lists_of c.args.changes.now) c.partitions.partition c.partitions.passed
+    c.partitions.rest.now) c.in-Fails.is c.in_ok-now.ensures in
+    from_first c.args.shape (lists_of c.args.changes.now) (lines_of c.args.text.now) (Some c.in-Fails.number)
+    (c.partitions.invariant.leads (Some c.in-Fails.number) told)
 
 pub returns : goal.returns
 returns c =
@@ -20,4 +22,5 @@ returns c =
     let many : length (lists_of c.args.changes.now) ≡ c.args.shape.k = long ∙ same in
     let end : length (lists_of c.args.changes.now) ≤ c.partitions.partition = grind (arith, common_steps, many) in
     found_first c.args.shape (lists_of c.args.changes.now) many c.partitions.passed (lines_of c.args.text.now) (lines_of c.partitions.rest.now)
-    (none_left (lists_of c.args.changes.now) c.partitions.partition c.partitions.passed end c.partitions.invariant.due) c.partitions.invariant.leads c.judge_end.result c.judge_end.ensures
+    (none_left (lists_of c.args.changes.now) c.partitions.partition c.partitions.passed end c.partitions.invariant.due)
+    c.partitions.invariant.leads c.judge_end.result c.judge_end.ensures

@@ -21,11 +21,14 @@ partitions-preserved c =
     let low : d < length stamp = grind (arith, common_steps) in
     let split = drop_more stamp d 0 low in
     let below = subst (AreBelow changes d) split c.partitions.invariant.below in
-    let summed = subst (λ (rest : List ℕ). IsSummed c.args.shape.m c.args.process size c.args.run spaces d rest c.partitions.sum.items target) split c.partitions.invariant.summed in
+    let summed = subst (λ (rest : List ℕ). IsSummed c.args.shape.m c.args.process size c.args.run spaces d rest
+    c.partitions.sum.items target) split c.partitions.invariant.summed in
     record {
-      summed = sum_goes c.args.shape.m c.args.process size c.args.run c.requires.run spaces d (get_or stamp d 0) (drop (d + 1) stamp) c.partitions.sum.items target c.deref.result.now c.add_part.new.sum.items summed
+      summed = sum_goes c.args.shape.m c.args.process size c.args.run c.requires.run spaces d (get_or stamp d 0)
+          (drop (d + 1) stamp) c.partitions.sum.items target c.deref.result.now c.add_part.new.sum.items summed
           (c.deref.ensures.value ∙ ap (λ (x : Shadow). x.space.items) c.index.ensures ∙ c.in_ok-place.ensures.there.space c.index.result.now)
-          (ap length c.deref.ensures.value ∙ ap (λ (x : Shadow). length x.space.items) c.index.ensures ∙ c.in_ok-place.ensures.there.long c.index.result.now) c.add_part.ensures.sum;
+          (ap length c.deref.ensures.value ∙ ap (λ (x : Shadow). length x.space.items) c.index.ensures
+          ∙ c.in_ok-place.ensures.there.long c.index.result.now) c.add_part.ensures.sum;
       long = c.add_part.ensures.long;
       within = omega (arith, low);
       below = below.1;

@@ -5,7 +5,9 @@ use Rattle.run_verify.proofs.spaces.grow.Goals as goal
 
 pub shadows-preserved : goal.shadows-preserved
 shadows-preserved c = record {
-  follow = λ changes all. subst (AllFollow changes) (sym c.in_ok-push.ensures.items) (follow_pushed changes c.shadows.shadows.items c.new.result c.new.ensures (c.shadows.invariant.follow changes all));
+  follow = λ changes all. subst (AllFollow changes) (sym c.in_ok-push.ensures.items)
+      (follow_pushed changes c.shadows.shadows.items c.new.result c.new.ensures
+      (c.shadows.invariant.follow changes all));
 }
 
 pub returns-in_err-push-clause-follow : goal.returns-in_err-push-clause-follow

@@ -18,9 +18,11 @@ judge-requires-clause-ends c =
 pub returns : goal.returns
 returns c =
     let same = ap (λ (st : List Step). record { shape = c.script.inside.shape; steps = st }) c.deref.ensures.value ∙ c.script.view_is in
-    let judged = subst (λ (s : Script). IsJudged (record { script = s; lines = lines_of c.in_ok-script.transcript.now }) c.in_ok-verdict.verdict) same c.in_ok-verdict.ensures in
+    let judged = subst (λ (s : Script). IsJudged (record { script = s; lines = lines_of c.in_ok-script.transcript.now })
+    c.in_ok-verdict.verdict) same c.in_ok-verdict.ensures in
     let long : length c.deref.result.now < 2 ^ 64 = grind (arith, common_steps) in
     let few = subst (λ (st : List Step). length st < 2 ^ 64) (c.deref.ensures.value ∙ ap (λ (s : Script). s.steps) c.script.view_is) long in
     record {
-      verdict = verdict_of c.args.input.now (sheet_by (c.in_ok-script.script, c.in_ok-script.transcript)) c.in_ok-script.ensures.read c.in_ok-script.ensures.steps few c.in_ok-verdict.verdict judged;
+      verdict = verdict_of c.args.input.now (sheet_by (c.in_ok-script.script, c.in_ok-script.transcript))
+          c.in_ok-script.ensures.read c.in_ok-script.ensures.steps few c.in_ok-verdict.verdict judged;
     }

@@ -8,5 +8,6 @@ pub returns-in-Ok : goal.returns-in-Ok
 returns-in-Ok g c = written-whole Done (script_text c.args.number) _ _ _ _ refl c.in-Ok.ensures.whole
 
 pub returns-in-Err : goal.returns-in-Err
-returns-in-Err g c = written-part Done (script_text c.args.number) _ _ _ _ _ _ c.in-Err.status c.tell.result (fault-alone Done _ _ c.in-Err.status c.in-Err.ensures.fault)
+returns-in-Err g c = written-part Done (script_text c.args.number) _ _ _ _ _ _ c.in-Err.status c.tell.result
+    (fault-alone Done _ _ c.in-Err.status c.in-Err.ensures.fault)
     c.in-Err.ensures.part c.in-Err.ensures.short c.tell.ensures.status c.tell.ensures.front c.tell.ensures.later

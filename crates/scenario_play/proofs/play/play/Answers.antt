@@ -6,4 +6,5 @@ use Rattle.scenario_play.proofs.Lines.{all-kept, tells}
 use Rattle.scenario_play.proofs.play.play.Goals as goal
 
 pub returns-clause-played : goal.returns-clause-played
-returns-clause-played g c = promised (language_of (tells.text None) (tells.verdict 1 None)) KeepsPromises all-kept _ _ c.play_on.result (rw c.new.ensures at c.play_on.ensures.played)
+returns-clause-played g c = promised (language_of (tells.text None) (tells.verdict 1 None)) KeepsPromises all-kept _ _
+    c.play_on.result (rw c.new.ensures at c.play_on.ensures.played)

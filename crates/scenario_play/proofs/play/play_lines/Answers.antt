@@ -3,7 +3,8 @@ use Rattle.edge_io.specs.Moving.{Appends}
 use Rattle.edge_io.specs.Writing.{HasWrittenPart}
 use Rattle.scenario_run.specs.Lines.{lines_of}
 use Rattle.scenario_play.specs.Player.{GoesOn, telling}
-use Rattle.scenario_play.proofs.Writing.{Treated, Treated-more, Treated-none, Written, Written-more, Written-none, Written-short, handed-on, part-played, refused-at, untreated}
+use Rattle.scenario_play.proofs.Writing.{Treated, Treated-more, Treated-none, Written, Written-more, Written-none}
+use Rattle.scenario_play.proofs.Writing.{Written-short, handed-on, part-played, refused-at, untreated}
 use Rattle.scenario_play.proofs.play.play_lines.Goals as goal
 
 pub lines-init : goal.lines-init
@@ -32,13 +33,17 @@ lines-preserved g c =
     let all : List ℕ = g.P.Player.text c.args.player.now (lines_of c.args.text.now) in
     let held : List ℕ = g.K.Sink.held c.args.sink.now in
     let wrote : Appends (g.K.Sink.held c.lines.sink) (g.K.Sink.held c.write_text.new.sink) text
-    = subst (λ (xs : List ℕ). Appends (g.K.Sink.held c.lines.sink) (g.K.Sink.held c.write_text.new.sink) xs) c.deref.ensures.value c.in_ok-write_text-in-Some.ensures.whole in
-    let before = λ (xs : List (List ℕ)). Treated (g.P.Player.text c.args.player.now) (lines_of c.args.text.now) held (g.K.Sink.held c.lines.sink) (g.P.Player.text c.lines.player) xs in
+    = subst (λ (xs : List ℕ). Appends (g.K.Sink.held c.lines.sink) (g.K.Sink.held c.write_text.new.sink) xs)
+    c.deref.ensures.value c.in_ok-write_text-in-Some.ensures.whole in
+    let before = λ (xs : List (List ℕ)). Treated (g.P.Player.text c.args.player.now) (lines_of c.args.text.now) held
+    (g.K.Sink.held c.lines.sink) (g.P.Player.text c.lines.player) xs in
     record {
-      treated = Treated-more (g.P.Player.text c.args.player.now) (lines_of c.args.text.now) held (g.K.Sink.held c.lines.sink) (g.K.Sink.held c.write_text.new.sink) (g.P.Player.text c.lines.player)
+      treated = Treated-more (g.P.Player.text c.args.player.now) (lines_of c.args.text.now) held
+          (g.K.Sink.held c.lines.sink) (g.K.Sink.held c.write_text.new.sink) (g.P.Player.text c.lines.player)
           (g.P.Player.text c.treat.new.self) line rest text (subst before cut c.lines.invariant.treated) wrote on.text;
       written = Written-more held (g.K.Sink.held c.lines.sink) (g.K.Sink.held c.write_text.new.sink) text (g.P.Player.text c.treat.new.self rest) all
-          (subst (λ (xs : List ℕ). Written held (g.K.Sink.held c.lines.sink) xs all) (ap (g.P.Player.text c.lines.player) cut ∙ on.text rest) c.lines.invariant.written)
+          (subst (λ (xs : List ℕ). Written held (g.K.Sink.held c.lines.sink) xs all)
+          (ap (g.P.Player.text c.lines.player) cut ∙ on.text rest) c.lines.invariant.written)
           wrote;
       verdict = sym (ap (g.P.Player.verdict c.lines.number c.lines.player) cut ∙ on.verdict rest) ∙ c.lines.invariant.verdict;
       entries = sym (ap (g.P.Player.entries c.lines.player) cut ∙ on.entries rest) ∙ c.lines.invariant.entries;
@@ -54,13 +59,18 @@ returns-in_err-text-clause-end g c =
     let cut : lines_of c.lines.rest.now ≡ line ∷ rest = c.cut_line.ensures.lines in
     let all : List ℕ = g.P.Player.text c.args.player.now (lines_of c.args.text.now) in
     let told = sym (ap (g.P.Player.verdict c.lines.number c.lines.player) cut) ∙ c.lines.invariant.verdict in
-    let written = subst (λ (xs : List ℕ). Written (g.K.Sink.held c.args.sink.now) (g.K.Sink.held c.lines.sink) xs all) (ap (g.P.Player.text c.lines.player) cut) c.lines.invariant.written in
+    let written = subst (λ (xs : List ℕ). Written (g.K.Sink.held c.args.sink.now) (g.K.Sink.held c.lines.sink) xs all)
+    (ap (g.P.Player.text c.lines.player) cut) c.lines.invariant.written in
     let transcript : List ℕ → List ℕ = λ script. g.P.Player.text c.args.player.now (lines_of script) in
-    let before = λ (xs : List (List ℕ)). Treated (g.P.Player.text c.args.player.now) (lines_of c.args.text.now) (g.K.Sink.held c.args.sink.now) (g.K.Sink.held c.lines.sink) (g.P.Player.text c.lines.player) xs in
-    let left = untreated (g.P.Player.text c.args.player.now) c.args.text.now (g.K.Sink.held c.args.sink.now) (g.K.Sink.held c.lines.sink) (g.P.Player.text c.lines.player) line rest
+    let before = λ (xs : List (List ℕ)). Treated (g.P.Player.text c.args.player.now) (lines_of c.args.text.now)
+    (g.K.Sink.held c.args.sink.now) (g.K.Sink.held c.lines.sink) (g.P.Player.text c.lines.player) xs in
+    let left = untreated (g.P.Player.text c.args.player.now) c.args.text.now (g.K.Sink.held c.args.sink.now)
+    (g.K.Sink.held c.lines.sink) (g.P.Player.text c.lines.player) line rest
     (subst before cut c.lines.invariant.treated) in
     handed-on _ _ _ _ transcript c.args.text.now _ c.from_residual.result c.in_err-text.field-0.0 c.from_residual.ensures.1
-    (refused-at _ _ _ _ transcript c.args.text.now _ (telling g.P.Player.text g.P.Player.verdict g.P.Player.entries g.P.Player.ready) c.lines.number c.lines.player line rest c.in_err-text.field-0.0 c.in_err-text.ensures left told written)
+    (refused-at _ _ _ _ transcript c.args.text.now _ (telling g.P.Player.text g.P.Player.verdict g.P.Player.entries
+    g.P.Player.ready) c.lines.number c.lines.player line rest c.in_err-text.field-0.0 c.in_err-text.ensures left told
+    written)
 
 pub returns-in_err-write_text-in-Some-clause-end : goal.returns-in_err-write_text-in-Some-clause-end
 returns-in_err-write_text-in-Some-clause-end g c =
@@ -73,9 +83,14 @@ returns-in_err-write_text-in-Some-clause-end g c =
     let all : List ℕ = g.P.Player.text c.args.player.now (lines_of c.args.text.now) in
     let held : List ℕ = g.K.Sink.held c.args.sink.now in
     let written = ap (g.P.Player.text c.lines.player) cut ∙ on.text rest in
-    let part : HasWrittenPart held (g.K.Sink.held c.write_text.new.sink) all = Written-short held (g.K.Sink.held c.lines.sink) (g.K.Sink.held c.write_text.new.sink) text (g.P.Player.text c.treat.new.self rest) all
+    let part : HasWrittenPart held (g.K.Sink.held c.write_text.new.sink) all =
+    Written-short held (g.K.Sink.held c.lines.sink) (g.K.Sink.held c.write_text.new.sink) text
+    (g.P.Player.text c.treat.new.self rest) all
     (subst (λ (xs : List ℕ). Written held (g.K.Sink.held c.lines.sink) xs all) written c.lines.invariant.written)
-    (subst (HasWrittenPart (g.K.Sink.held c.lines.sink) (g.K.Sink.held c.write_text.new.sink)) c.deref.ensures.value c.in_err-write_text-in-Some.ensures.short) in
+    (subst (HasWrittenPart (g.K.Sink.held c.lines.sink) (g.K.Sink.held c.write_text.new.sink)) c.deref.ensures.value
+    c.in_err-write_text-in-Some.ensures.short) in
     let transcript : List ℕ → List ℕ = λ script. g.P.Player.text c.args.player.now (lines_of script) in
-    handed-on _ _ _ _ transcript c.args.text.now _ c.from_residual-in_err-write_text-in-Some.result c.in_err-write_text-in-Some.field-0.0 c.from_residual-in_err-write_text-in-Some.ensures.1
-    (part-played _ _ _ _ transcript c.args.text.now _ _ c.in_err-write_text-in-Some.field-0.0 c.in_err-write_text-in-Some.ensures.fault c.lines.invariant.later part)
+    handed-on _ _ _ _ transcript c.args.text.now _ c.from_residual-in_err-write_text-in-Some.result
+    c.in_err-write_text-in-Some.field-0.0 c.from_residual-in_err-write_text-in-Some.ensures.1
+    (part-played _ _ _ _ transcript c.args.text.now _ _ c.in_err-write_text-in-Some.field-0.0
+    c.in_err-write_text-in-Some.ensures.fault c.lines.invariant.later part)

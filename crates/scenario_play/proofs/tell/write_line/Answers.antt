@@ -12,10 +12,28 @@ returns-in-Ok-clause-line g c =
     inr (record { count = length line; bytes = subst held (c.requires ∙ sym (take-length line)) c.in-Ok.ensures.whole; whole = inl (omega arith) })
 
 pub returns-in-Ok-clause-front : goal.returns-in-Ok-clause-front
-returns-in-Ok-clause-front g c = record { said = c.args.status; whose = inl refl; written = subst (HasWritten (g.K.Sink.held c.args.sink.now) (g.K.Sink.held c.write_all.new.sink)) c.requires c.write_all.ensures.part }
+returns-in-Ok-clause-front g c =
+    record {
+      said = c.args.status;
+      whose = inl refl;
+      written = subst (HasWritten (g.K.Sink.held c.args.sink.now) (g.K.Sink.held c.write_all.new.sink)) c.requires
+          c.write_all.ensures.part;
+    }
 
 pub returns-in-Err-Failed-clause-front : goal.returns-in-Err-Failed-clause-front
-returns-in-Err-Failed-clause-front g c = record { said = c.args.status; whose = inl refl; written = subst (HasWritten (g.K.Sink.held c.args.sink.now) (g.K.Sink.held c.write_all.new.sink)) c.requires c.write_all.ensures.part }
+returns-in-Err-Failed-clause-front g c =
+    record {
+      said = c.args.status;
+      whose = inl refl;
+      written = subst (HasWritten (g.K.Sink.held c.args.sink.now) (g.K.Sink.held c.write_all.new.sink)) c.requires
+          c.write_all.ensures.part;
+    }
 
 pub returns-in-Err-Want-clause-front : goal.returns-in-Err-Want-clause-front
-returns-in-Err-Want-clause-front g c = record { said = c.args.status; whose = inr refl; written = subst (HasWritten (g.K.Sink.held c.args.sink.now) (g.K.Sink.held c.write_all.new.sink)) c.requires c.write_all.ensures.part }
+returns-in-Err-Want-clause-front g c =
+    record {
+      said = c.args.status;
+      whose = inr refl;
+      written = subst (HasWritten (g.K.Sink.held c.args.sink.now) (g.K.Sink.held c.write_all.new.sink)) c.requires
+          c.write_all.ensures.part;
+    }

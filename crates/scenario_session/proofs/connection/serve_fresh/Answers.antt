@@ -4,7 +4,8 @@ use Rattle.scenario_session.proofs.Opening.{served-nothing, served-by}
 use Rattle.scenario_session.proofs.connection.serve_fresh.Goals as goal
 
 pub returns-in_err-new-clause-served : goal.returns-in_err-new-clause-served
-returns-in_err-new-clause-served g c = let shape : IsShape c.args.shape = search rules in served-nothing _ _ _ _ c.from_residual.result shape c.from_residual.ensures.1
+returns-in_err-new-clause-served g c = let shape : IsShape c.args.shape = search rules in
+    served-nothing _ _ _ _ c.from_residual.result shape c.from_residual.ensures.1
 
 pub returns-clause-served : goal.returns-clause-served
 returns-clause-served g c =

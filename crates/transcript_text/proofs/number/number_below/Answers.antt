@@ -6,4 +6,5 @@ use Rattle.transcript_text.proofs.Numbers.{reads-too_large}
 use Rattle.transcript_text.proofs.number.number_below.Goals as goal
 
 pub returns-then-limit-number : goal.returns-then-limit-number
-returns-then-limit-number c = reads-too_large c.args.word.now c.args.limit c.in_ok-number.number c.ranges.limit.fits c.if-limit-number.true (c.in_ok-number.ensures)
+returns-then-limit-number c = reads-too_large c.args.word.now c.args.limit c.in_ok-number.number c.ranges.limit.fits
+    c.if-limit-number.true (c.in_ok-number.ensures)

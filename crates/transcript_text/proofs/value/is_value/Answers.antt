@@ -18,4 +18,6 @@ returns-then-word-ne0 c =
 pub returns : goal.returns
 returns c =
     let other = c.if-is_dash.false in
-    value-test c.args.word.now c.are_digits.result (λ dash. let is = c.is_dash.ensures.1 dash in cc (is, other)) (some-test c.args.word.now c.is_empty.result c.is_empty.ensures c.if-is_empty.false) c.if-word-ne0.false c.are_digits.ensures
+    value-test c.args.word.now c.are_digits.result (λ dash. let is = c.is_dash.ensures.1 dash in cc (is, other))
+    (some-test c.args.word.now c.is_empty.result c.is_empty.ensures c.if-is_empty.false) c.if-word-ne0.false
+    c.are_digits.ensures

@@ -7,5 +7,6 @@ use Rattle.value_space.proofs.space.add.Goals as goal
 
 pub returns-clause-bytes : goal.returns-clause-bytes
 returns-clause-bytes c =
-    subst (λ sum. bytes_of c.add.new.self ≡ added_at c.args.at sum (bytes_of c.args.pages.now)) (scale_one c.args.bytes.now (λ k. omega (arith, c.type_inv.bytes k)))
+    subst (λ sum. bytes_of c.add.new.self ≡ added_at c.args.at sum (bytes_of c.args.pages.now))
+    (scale_one c.args.bytes.now (λ k. omega (arith, c.type_inv.bytes k)))
     (bytes_added c.args.pages.now c.add.new.self c.args.at 1 c.args.bytes.now c.requires.within c.add.ensures)

@@ -5,4 +5,6 @@ use Rattle.wire_codec.proofs.cut.joined_message.Goals as goal
 
 pub returns-then-front-le4 : goal.returns-then-front-le4
 returns-then-front-le4 c =
-    subst (λ (text : List ℕ). Gives (λ m. m) c.read_message.result (message_of text)) (c.split_at.ensures.back ∙ drop-joined c.args.front.now c.args.piece.now c.if-front-le4.true) c.read_message.ensures
+    subst (λ (text : List ℕ). Gives (λ m. m) c.read_message.result (message_of text))
+    (c.split_at.ensures.back ∙ drop-joined c.args.front.now c.args.piece.now c.if-front-le4.true)
+    c.read_message.ensures

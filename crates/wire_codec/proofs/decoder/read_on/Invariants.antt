@@ -8,7 +8,8 @@ use Rattle.wire_codec.proofs.decoder.read_on.Given as goal
 abbrev pub invariant-frames : goal.invariant-frames
 invariant-frames l = record {
   fits : l.begun + length l.rest ≤ 2 ^ 62;
-  completes : (kept : Kept) (given : List Message) → ReadsFrom l.begun kept l.rest given → ReadsOn l.fn.at kept l.fn.text l.fn.found.items (l.messages.items ++ given);
+  completes : (kept : Kept) (given : List Message) → ReadsFrom l.begun kept l.rest given
+      → ReadsOn l.fn.at kept l.fn.text l.fn.found.items (l.messages.items ++ given);
 }
 
 abbrev pub decreases-frames : goal.decreases-frames

@@ -6,5 +6,6 @@ use Rattle.wire_codec.proofs.put_message.put_updates.Goals as goal
 
 pub updates-preserved : goal.updates-preserved
 updates-preserved c =
-    one_more update c.args.out.now.items c.updates.out.items c.put_update.new.out.items c.args.updates.now c.updates.u-index c.u-item.result c.updates-test.true c.updates.invariant
+    one_more update c.args.out.now.items c.updates.out.items c.put_update.new.out.items c.args.updates.now
+    c.updates.u-index c.u-item.result c.updates-test.true c.updates.invariant
     (c.in_ok-put_update.ensures ∙ ap (λ (u : Update). c.updates.out.items ++ update u) c.u-item.is)

@@ -5,7 +5,8 @@ use Rattle.wire_frames.proofs.ending.end_stream.Goals as goal
 
 pub returns-then-at_start : goal.returns-then-at_start
 returns-then-at_start c = λ input messages h.
-    subst (λ (rest : List ℕ). Reads input messages rest) ((rest-good c.args.decoder.now input messages h c.requires).0 ∙ c.at_start.ensures.0 c.if-at_start.true) h.reads
+    subst (λ (rest : List ℕ). Reads input messages rest) ((rest-good c.args.decoder.now input messages h c.requires).0
+    ∙ c.at_start.ensures.0 c.if-at_start.true) h.reads
 
 pub returns-else-at_start : goal.returns-else-at_start
 returns-else-at_start c = λ input messages h.

@@ -12,7 +12,8 @@ use Rattle.wire_frames.proofs.listing.list_piece.Goals as goal
 
 pub returns-in_err-given-clause-listed : goal.returns-in_err-given-clause-listed
 returns-in_err-given-clause-listed g c = λ input messages h.
-    piece-fault c.args.decoder.now c.feed.new.self input messages c.args.piece.now (g.K.Sink.held c.args.sink.now) (g.K.Sink.held c.args.sink.now) c.in_err-given.field-0.0 c.from_residual.result h
+    piece-fault c.args.decoder.now c.feed.new.self input messages c.args.piece.now (g.K.Sink.held c.args.sink.now)
+    (g.K.Sink.held c.args.sink.now) c.in_err-given.field-0.0 c.from_residual.result h
     c.in_err-given.ensures.bad_frame c.in_err-given.ensures.again refl c.from_residual.ensures.1
 
 pub lines_of-requires : goal.lines_of-requires
@@ -29,7 +30,8 @@ returns-in_err-write_all-clause-listed g c = λ input messages h.
     let held = g.K.Sink.held c.args.sink.now in
     let now = g.K.Sink.held c.write_all.new.sink in
     let good : c.args.decoder.now.bad ≡ false = never-true c.args.decoder.now.bad (λ was. absurd (cc (c.in_ok-given.ensures.again was).0)) in
-    let text : c.deref.result.now ≡ lines_of c.in_ok-given.given = c.deref.ensures.value ∙ c.in_ok-lines.ensures ∙ ap (λ (ms : List Message). lines_of ms) c.messages.ensures in
+    let text : c.deref.result.now ≡ lines_of c.in_ok-given.given = c.deref.ensures.value ∙ c.in_ok-lines.ensures
+    ∙ ap (λ (ms : List Message). lines_of ms) c.messages.ensures in
     piece-halted old new input messages piece held now c.in_err-write_all.field-0.0 c.from_residual-in_err-write_all.result
     (has-given old new input messages piece held now c.in_ok-given.given h good c.in_ok-given.ensures.messages)
     (subst (λ (bytes : List ℕ). HasWritten held now bytes) text c.in_err-write_all.ensures.part) c.from_residual-in_err-write_all.ensures.1
@@ -40,7 +42,8 @@ returns-clause-listed g c = λ input messages h.
     let held = g.K.Sink.held c.args.sink.now in
     let now = g.K.Sink.held c.write_all.new.sink in
     let good : c.args.decoder.now.bad ≡ false = never-true c.args.decoder.now.bad (λ was. absurd (cc (c.in_ok-given.ensures.again was).0)) in
-    let text : c.deref.result.now ≡ lines_of c.in_ok-given.given = c.deref.ensures.value ∙ c.in_ok-lines.ensures ∙ ap (λ (ms : List Message). lines_of ms) c.messages.ensures in (
+    let text : c.deref.result.now ≡ lines_of c.in_ok-given.given = c.deref.ensures.value ∙ c.in_ok-lines.ensures
+    ∙ ap (λ (ms : List Message). lines_of ms) c.messages.ensures in (
       has-given old c.feed.new.self input messages c.args.piece.now held now c.in_ok-given.given h good c.in_ok-given.ensures.messages,
       subst (λ (bytes : List ℕ). Appends held now bytes) text c.in_ok-write_all.ensures.whole,
     )

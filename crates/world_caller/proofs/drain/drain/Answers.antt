@@ -15,6 +15,7 @@ deliveries-preserved c =
     let is : IsDelivered c.deliveries.world c.deliver.new.world = c.in_ok-deliver.ensures.some c.if-not-branch.false in
     record {
       led = led-on c.args.world.now c.deliveries.world c.deliver.new.world c.due_delivers.ensures c.deliveries.invariant.led is;
-      delivered = more-delivered c.args.world.now c.deliveries.world c.deliver.new.world c.due_delivers.ensures c.deliveries.invariant.led is c.deliveries.invariant.delivered
+      delivered = more-delivered c.args.world.now c.deliveries.world c.deliver.new.world c.due_delivers.ensures
+          c.deliveries.invariant.led is c.deliveries.invariant.delivered
           (let test = c.deliveries-test.true in omega (arith, test));
     }

@@ -15,4 +15,5 @@ invariant_of-result c =
 pub returns : goal.returns
 returns c =
     let nothing : c.in_ok-vec.field-0.items ≡ replicate c.args.count false = c.in_ok-vec.ensures.items_if_clones_equal (λ y same. same) in
-    ap₂ (λ (ps : List Piece) (came : List Bool). awaited_in ps came c.args.block) c.in_ok-new.ensures nothing ∙ view_at_first c.args.block c.args.count c.args.numbers.now
+    ap₂ (λ (ps : List Piece) (came : List Bool). awaited_in ps came c.args.block) c.in_ok-new.ensures nothing
+    ∙ view_at_first c.args.block c.args.count c.args.numbers.now

@@ -9,4 +9,5 @@ use Rattle.block_sessions.proofs.arrivals.Arrivals.pieces.Goals as goal
 pub returns-clause-columns : goal.returns-clause-columns
 returns-clause-columns c =
     let complete = subst (λ (a : Awaited). list_all (λ n. is_some (at None a.parts n)) a.numbers ≡ true) (sym c.self.view_is) c.requires in
-    all_columns c.self.inside.pieces c.self.inside.came.items c.self.inside.block c.self.invariant complete ∙ ap (λ (a : Awaited). columns_from 0 a.parts) c.self.view_is
+    all_columns c.self.inside.pieces c.self.inside.came.items c.self.inside.block c.self.invariant complete
+    ∙ ap (λ (a : Awaited). columns_from 0 a.parts) c.self.view_is

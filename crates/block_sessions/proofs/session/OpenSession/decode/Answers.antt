@@ -15,7 +15,9 @@ use Rattle.block_sessions.proofs.session.OpenSession.decode.Goals as goal
 pub pieces-requires-2 : goal.pieces-requires-2
 pieces-requires-2 c =
     let g = c.args.self.now in
-    (and_parts (list_all (λ n. is_some (at None g.known.parts n)) g.known.numbers) (list_all (λ n. is_some (at None g.coded.parts n)) g.coded.numbers) (complete_is c.args.shape g c.requires.sound ∙ c.requires.complete)).0
+    (and_parts (list_all (λ n. is_some (at None g.known.parts n)) g.known.numbers)
+    (list_all (λ n. is_some (at None g.coded.parts n)) g.coded.numbers) (complete_is c.args.shape g c.requires.sound
+    ∙ c.requires.complete)).0
 
 pub decode-requires-clause-partitions : goal.decode-requires-clause-partitions
 decode-requires-clause-partitions c =
@@ -38,7 +40,14 @@ decode-requires-clause-long c =
     let g = c.args.self.now in
     let sound = c.requires.sound in
     let rows = c.pieces.result.now in
-    let some : 1 ≤ length rows = omega (arith, length-map rows (λ (p : Piece). p.number), ap length c.pieces.ensures.numbers, sound.lost.as_many, sound.lost.some) in
+    let some : 1 ≤ length rows =
+    omega (
+      arith,
+      length-map rows (λ (p : Piece). p.number),
+      ap length c.pieces.ensures.numbers,
+      sound.lost.as_many,
+      sound.lost.some,
+    ) in
     (one_length c.args.shape.block rows c.pieces-2.result.now g.out some
     (subst (λ n. All (λ (p : Piece). length p.bytes ≡ n) rows) sound.coded_long c.pieces.ensures.long)
     (subst (λ n. All (λ (p : Piece). length p.bytes ≡ n) c.pieces-2.result.now) sound.known_long c.pieces-2.ensures.long)
@@ -51,7 +60,14 @@ returns-clause-decoded c =
     let sound = c.requires.sound in
     let rows = c.pieces.result.now in
     let known = c.pieces-2.result.now in
-    let some : 1 ≤ length rows = omega (arith, length-map rows (λ (p : Piece). p.number), ap length c.pieces.ensures.numbers, sound.lost.as_many, sound.lost.some) in
+    let some : 1 ≤ length rows =
+    omega (
+      arith,
+      length-map rows (λ (p : Piece). p.number),
+      ap length c.pieces.ensures.numbers,
+      sound.lost.as_many,
+      sound.lost.some,
+    ) in
     let long : length_of (rows ++ known ++ g.out) ≡ s.block = (one_length s.block rows known g.out some
     (subst (λ n. All (λ (p : Piece). length p.bytes ≡ n) rows) sound.coded_long c.pieces.ensures.long)
     (subst (λ n. All (λ (p : Piece). length p.bytes ≡ n) known) sound.known_long c.pieces-2.ensures.long)
@@ -60,9 +76,14 @@ returns-clause-decoded c =
     record {
       numbers = numbers;
       long = subst (λ n. All (λ l. length (bytes_of c.decode.new.out l) ≡ n) g.lost.items) long
-          (decoded_long s.k s.m (length_of (rows ++ known ++ g.out)) g.lost.items (as_columns rows) (as_columns known) known c.decode.new.out sound.lost.below (c.pieces-2.ensures.numbers ∙ sound.known) numbers c.decode.ensures.agrees);
+          (decoded_long s.k s.m (length_of (rows ++ known ++ g.out)) g.lost.items (as_columns rows) (as_columns known)
+          known c.decode.new.out sound.lost.below (c.pieces-2.ensures.numbers ∙ sound.known) numbers
+          c.decode.ensures.agrees);
       decoded = λ i d below.
-          let here = subst (λ (ls : List ℕ). All (λ l. bytes_of c.decode.new.out l ≡ decoded s.m (length_of (rows ++ known ++ g.out)) ls (as_columns rows) (as_columns known) l) ls) c.deref.ensures.value c.decode.ensures.closed_form in
+          let here = subst
+          (λ (ls : List ℕ). All (λ l. bytes_of c.decode.new.out l ≡ decoded s.m (length_of (rows ++ known ++ g.out))
+          ls (as_columns rows) (as_columns known) l) ls) c.deref.ensures.value c.decode.ensures.closed_form in
           here i d below ∙ (ap (λ n. decoded s.m n g.lost.items (as_columns rows) (as_columns known) (get_or g.lost.items i d)) long
-          ∙ ap₂ (λ (rs ks : List Column). decoded s.m s.block g.lost.items rs ks (get_or g.lost.items i d)) c.pieces.ensures.columns c.pieces-2.ensures.columns);
+          ∙ ap₂ (λ (rs ks : List Column). decoded s.m s.block g.lost.items rs ks (get_or g.lost.items i d))
+          c.pieces.ensures.columns c.pieces-2.ensures.columns);
     }

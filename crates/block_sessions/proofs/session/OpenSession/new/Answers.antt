@@ -10,7 +10,8 @@ use Rattle.block_sessions.proofs.Lost.{known_below, known_rises}
 use Rattle.block_sessions.proofs.session.OpenSession.new.Goals as goal
 
 pub new-requires-clause-rising : goal.new-requires-clause-rising
-new-requires-clause-rising c = subst IsStrictlyIncreasing (sym (c.deref-2.ensures.value ∙ c.in_ok-known.ensures)) (known_rises c.args.shape.k c.deref.result.now)
+new-requires-clause-rising c = subst IsStrictlyIncreasing (sym (c.deref-2.ensures.value ∙ c.in_ok-known.ensures))
+    (known_rises c.args.shape.k c.deref.result.now)
 
 pub new-requires-clause-below : goal.new-requires-clause-below
 new-requires-clause-below c =
@@ -23,7 +24,8 @@ returns-clause-sound c =
     record {
       block = c.requires.block;
       lost = subst (λ (rows : List ℕ). AreLost s c.args.lost.items rows) (sym (ap (λ (a : Awaited). a.numbers) c.in_ok-new-2.ensures)) c.requires.lost;
-      known = ap (λ (a : Awaited). a.numbers) c.in_ok-new.ensures ∙ (c.deref-2.ensures.value ∙ (c.in_ok-known.ensures ∙ ap (known_of s.k) c.deref.ensures.value));
+      known = ap (λ (a : Awaited). a.numbers) c.in_ok-new.ensures
+          ∙ (c.deref-2.ensures.value ∙ (c.in_ok-known.ensures ∙ ap (known_of s.k) c.deref.ensures.value));
       blocks_in = ap (λ (a : Awaited). length a.parts) c.in_ok-new.ensures ∙ (length-replicate c.k.result None ∙ c.k.ensures.value);
       rows_in = ap (λ (a : Awaited). length a.parts) c.in_ok-new-2.ensures ∙ (length-replicate c.m.result None ∙ c.m.ensures.value);
       known_long = ap (λ (a : Awaited). a.block) c.in_ok-new.ensures ∙ c.block.ensures.value;
@@ -31,6 +33,7 @@ returns-clause-sound c =
       out = record {
         numbers = ap numbers_of c.in_ok-new-3.ensures ∙ (zero_numbers c.block-3.result c.deref-3.result.now ∙ c.deref-3.ensures.value);
         long = subst (λ (ps : List Piece). All (λ p. length p.bytes ≡ s.block) ps) (sym c.in_ok-new-3.ensures)
-            (subst (λ n. All (λ (p : Piece). length p.bytes ≡ n) (zero_pieces c.block-3.result c.deref-3.result.now)) c.block-3.ensures.value (zero_long c.block-3.result c.deref-3.result.now));
+            (subst (λ n. All (λ (p : Piece). length p.bytes ≡ n) (zero_pieces c.block-3.result c.deref-3.result.now))
+            c.block-3.ensures.value (zero_long c.block-3.result c.deref-3.result.now));
       };
     }

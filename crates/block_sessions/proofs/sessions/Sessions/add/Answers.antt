@@ -16,7 +16,8 @@ invariant_of-self c =
     record {
       opened = c.self.invariant.opened;
       rebuilt = rebuilt_set pages c.args.d.0 c.add.new.pages below c.self.inside.shape most c.self.invariant.rebuilt
-          (c.add.ensures.holds most (subst (HoldsBlocks c.self.inside.shape most) (sym c.index_mut.ensures.value) (c.self.invariant.rebuilt.each c.args.d.0 c.index_mut.result.now below)));
+          (c.add.ensures.holds most (subst (HoldsBlocks c.self.inside.shape most) (sym c.index_mut.ensures.value)
+          (c.self.invariant.rebuilt.each c.args.d.0 c.index_mut.result.now below)));
     }
 
 pub returns-clause-state : goal.returns-clause-state
@@ -28,6 +29,10 @@ returns-clause-state c =
     let us = c.args.update.now ∷ [] in
     let below : d < length pages = omega (arith, k, c.requires.partition, c.self.invariant.rebuilt.all) in
     let own = one_of_all pages d c.index_mut.result.now below c.index_mut.ensures.value in
-    ap (λ (blocks : List (List (Option (List ℕ)))). record { sessions = map gathering_of c.self.inside.sessions.items; last_session = c.self.inside.last; rebuilt = blocks })
+    ap (λ (blocks : List (List (Option (List ℕ)))). record {
+      sessions = map gathering_of c.self.inside.sessions.items;
+      last_session = c.self.inside.last;
+      rebuilt = blocks;
+    })
     (one_changed pages d c.add.new.pages below ∙ ap (put [] (map rebuilt_in pages) d) (c.add.ensures.blocks ∙ ap (rebuilt_after shape d us 0) (sym own)))
     ∙ ap (λ (l : Leading). record l.state { rebuilt = put [] l.state.rebuilt d (rebuilt_after l.shape d us 0 (at [] l.state.rebuilt d)) }) c.self.view_is

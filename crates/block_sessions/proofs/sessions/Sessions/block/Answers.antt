@@ -17,7 +17,8 @@ block-requires-clause-awaited c =
     subst (λ (ns : List ℕ). Contains ns c.args.d) (sym sound.known) (known_in s.k c.index_mut.result.now.lost.items c.args.d below apart)
 
 pub invariant_of-self : goal.invariant_of-self
-invariant_of-self c = parts_more c.self.view_is c.self.invariant c.in-Some.ensures.within c.index_mut.ensures.value c.block.new.self c.block.ensures.gathering refl c.block.ensures.sound
+invariant_of-self c = parts_more c.self.view_is c.self.invariant c.in-Some.ensures.within c.index_mut.ensures.value
+    c.block.new.self c.block.ensures.gathering refl c.block.ensures.sound
 
 pub returns-in-Some-clause-state : goal.returns-in-Some-clause-state
 returns-in-Some-clause-state c =

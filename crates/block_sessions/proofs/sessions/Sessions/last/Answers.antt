@@ -5,4 +5,5 @@ use Rattle.block_sessions.specs.Rebuilt.{rebuilt_in}
 use Rattle.block_sessions.proofs.sessions.Sessions.last.Goals as goal
 
 pub returns-clause-partitions : goal.returns-clause-partitions
-returns-clause-partitions c = subst (λ (l : Leading). length l.state.rebuilt ≡ l.shape.k) c.self.view_is (length-map c.self.inside.rebuilt.items rebuilt_in ∙ c.self.invariant.rebuilt.all)
+returns-clause-partitions c = subst (λ (l : Leading). length l.state.rebuilt ≡ l.shape.k) c.self.view_is
+    (length-map c.self.inside.rebuilt.items rebuilt_in ∙ c.self.invariant.rebuilt.all)

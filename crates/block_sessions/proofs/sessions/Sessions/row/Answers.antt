@@ -11,7 +11,8 @@ row-requires-clause-awaited c =
     subst (λ (o : Option Gathering). IfSome o (λ g. Contains g.rows c.args.i)) opened c.requires.awaited
 
 pub invariant_of-self : goal.invariant_of-self
-invariant_of-self c = parts_more c.self.view_is c.self.invariant c.in-Some.ensures.within c.index_mut.ensures.value c.row.new.self c.row.ensures.gathering refl c.row.ensures.sound
+invariant_of-self c = parts_more c.self.view_is c.self.invariant c.in-Some.ensures.within c.index_mut.ensures.value
+    c.row.new.self c.row.ensures.gathering refl c.row.ensures.sound
 
 pub returns-in-Some-clause-state : goal.returns-in-Some-clause-state
 returns-in-Some-clause-state c =

@@ -26,7 +26,9 @@ invariant_of-self-in_err-push c =
     let most = length c.self.inside.sessions.items in
     let whole : length c.make_room.new.rebuilt ≡ c.self.inside.rebuilt.len = omega (arith, c.make_room.auto.rebuilt, c.deref_mut.ensures.len) in
     let same : c.push.new.self.items ≡ c.self.inside.sessions.items = c.in_err-push.ensures.items in
-    subst (λ (gs : List OpenSession). AreParts s gs c.self.inside.last (take c.self.inside.rebuilt.len (c.make_room.new.rebuilt ++ drop (length c.make_room.new.rebuilt) c.self.inside.rebuilt.items))) (sym same)
+    subst (λ (gs : List OpenSession). AreParts s gs c.self.inside.last
+    (take c.self.inside.rebuilt.len (c.make_room.new.rebuilt ++ drop (length c.make_room.new.rebuilt)
+    c.self.inside.rebuilt.items))) (sym same)
     (record {
       opened = c.self.invariant.opened;
       rebuilt = subst (AreRebuilt s most) (sym (with_items_is c.self.inside.rebuilt c.make_room.new.rebuilt whole))
@@ -40,13 +42,19 @@ invariant_of-self-2 c =
     let g = c.in_ok-session.session in
     let whole : length c.make_room.new.rebuilt ≡ c.self.inside.rebuilt.len = omega (arith, c.make_room.auto.rebuilt, c.deref_mut.ensures.len) in
     let pushed : c.push.new.self.items ≡ sessions ++ g ∷ [] = c.in_ok-push.ensures.items in
-    let none : AreRebuilt s 0 c.deref_mut.result.now = subst (AreRebuilt s 0) (sym c.deref_mut.ensures.value) (any_rooms s (length sessions) 0 c.self.inside.rebuilt.items (omega arith) c.self.invariant.rebuilt) in
+    let none : AreRebuilt s 0 c.deref_mut.result.now = subst (AreRebuilt s 0) (sym c.deref_mut.ensures.value)
+    (any_rooms s (length sessions) 0 c.self.inside.rebuilt.items (omega arith) c.self.invariant.rebuilt) in
     let enough : length sessions + 1 ≤ c.len.result + 1 = omega (arith, c.len.ensures) in
     let last = c.self.inside.last in
-    let is : gathering_of g ≡ new_session s (last + 1) c.args.block c.args.lost.items c.args.rows.items = c.in_ok-session.ensures.gathering ∙ ap (new_session s (last + 1) c.args.block c.args.lost.items) c.deref.ensures.value in
-    subst (λ (gs : List OpenSession). AreParts s gs (last + 1) (take c.self.inside.rebuilt.len (c.make_room.new.rebuilt ++ drop (length c.make_room.new.rebuilt) c.self.inside.rebuilt.items))) (sym pushed)
+    let is : gathering_of g ≡ new_session s (last + 1) c.args.block c.args.lost.items c.args.rows.items =
+    c.in_ok-session.ensures.gathering ∙ ap (new_session s (last + 1) c.args.block c.args.lost.items)
+    c.deref.ensures.value in
+    subst (λ (gs : List OpenSession). AreParts s gs (last + 1)
+    (take c.self.inside.rebuilt.len (c.make_room.new.rebuilt ++ drop (length c.make_room.new.rebuilt)
+    c.self.inside.rebuilt.items))) (sym pushed)
     (subst (λ (ps : List Contents). AreParts s (sessions ++ g ∷ []) (last + 1) ps) (sym (with_items_is c.self.inside.rebuilt c.make_room.new.rebuilt whole))
-    (parts_with s last sessions c.self.inside.rebuilt.items c.make_room.new.rebuilt g c.args.block c.args.lost.items c.args.rows.items is c.self.invariant c.in_ok-session.ensures.sound
+    (parts_with s last sessions c.self.inside.rebuilt.items c.make_room.new.rebuilt g c.args.block c.args.lost.items
+    c.args.rows.items is c.self.invariant c.in_ok-session.ensures.sound
     (c.in_ok-make_room.ensures.room s (length sessions + 1) enough none)))
 
 pub returns-clause-state : goal.returns-clause-state
@@ -57,8 +65,11 @@ returns-clause-state c =
     let last = c.self.inside.last in
     let whole : length c.make_room.new.rebuilt ≡ c.self.inside.rebuilt.len = omega (arith, c.make_room.auto.rebuilt, c.deref_mut.ensures.len) in
     let pushed : c.push.new.self.items ≡ sessions ++ g ∷ [] = c.in_ok-push.ensures.items in
-    let is : gathering_of g ≡ new_session s (last + 1) c.args.block c.args.lost.items c.args.rows.items = c.in_ok-session.ensures.gathering ∙ ap (new_session s (last + 1) c.args.block c.args.lost.items) c.deref.ensures.value in
-    let same : map rebuilt_in c.make_room.new.rebuilt ≡ map rebuilt_in c.self.inside.rebuilt.items = c.in_ok-make_room.ensures.blocks ∙ ap (map rebuilt_in) c.deref_mut.ensures.value in
+    let is : gathering_of g ≡ new_session s (last + 1) c.args.block c.args.lost.items c.args.rows.items =
+    c.in_ok-session.ensures.gathering ∙ ap (new_session s (last + 1) c.args.block c.args.lost.items)
+    c.deref.ensures.value in
+    let same : map rebuilt_in c.make_room.new.rebuilt ≡ map rebuilt_in c.self.inside.rebuilt.items =
+    c.in_ok-make_room.ensures.blocks ∙ ap (map rebuilt_in) c.deref_mut.ensures.value in
     ap₂ (λ (gs : List OpenSession) (ps : List Contents). state_of gs (last + 1) ps) pushed (with_items_is c.self.inside.rebuilt c.make_room.new.rebuilt whole)
     ∙ (state_with s last sessions c.self.inside.rebuilt.items c.make_room.new.rebuilt g c.args.block c.args.lost.items c.args.rows.items is same
     ∙ ap (λ (l : Leading). started l.shape c.args.block c.args.lost.items c.args.rows.items l.state) c.self.view_is)

@@ -31,10 +31,17 @@ pieces-preserved c =
     let g = gathering_of c.args.session in
     let l = c.index-l.result.now in
     let next = next_lost c.pieces.at c.index-l.result.now c.decode.ensures.same (omega (arith, c.pieces-test.true, c.len-at-end.ensures)) c.index-l.ensures in
-    let below : l < length c.pieces.rebuilt = omega (arith, next.1, c.requires.sound.lost.below c.pieces.at 0 next.0, (c.pieces.invariant.all 1 c.requires.rebuilt).all) in
+    let below : l < length c.pieces.rebuilt = omega (
+      arith,
+      next.1,
+      c.requires.sound.lost.below c.pieces.at 0 next.0,
+      (c.pieces.invariant.all 1 c.requires.rebuilt).all,
+    ) in
     let old : Contents = get_or c.pieces.rebuilt l c.index-rebuilt-l.result in
     let kept = subst (λ b. rebuilt_in c.keep.new.pages ≡ kept_unless (is_some (at None (rebuilt_in old) b)) b c.take.result (rebuilt_in old))
     (ap (λ (x : OpenSession). x.block) c.decode.ensures.same) c.keep.ensures.kept in
-    subst (λ (out : List Piece). AreKept c.args.shape g c.args.rebuilt.now (set c.pieces.rebuilt l c.keep.new.pages) out (c.pieces.at + 1)) (sym c.take.ensures.others)
-    (kept_more c.args.shape g c.args.rebuilt.now c.pieces.rebuilt c.pieces.out c.pieces.at l old c.keep.new.pages c.take.result c.requires.sound.lost.rising next.0 next.1 c.pieces.invariant below
+    subst (λ (out : List Piece). AreKept c.args.shape g c.args.rebuilt.now (set c.pieces.rebuilt l c.keep.new.pages) out
+    (c.pieces.at + 1)) (sym c.take.ensures.others)
+    (kept_more c.args.shape g c.args.rebuilt.now c.pieces.rebuilt c.pieces.out c.pieces.at l old c.keep.new.pages
+    c.take.result c.requires.sound.lost.rising next.0 next.1 c.pieces.invariant below
     (sym (get_or_default c.pieces.rebuilt l old c.index-rebuilt-l.result below)) c.take.ensures.bytes kept c.keep.ensures.holds)

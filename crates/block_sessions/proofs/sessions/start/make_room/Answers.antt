@@ -22,7 +22,9 @@ pub returns-clause-blocks : goal.returns-clause-blocks
 returns-clause-blocks c = ap (map rebuilt_in) c.pages.invariant ∙ same_blocks_to c.args.count c.pages.pages-index c.args.rebuilt.now
 
 pub returns-clause-kept : goal.returns-clause-kept
-returns-clause-kept c = λ s most is. subst (AreRebuilt s most) (sym c.pages.invariant) (rebuilt_to c.args.count c.pages.pages-index c.args.rebuilt.now s most is)
+returns-clause-kept c = λ s most is. subst (AreRebuilt s most) (sym c.pages.invariant)
+    (rebuilt_to c.args.count c.pages.pages-index c.args.rebuilt.now s most is)
 
 pub returns-clause-room : goal.returns-clause-room
-returns-clause-room c = λ s most le is. subst (AreRebuilt s most) (sym c.pages.invariant) (rebuilt_all c.args.count c.pages.pages-index c.args.rebuilt.now s most c.pages-test.false le is)
+returns-clause-room c = λ s most le is. subst (AreRebuilt s most) (sym c.pages.invariant)
+    (rebuilt_all c.args.count c.pages.pages-index c.args.rebuilt.now s most c.pages-test.false le is)

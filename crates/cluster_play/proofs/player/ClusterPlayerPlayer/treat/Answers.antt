@@ -14,14 +14,20 @@ returns c =
     let line : List ℕ = c.args.line.now in
     elim c.match-treat.branch [
       | in-Ok-Some w ↦
-          let done : HasDone c.self.inside.play (next_of c.self.inside.play line) now (Ok (Some w.in-Ok-Some.text.items)) = rw w.in-Ok-Some.field-0-is at w.in-Ok-Some.ensures in
+          let done : HasDone c.self.inside.play (next_of c.self.inside.play line) now
+          (Ok (Some w.in-Ok-Some.text.items)) = rw w.in-Ok-Some.field-0-is at w.in-Ok-Some.ensures in
           subst (λ (r : Result (Option (Vec ℕ Global)) Status). HasTreatedLine tells c.args.number before now line (text_in r)) (sym w.result-is)
-          (treated-on c.args.number before now line w.in-Ok-Some.text.items c.requires.ready (subst (λ (p : Option ClusterPlay). HasDone p (next_of p line) now (Ok (Some w.in-Ok-Some.text.items))) c.self.view_is done))
+          (treated-on c.args.number before now line w.in-Ok-Some.text.items c.requires.ready
+          (subst (λ (p : Option ClusterPlay). HasDone p (next_of p line) now (Ok (Some w.in-Ok-Some.text.items)))
+          c.self.view_is done))
       | in-Ok-None w ↦
           let done : HasDone c.self.inside.play (next_of c.self.inside.play line) now (Ok None) = rw w.in-Ok-None.field-0-is at w.in-Ok-None.ensures in
           subst (λ (r : Result (Option (Vec ℕ Global)) Status). HasTreatedLine tells c.args.number before now line (text_in r)) (sym w.result-is)
           (treated-last c.args.number before now line (subst (λ (p : Option ClusterPlay). HasDone p (next_of p line) now (Ok None)) c.self.view_is done))
       | in-Err w ↦
-          subst (λ (r : Result (Option (Vec ℕ Global)) Status). HasTreatedLine tells c.args.number before now line (text_in r)) (sym (w.result-is ∙ ap (λ (s : Status). Err s) w.status_of.ensures))
-          (treated-refused c.args.number before now line w.in-Err.fault (subst (λ (p : Option ClusterPlay). HasDone p (next_of p line) now (Err w.in-Err.fault)) c.self.view_is w.in-Err.ensures))
+          subst (λ (r : Result (Option (Vec ℕ Global)) Status). HasTreatedLine tells c.args.number before now line
+          (text_in r)) (sym (w.result-is ∙ ap (λ (s : Status). Err s) w.status_of.ensures))
+          (treated-refused c.args.number before now line w.in-Err.fault
+          (subst (λ (p : Option ClusterPlay). HasDone p (next_of p line) now (Err w.in-Err.fault)) c.self.view_is
+          w.in-Err.ensures))
     ]

@@ -7,7 +7,9 @@ use Rattle.cluster_play.proofs.playing.ClusterPlay.drain.Goals as goal
 pub returns-clause-text : goal.returns-clause-text
 returns-clause-text c =
     let before : Cluster = c.self.inside.cluster in
-    subst (λ (d : Cluster). c.extend_from_slice.new.self.items ≡ drained_text (turns_from d (all_deliveries d))) (ap (λ (p : ClusterPlay). p.cluster) c.self.view_is)
-    (drained-is before (all_deliveries before) c.in_ok-count.count c.drain.new.text.items c.deref.result.now c.extend_from_slice.new.self.items c.in_ok-count.ensures.count
+    subst (λ (d : Cluster). c.extend_from_slice.new.self.items ≡ drained_text (turns_from d (all_deliveries d)))
+    (ap (λ (p : ClusterPlay). p.cluster) c.self.view_is)
+    (drained-is before (all_deliveries before) c.in_ok-count.count c.drain.new.text.items c.deref.result.now
+    c.extend_from_slice.new.self.items c.in_ok-count.ensures.count
     (c.in_ok-count.ensures.text ∙ ap (λ (xs : List ℕ). xs ++ written_by before (all_deliveries before)) c.new-text.ensures.items)
     (c.deref.ensures.value ∙ c.in_ok-write_drained.ensures) c.in_ok-extend_from_slice.ensures.items)

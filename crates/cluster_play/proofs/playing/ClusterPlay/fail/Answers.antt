@@ -9,7 +9,9 @@ use Rattle.cluster_play.proofs.Ready.{few-all}
 use Rattle.cluster_play.proofs.playing.ClusterPlay.fail.Goals as goal
 
 pub make_event-requires-clause-few : goal.make_event-requires-clause-few
-make_event-requires-clause-few c = few-all c.self.inside.cluster (subst (λ (p : ClusterPlay). IsReadyFor (2 ^ 59) p.cluster) (sym c.self.view_is) c.requires.ready)
+make_event-requires-clause-few c =
+    few-all c.self.inside.cluster (subst (λ (p : ClusterPlay). IsReadyFor (2 ^ 59) p.cluster) (sym c.self.view_is)
+    c.requires.ready)
 
 pub returns-clause-text : goal.returns-clause-text
 returns-clause-text c =
@@ -17,5 +19,6 @@ returns-clause-text c =
     let line : List ℕ = cluster_answer_text c.in_ok-out.out.answer ++ 10 ∷ [] in
     line-is c.answer_line.result line (turn_text (turn_of c.args.self.now.cluster (FailNode c.args.node c.args.keep))) c.answer_line.ensures
     (subst (λ (p : ClusterPlay). line ≡ turn_text (turn_of p.cluster (FailNode c.args.node c.args.keep))) c.self.view_is
-    (turn-written before (FailNode c.args.node c.args.keep) c.in_ok-out.out.answer (cluster_answer_text c.in_ok-out.out.answer) line [] line refl c.in_ok-out.ensures.answer
+    (turn-written before (FailNode c.args.node c.args.keep) c.in_ok-out.out.answer
+    (cluster_answer_text c.in_ok-out.out.answer) line [] line refl c.in_ok-out.ensures.answer
     refl (sym (append-nil line)) (sym (ap cluster_entries_text (fail-silent before c.args.node c.args.keep)))))

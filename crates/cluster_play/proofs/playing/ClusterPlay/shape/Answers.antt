@@ -9,4 +9,6 @@ pub world-requires : goal.world-requires
 world-requires c = subst (λ (p : ClusterPlay). 0 < length p.cluster.groups.worlds) (sym c.self.view_is) (ready-some c.args.self.now.cluster c.requires.ready)
 
 pub returns : goal.returns
-returns c = c.shape.ensures ∙ ap (λ (w : World). w.shape) c.world.ensures ∙ ap (λ (p : ClusterPlay). (world_in p.cluster.groups 0).shape) c.self.view_is ∙ shape-of-first c.args.self.now.cluster c.requires.ready
+returns c = c.shape.ensures ∙ ap (λ (w : World). w.shape) c.world.ensures
+    ∙ ap (λ (p : ClusterPlay). (world_in p.cluster.groups 0).shape) c.self.view_is
+    ∙ shape-of-first c.args.self.now.cluster c.requires.ready

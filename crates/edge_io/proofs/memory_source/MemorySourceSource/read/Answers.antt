@@ -11,7 +11,14 @@ returns-clause-bytes c =
     let n : ℕ = c.copy_front-n.result in
     let into : List ℕ = c.copy_front-n.new.into in
     let from = take_rest c.deref.result.now s.at ∙ ap (drop s.at) c.deref.ensures.value in
-    let now : Supply = record { taken = take (s.at + n) s.bytes.items; left = drop (s.at + n) s.bytes.items; ended = c.meets_end-self-inside.result; piece = s.piece; calls = c.count_next.new.self } in
+    let now : Supply = record {
+      taken = take (s.at + n) s.bytes.items;
+      left = drop (s.at + n) s.bytes.items;
+      ended = c.meets_end-self-inside.result;
+      piece = s.piece;
+      calls = c.count_next.new.self;
+    } in
     subst (λ (v : Supply). GivesFront (input_of v) (input_of now) n into) c.self.view_is
-    (gives s.bytes.items s.at n s.piece s.ended c.meets_end-self-inside.result into c.self.invariant.1 (subst (λ (bs : List ℕ). n ≡ min (min (length into) (length bs)) s.piece) from c.copy_front-n.ensures.count)
+    (gives s.bytes.items s.at n s.piece s.ended c.meets_end-self-inside.result into c.self.invariant.1
+    (subst (λ (bs : List ℕ). n ≡ min (min (length into) (length bs)) s.piece) from c.copy_front-n.ensures.count)
     (subst (λ (bs : List ℕ). bs ≡ take n into ++ drop n bs) from c.copy_front-n.ensures.front) c.meets_end-self-inside.ensures)

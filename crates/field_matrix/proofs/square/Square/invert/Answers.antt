@@ -39,11 +39,13 @@ steps-preserved g c =
       within = omega arith;
       work = λ i j i_below j_below.
           c.step-work.ensures i j i_below j_below
-          ∙ (step_same p (entry c.steps.work) (work_after p a) (entry c.steps.work) (work_after p a) i j (work p p within within) (work i p i_below within) (work i j i_below j_below) (work p j within j_below)
+          ∙ (step_same p (entry c.steps.work) (work_after p a) (entry c.steps.work) (work_after p a) i j
+          (work p p within within) (work i p i_below within) (work i j i_below j_below) (work p j within j_below)
           ∙ sym (work_more p a i j));
       out = λ i j i_below j_below.
           c.step-out.ensures i j i_below j_below
-          ∙ (step_same p (entry c.steps.work) (work_after p a) (entry c.steps.out) (out_after p a) i j (work p p within within) (work i p i_below within) (out i j i_below j_below) (out p j within j_below)
+          ∙ (step_same p (entry c.steps.work) (work_after p a) (entry c.steps.out) (out_after p a) i j
+          (work p p within within) (work i p i_below within) (out i j i_below j_below) (out p j within j_below)
           ∙ sym (out_more p a i j));
     }
 

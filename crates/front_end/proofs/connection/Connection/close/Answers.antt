@@ -7,5 +7,8 @@ use Rattle.front_end.specs.Progress.{Progress, IsClosed}
 use Rattle.front_end.proofs.connection.Connection.close.Goals as goal
 
 pub returns-clause-closed : goal.returns-clause-closed
-returns-clause-closed g c = subst (λ (p : Progress). (input : List ℕ) (requests : List Request) → (read : HasRead p.kept input requests) → list_any is_quit requests ≡ p.quits → IsClosed p.quits read.rest (g.K.Sink.held c.args.sink.now) (g.K.Sink.held c.close_at.new.sink) c.close_at.result)
+returns-clause-closed g c =
+    subst (λ (p : Progress). (input : List ℕ) (requests : List Request) → (read : HasRead p.kept input requests)
+    → list_any is_quit requests ≡ p.quits → IsClosed p.quits read.rest (g.K.Sink.held c.args.sink.now)
+    (g.K.Sink.held c.close_at.new.sink) c.close_at.result)
     c.self.view_is c.close_at.ensures.closed

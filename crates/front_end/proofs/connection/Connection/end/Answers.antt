@@ -8,4 +8,5 @@ use Rattle.front_end.specs.Progress.{Progress}
 use Rattle.front_end.proofs.connection.Connection.end.Goals as goal
 
 pub returns : goal.returns
-returns c = subst (λ (p : Progress). (input : List ℕ) (requests : List Request) → (read : HasRead p.kept input requests) → list_any is_quit requests ≡ false → IsEndAt read.rest c.end_at.result) c.self.view_is c.end_at.ensures
+returns c = subst (λ (p : Progress). (input : List ℕ) (requests : List Request) → (read : HasRead p.kept input requests)
+    → list_any is_quit requests ≡ false → IsEndAt read.rest c.end_at.result) c.self.view_is c.end_at.ensures

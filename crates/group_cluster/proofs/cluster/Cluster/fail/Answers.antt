@@ -12,7 +12,8 @@ returns-then-index-clause-cluster c =
     let inner : Cluster = record { failed = c.self.inside.failed.items; groups = c.self.inside.groups } in
     let low : c.args.node < length inner.failed = subst (λ (x : Cluster). c.args.node < length x.failed) (sym c.self.view_is) c.requires.may in
     let word : at false inner.failed c.args.node ≡ true = read-failed inner.failed c.args.node c.index.result.now low c.index.ensures ∙ c.if-index.true in
-    sym c.self.view_is ∙ dead-step inner c.args.node c.args.keep low word ∙ ap (λ (x : Cluster). (cluster_step x (FailNode c.args.node c.args.keep)).cluster) c.self.view_is
+    sym c.self.view_is ∙ dead-step inner c.args.node c.args.keep low word
+    ∙ ap (λ (x : Cluster). (cluster_step x (FailNode c.args.node c.args.keep)).cluster) c.self.view_is
 
 pub returns-then-index-clause-answer : goal.returns-then-index-clause-answer
 returns-then-index-clause-answer c =
@@ -26,7 +27,9 @@ returns-then-index-clause-logged c =
     let inner : Cluster = record { failed = c.self.inside.failed.items; groups = c.self.inside.groups } in
     let low : c.args.node < length inner.failed = subst (λ (x : Cluster). c.args.node < length x.failed) (sym c.self.view_is) c.requires.may in
     let word : at false inner.failed c.args.node ≡ true = read-failed inner.failed c.args.node c.index.result.now low c.index.ensures ∙ c.if-index.true in
-    dead-logged inner c.args.node c.args.keep low word ∙ ap (λ (x : Cluster). length (logged_in (cluster_step x (FailNode c.args.node c.args.keep)).turns)) c.self.view_is
+    dead-logged inner c.args.node c.args.keep low word
+    ∙ ap (λ (x : Cluster). length (logged_in (cluster_step x (FailNode c.args.node c.args.keep)).turns))
+    c.self.view_is
 
 pub fail_node-requires-clause-may : goal.fail_node-requires-clause-may
 fail_node-requires-clause-may c =
@@ -34,7 +37,8 @@ fail_node-requires-clause-may c =
     let low : c.args.node < length inner.failed = subst (λ (x : Cluster). c.args.node < length x.failed) (sym c.self.view_is) c.requires.may in
     let many : c.len-nodes.result ≡ length inner.failed = omega (arith, c.len-nodes.ensures) in
     let word : at false inner.failed c.args.node ≡ false = read-failed inner.failed c.args.node c.index.result.now low c.index.ensures ∙ c.if-index.false in
-    subst (λ (n : ℕ). MayAllMove inner.groups (node_moves inner.groups n c.args.node c.args.keep)) (sym many) (lives-may inner c.args.node c.args.keep low word c.self.invariant)
+    subst (λ (n : ℕ). MayAllMove inner.groups (node_moves inner.groups n c.args.node c.args.keep)) (sym many)
+    (lives-may inner c.args.node c.args.keep low word c.self.invariant)
 
 pub invariant_of-self : goal.invariant_of-self
 invariant_of-self c =
@@ -76,7 +80,9 @@ returns-clause-logged c =
     let inner : Cluster = record { failed = c.self.inside.failed.items; groups = c.self.inside.groups } in
     let low : c.args.node < length inner.failed = subst (λ (x : Cluster). c.args.node < length x.failed) (sym c.self.view_is) c.requires.may in
     let word : at false inner.failed c.args.node ≡ false = read-failed inner.failed c.args.node c.index.result.now low c.index.ensures ∙ c.if-index.false in
-    lives-logged inner c.args.node c.args.keep low word ∙ ap (λ (x : Cluster). length (logged_in (cluster_step x (FailNode c.args.node c.args.keep)).turns)) c.self.view_is
+    lives-logged inner c.args.node c.args.keep low word
+    ∙ ap (λ (x : Cluster). length (logged_in (cluster_step x (FailNode c.args.node c.args.keep)).turns))
+    c.self.view_is
 
 pub returns-in_err-fail_node-clause-err : goal.returns-in_err-fail_node-clause-err
 returns-in_err-fail_node-clause-err c =
@@ -84,6 +90,7 @@ returns-in_err-fail_node-clause-err c =
     let low : c.args.node < length inner.failed = subst (λ (x : Cluster). c.args.node < length x.failed) (sym c.self.view_is) c.requires.may in
     let many : c.len-nodes.result ≡ length inner.failed = omega (arith, c.len-nodes.ensures) in
     let word : at false inner.failed c.args.node ≡ false = read-failed inner.failed c.args.node c.index.result.now low c.index.ensures ∙ c.if-index.false in
-    on-err-any c.from_residual.result (cut-alike inner c.args.self.now (FailNode c.args.node c.args.keep) (record { failed = inner.failed; groups = c.fail_node.new.self }) c.self.view_is
+    on-err-any c.from_residual.result (cut-alike inner c.args.self.now (FailNode c.args.node c.args.keep)
+    (record { failed = inner.failed; groups = c.fail_node.new.self }) c.self.view_is
     (cut-step inner c.args.node c.args.keep low word c.fail_node.new.self
     (subst (λ (n : ℕ). Begun inner.groups (node_moves inner.groups n c.args.node c.args.keep) c.fail_node.new.self) many c.in_err-fail_node.ensures.err)))

@@ -4,4 +4,6 @@ use Rattle.group_cluster.proofs.Promised.{promised}
 use Rattle.group_cluster.proofs.cluster.Cluster.log.Goals as goal
 
 pub returns-clause-promise : goal.returns-clause-promise
-returns-clause-promise c = subst HasPromise c.self.view_is (promised (record { failed = c.self.inside.failed.items; groups = c.self.inside.groups }) c.self.invariant)
+returns-clause-promise c =
+    subst HasPromise c.self.view_is
+    (promised (record { failed = c.self.inside.failed.items; groups = c.self.inside.groups }) c.self.invariant)

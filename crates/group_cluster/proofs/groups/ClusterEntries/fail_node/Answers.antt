@@ -14,7 +14,9 @@ fail_in-requires-clause-group c =
 pub fail_in-requires-clause-processes : goal.fail_in-requires-clause-processes
 fail_in-requires-clause-processes c =
     let g : Groups = c.args.self.now in
-    subst (λ (s : Dimensions). s.k + s.m ≤ 64) (sym (same-shape g c.groups.self c.args.nodes c.args.node c.args.keep (length g.worlds) c.groups.group c.groups.invariant.started)) c.requires.processes
+    subst (λ (s : Dimensions). s.k + s.m ≤ 64)
+    (sym (same-shape g c.groups.self c.args.nodes c.args.node c.args.keep (length g.worlds) c.groups.group
+    c.groups.invariant.started)) c.requires.processes
 
 pub fail_in-requires-clause-may : goal.fail_in-requires-clause-may
 fail_in-requires-clause-may c =
@@ -27,5 +29,6 @@ groups-preserved c =
     let g : Groups = c.args.self.now in
     let low : c.groups.group < length g.worlds = omega (arith, c.groups-test.true, c.len-count.ensures, ap (λ (x : Groups). length x.worlds) c.self.view_is) in
     record {
-      started = next-started g c.groups.self c.args.nodes c.args.node c.args.keep (length g.worlds) c.groups.group c.groups.invariant.started c.fail_in.new.self low c.in_ok-fail_in.ensures.ok;
+      started = next-started g c.groups.self c.args.nodes c.args.node c.args.keep (length g.worlds) c.groups.group
+          c.groups.invariant.started c.fail_in.new.self low c.in_ok-fail_in.ensures.ok;
     }

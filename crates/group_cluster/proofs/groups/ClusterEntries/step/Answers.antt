@@ -15,13 +15,17 @@ use Rattle.group_cluster.proofs.groups.ClusterEntries.step.Goals as goal
 pub step-requires-clause-events : goal.step-requires-clause-events
 step-requires-clause-events c =
     let low : c.args.group < length c.self.inside.worlds.items = subst (λ (g : Groups). c.args.group < length g.worlds) (sym c.self.view_is) c.requires.group in
-    subst (λ (w : World). w.events < 2 ^ 62) (sym (read-at c.self.inside.shape c.self.inside.worlds.items c.args.group c.index_mut.result.now low c.index_mut.ensures.value))
+    subst (λ (w : World). w.events < 2 ^ 62)
+    (sym (read-at c.self.inside.shape c.self.inside.worlds.items c.args.group c.index_mut.result.now low
+    c.index_mut.ensures.value))
     (subst (λ (g : Groups). HasFewEvents g c.args.group) (sym c.self.view_is) c.requires.few)
 
 pub step-requires-clause-may : goal.step-requires-clause-may
 step-requires-clause-may c =
     let low : c.args.group < length c.self.inside.worlds.items = subst (λ (g : Groups). c.args.group < length g.worlds) (sym c.self.view_is) c.requires.group in
-    subst (λ (w : World). MayCome w c.args.event.now) (sym (read-at c.self.inside.shape c.self.inside.worlds.items c.args.group c.index_mut.result.now low c.index_mut.ensures.value))
+    subst (λ (w : World). MayCome w c.args.event.now)
+    (sym (read-at c.self.inside.shape c.self.inside.worlds.items c.args.group c.index_mut.result.now low
+    c.index_mut.ensures.value))
     (subst (λ (g : Groups). MayCome (world_in g c.args.group) c.args.event.now) (sym c.self.view_is) c.requires.may)
 
 pub invariant_of-self-2 : goal.invariant_of-self-2
@@ -37,9 +41,11 @@ invariant_of-self-2 c =
     let part : Part = record { group = j; from = length c.log-from.result.now; many = c.in_ok-out.out.logged } in
     let made : c.step.new.self ≡ (step (at (opening s) ws j) e).world = c.in_ok-out.ensures.world ∙ ap (λ (w : World). (step w e).world) second in
     let from : length c.log-from.result.now ≡ length (at (opening s) ws j).log = ap length c.log-from.ensures.log ∙ ap (λ (w : World). length w.log) first in
-    let many : c.in_ok-out.out.logged ≡ length (step (at (opening s) ws j) e).turn.logged = c.in_ok-out.ensures.logged ∙ ap (λ (w : World). length (step w e).turn.logged) second in
+    let many : c.in_ok-out.out.logged ≡ length (step (at (opening s) ws j) e).turn.logged = c.in_ok-out.ensures.logged
+    ∙ ap (λ (w : World). length (step w e).turn.logged) second in
     let items : c.note.new.parts.items ≡ noted ps part = c.note.ensures ∙ ap (λ (xs : List Part). noted xs part) c.in_ok-reserve.ensures.items in
-    subst (λ (xs : List Part). AreWithin s (set ws j c.step.new.self) xs) (sym items) (stepped-within s ws ps j e c.step.new.self part low c.self.invariant made refl from many)
+    subst (λ (xs : List Part). AreWithin s (set ws j c.step.new.self) xs) (sym items)
+    (stepped-within s ws ps j e c.step.new.self part low c.self.invariant made refl from many)
 
 pub returns-clause-moved : goal.returns-clause-moved
 returns-clause-moved c =
@@ -54,7 +60,8 @@ returns-clause-moved c =
     let part : Part = record { group = j; from = length c.log-from.result.now; many = c.in_ok-out.out.logged } in
     let made : c.step.new.self ≡ (step (at (opening s) ws j) e).world = c.in_ok-out.ensures.world ∙ ap (λ (w : World). (step w e).world) second in
     let from : length c.log-from.result.now ≡ length (at (opening s) ws j).log = ap length c.log-from.ensures.log ∙ ap (λ (w : World). length w.log) first in
-    let many : c.in_ok-out.out.logged ≡ length (step (at (opening s) ws j) e).turn.logged = c.in_ok-out.ensures.logged ∙ ap (λ (w : World). length (step w e).turn.logged) second in
+    let many : c.in_ok-out.out.logged ≡ length (step (at (opening s) ws j) e).turn.logged = c.in_ok-out.ensures.logged
+    ∙ ap (λ (w : World). length (step w e).turn.logged) second in
     let items : c.note.new.parts.items ≡ noted ps part = c.note.ensures ∙ ap (λ (xs : List Part). noted xs part) c.in_ok-reserve.ensures.items in
     ap (λ (xs : List Part). groups_of s (set ws j c.step.new.self) xs) items
     ∙ stepped s ws ps j e c.step.new.self part low c.self.invariant made refl from many

@@ -32,7 +32,8 @@ record-logged-requires-clause-once c =
     let same = ap (group_of v) c.reserve.ensures.books ∙ c.self.view_is in
     once-logged v c.ask_next.new.self b e t.out.answer c.deref.result.now (call_in b.asked t.call)
     (c.self.invariant.shape ∙ sym (ap (λ (x : Books). x.shape) c.reserve.ensures.books)) is c.in_ok-turn.ensures.call
-    (subst (λ (x : Books). HasRun (group_of v x)) (sym c.reserve.ensures.books) c.self.invariant.run) (subst (λ (w : World). MayCome w e) (sym same) c.requires.may)
+    (subst (λ (x : Books). HasRun (group_of v x)) (sym c.reserve.ensures.books) c.self.invariant.run)
+    (subst (λ (w : World). MayCome w e) (sym same) c.requires.may)
 
 pub invariant_of-self-2 : goal.invariant_of-self-2
 invariant_of-self-2 c =
@@ -48,7 +49,8 @@ invariant_of-self-2 c =
           c.record-logged.new.self.books c.record-logged.ensures.books c.in_ok-turn.ensures.shape;
       run = run-on v c.ask_next.new.self b e t.out.answer c.deref.result.now (call_in b.asked t.call) one is c.in_ok-turn.ensures.call
           c.record-logged.new.self.books c.record-logged.ensures.books c.in_ok-turn.ensures.shape
-          (subst (λ (x : Books). HasRun (group_of v x)) (sym c.reserve.ensures.books) c.self.invariant.run) (subst (λ (w : World). MayCome w e) (sym same) c.requires.may);
+          (subst (λ (x : Books). HasRun (group_of v x)) (sym c.reserve.ensures.books) c.self.invariant.run)
+          (subst (λ (w : World). MayCome w e) (sym same) c.requires.may);
     }
 
 pub returns-clause-world : goal.returns-clause-world
@@ -86,5 +88,7 @@ returns-clause-logged c =
     let same = ap (group_of v) c.reserve.ensures.books ∙ c.self.view_is in
     let one = c.self.invariant.shape ∙ sym (ap (λ (x : Books). x.shape) c.reserve.ensures.books) in
     c.record-logged.ensures.logged
-    ∙ ap (λ (es : List Entry). length es) (sym (logged-is v c.ask_next.new.self b e t.out.answer c.deref.result.now (call_in b.asked t.call) one is c.in_ok-turn.ensures.call))
+    ∙ ap (λ (es : List Entry). length es)
+    (sym (logged-is v c.ask_next.new.self b e t.out.answer c.deref.result.now (call_in b.asked t.call) one is
+    c.in_ok-turn.ensures.call))
     ∙ ap (λ (w : World). length (step w e).turn.logged) same

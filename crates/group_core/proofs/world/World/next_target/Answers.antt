@@ -15,14 +15,16 @@ returns-then-is_idle-clause-target c =
     let here : c.node.result.now.node ≡ node_at w c.args.from
     = c.node.ensures.node ∙ ap (λ (v : World). node_of v c.process_at.result) c.self.view_is
     ∙ ap (node_of w) (c.process_at.ensures.name ∙ ap (λ (s : Dimensions). process_at s c.args.from) c.shape-shape.ensures) in
-    idle-target w c.args.from (λ y. ap (λ (n : Node). at [] n.links y) (sym here) ∙ c.is_idle.ensures.0 c.if-is_idle.true y) (range_with_len 0 (w.shape.k + w.shape.m))
+    idle-target w c.args.from (λ y. ap (λ (n : Node). at [] n.links y) (sym here)
+    ∙ c.is_idle.ensures.0 c.if-is_idle.true y) (range_with_len 0 (w.shape.k + w.shape.m))
 
 pub returns-then-is_waiting-clause-target : goal.returns-then-is_waiting-clause-target
 returns-then-is_waiting-clause-target c =
     let k-is = c.k.ensures.value ∙ ap (λ (s : Dimensions). s.k) c.shape-shape.ensures in
     let m-is = c.m.ensures.value ∙ ap (λ (s : Dimensions). s.m) c.shape-shape.ensures in
     let below : c.targets.to < c.args.self.now.shape.k + c.args.self.now.shape.m = omega (arith, c.targets-test.true, k-is, m-is) in
-    sym (target-here c.args.self.now c.args.from c.targets.to (c.args.self.now.shape.k + c.args.self.now.shape.m) below (sym c.is_waiting.ensures ∙ c.if-is_waiting.true))
+    sym (target-here c.args.self.now c.args.from c.targets.to (c.args.self.now.shape.k + c.args.self.now.shape.m) below
+    (sym c.is_waiting.ensures ∙ c.if-is_waiting.true))
     ∙ c.targets.invariant.left
 
 pub targets-preserved : goal.targets-preserved
@@ -31,6 +33,7 @@ targets-preserved c =
     let m-is = c.m.ensures.value ∙ ap (λ (s : Dimensions). s.m) c.shape-shape.ensures in
     let below : c.targets.to < c.args.self.now.shape.k + c.args.self.now.shape.m = omega (arith, c.targets-test.true, k-is, m-is) in
     record {
-      left = sym (target-behind c.args.self.now c.args.from c.targets.to (c.args.self.now.shape.k + c.args.self.now.shape.m) below (sym c.is_waiting.ensures ∙ c.if-is_waiting.false))
+      left = sym (target-behind c.args.self.now c.args.from c.targets.to
+          (c.args.self.now.shape.k + c.args.self.now.shape.m) below (sym c.is_waiting.ensures ∙ c.if-is_waiting.false))
           ∙ c.targets.invariant.left;
     }

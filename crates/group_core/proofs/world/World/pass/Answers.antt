@@ -17,7 +17,8 @@ record-logged-requires-clause-once c =
     let no_call = subst (λ (w : World). call_of w c.args.event.now ≡ None) (sym same) c.requires.no_call in
     once-logged v c.pass.new.self b c.args.event.now out.answer c.deref.result.now None
     (c.self.invariant.shape ∙ sym (ap (λ (x : Books). x.shape) c.reserve.ensures.books)) is (sym no_call)
-    (subst (λ (x : Books). HasRun (group_of v x)) (sym c.reserve.ensures.books) c.self.invariant.run) (subst (λ (w : World). MayCome w c.args.event.now) (sym same) c.requires.may)
+    (subst (λ (x : Books). HasRun (group_of v x)) (sym c.reserve.ensures.books) c.self.invariant.run)
+    (subst (λ (w : World). MayCome w c.args.event.now) (sym same) c.requires.may)
 
 pub invariant_of-self-2 : goal.invariant_of-self-2
 invariant_of-self-2 c =
@@ -33,7 +34,8 @@ invariant_of-self-2 c =
           c.record-logged.new.self.books c.record-logged.ensures.books c.in_ok-out.ensures.shape;
       run = run-on v c.pass.new.self b c.args.event.now out.answer c.deref.result.now None one is (sym no_call)
           c.record-logged.new.self.books c.record-logged.ensures.books c.in_ok-out.ensures.shape
-          (subst (λ (x : Books). HasRun (group_of v x)) (sym c.reserve.ensures.books) c.self.invariant.run) (subst (λ (w : World). MayCome w c.args.event.now) (sym same) c.requires.may);
+          (subst (λ (x : Books). HasRun (group_of v x)) (sym c.reserve.ensures.books) c.self.invariant.run)
+          (subst (λ (w : World). MayCome w c.args.event.now) (sym same) c.requires.may);
     }
 
 pub returns-clause-world : goal.returns-clause-world

@@ -12,7 +12,8 @@ none long is = omega (arith, is)
 
 pub returns-in-Ask : goal.returns-in-Ask
 returns-in-Ask c less =
-    subst (λ (e : Event). length (group_step c.args.self.now e).settled ≤ suc c.most_asked.result) (sym c.in-Ask.is) (c.most_asked.ensures c.in-Ask.caller c.in-Ask.op less)
+    subst (λ (e : Event). length (group_step c.args.self.now e).settled ≤ suc c.most_asked.result) (sym c.in-Ask.is)
+    (c.most_asked.ensures c.in-Ask.caller c.in-Ask.op less)
 
 pub returns-in-Deliver : goal.returns-in-Deliver
 returns-in-Deliver c less =
@@ -25,13 +26,18 @@ returns-in-Deliver c less =
 
 pub returns-in-Collect : goal.returns-in-Collect
 returns-in-Collect c less =
-    none _ (subst (λ (e : Event). length (group_step c.args.self.now e).settled ≤ 0) (sym c.in-Collect.is) (collect-settles c.args.self.now c.in-Collect.caller c.in-Collect.call c.in-Collect.at))
+    none _ (subst (λ (e : Event). length (group_step c.args.self.now e).settled ≤ 0) (sym c.in-Collect.is)
+    (collect-settles c.args.self.now c.in-Collect.caller c.in-Collect.call c.in-Collect.at))
 
 pub returns-in-Fail : goal.returns-in-Fail
-returns-in-Fail c less = none _ (subst (λ (e : Event). length (group_step c.args.self.now e).settled ≤ 0) (sym c.in-Fail.is) (fail-settles c.args.self.now c.in-Fail.at c.in-Fail.keep))
+returns-in-Fail c less =
+    none _ (subst (λ (e : Event). length (group_step c.args.self.now e).settled ≤ 0) (sym c.in-Fail.is)
+    (fail-settles c.args.self.now c.in-Fail.at c.in-Fail.keep))
 
 pub returns-in-Flush : goal.returns-in-Flush
-returns-in-Flush c less = none _ (subst (λ (e : Event). length (group_step c.args.self.now e).settled ≤ 0) (sym c.in-Flush.is) (flush-settles c.args.self.now c.in-Flush.at))
+returns-in-Flush c less =
+    none _ (subst (λ (e : Event). length (group_step c.args.self.now e).settled ≤ 0) (sym c.in-Flush.is)
+    (flush-settles c.args.self.now c.in-Flush.at))
 
 pub returns-in-Trace : goal.returns-in-Trace
 returns-in-Trace c less =

@@ -25,8 +25,10 @@ returns-in_err-inner-clause-lends_none g c =
     let items = c.args.self.now.gateways.items in
     let group = c.group_of-group.result in
     let within : group < length items = search rules in
-    let was : slice_get items group ≡ Some c.index_mut.result.now = slice_get_read items (length items) group c.index_mut.result.now refl within c.index_mut.ensures.value in
-    rw told (lends-between g.G.Gateway.rules g.G.Gateway.order (slice_get items) (slice_get (set items group c.begin.new.self)) group c.index_mut.result.now c.begin.new.self
+    let was : slice_get items group ≡ Some c.index_mut.result.now = slice_get_read items (length items) group
+    c.index_mut.result.now refl within c.index_mut.ensures.value in
+    rw told (lends-between g.G.Gateway.rules g.G.Gateway.order (slice_get items)
+    (slice_get (set items group c.begin.new.self)) group c.index_mut.result.now c.begin.new.self
     was (get-set items group c.begin.new.self within) (λ j. get-set-other items group j c.begin.new.self) c.in_err-inner.ensures.lends_none)
 
 pub returns-in_err-inner-clause-want : goal.returns-in_err-inner-clause-want
@@ -63,7 +65,8 @@ returns-in-Some-clause-lends g c =
     let items = c.args.self.now.gateways.items in
     let group = c.group_of-group.result in
     let within : group < length items = search rules in
-    let was : slice_get items group ≡ Some c.index_mut.result.now = slice_get_read items (length items) group c.index_mut.result.now refl within c.index_mut.ensures.value in
+    let was : slice_get items group ≡ Some c.index_mut.result.now = slice_get_read items (length items) group
+    c.index_mut.result.now refl within c.index_mut.ensures.value in
     lends-only g.G.Gateway.rules (slice_get items) (slice_get (set items group c.begin.new.self)) group c.index_mut.result.now c.begin.new.self
     was (get-set items group c.begin.new.self within) (λ j. get-set-other items group j c.begin.new.self) c.in-Some.inner
     (subst (λ (b : Option g.row.G-Call.Denot). LendsOnly g.G.Gateway.rules b c.index_mut.result.now c.begin.new.self) c.in-Some.is c.in_ok-inner.ensures.lends)

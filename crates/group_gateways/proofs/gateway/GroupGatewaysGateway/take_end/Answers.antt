@@ -8,7 +8,9 @@ use Rattle.group_gateways.proofs.gateway.GroupGatewaysGateway.take_end.Goals as 
 
 pub returns-in-Some-clause-ended : goal.returns-in-Some-clause-ended
 returns-in-Some-clause-ended g c =
-    IfSome_then c.take_end.result c.take_end.ensures.ended (λ end ended. has-ended g.G.Gateway.rules g.G.Gateway.order c.args.self.now _ c.args.call.now.group c.in-Some.gateway.now c.take_end.new.self
+    IfSome_then c.take_end.result c.take_end.ensures.ended
+    (λ end ended. has-ended g.G.Gateway.rules g.G.Gateway.order c.args.self.now _ c.args.call.now.group
+    c.in-Some.gateway.now c.take_end.new.self
     (has_changed c.args.self.now _ c.args.call.now.group c.in-Some.gateway.now c.take_end.new.self (search rules) c.in-Some.ensures.value refl refl)
     c.take_end.ensures.later c.args.call.now end refl ended)
 
@@ -24,7 +26,9 @@ returns-in-Some-clause-free g c =
     let items = c.args.self.now.gateways.items in
     let group = c.args.call.now.group in
     let within : group < length items = search rules in
-    λ some lent. c.take_end.ensures.free some (subst (HoldsOf (λ (one : g.row.G.Denot). g.G.Gateway.rules.lent one c.args.call.now.inner)) (get-set items group c.take_end.new.self within) lent)
+    λ some lent. c.take_end.ensures.free some
+    (subst (HoldsOf (λ (one : g.row.G.Denot). g.G.Gateway.rules.lent one c.args.call.now.inner))
+    (get-set items group c.take_end.new.self within) lent)
 
 pub returns-in-Some-clause-others : goal.returns-in-Some-clause-others
 returns-in-Some-clause-others g c =
@@ -37,8 +41,10 @@ returns-in-Some-clause-lends g c =
     let items = c.args.self.now.gateways.items in
     let group = c.args.call.now.group in
     let within : group < length items = search rules in
-    let was : slice_get items group ≡ Some c.in-Some.gateway.now = slice_get_read items (length items) group c.in-Some.gateway.now refl within c.in-Some.ensures.value in
-    lends-between g.G.Gateway.rules g.G.Gateway.order (slice_get items) (slice_get (set items group c.take_end.new.self)) group c.in-Some.gateway.now c.take_end.new.self
+    let was : slice_get items group ≡ Some c.in-Some.gateway.now = slice_get_read items (length items) group
+    c.in-Some.gateway.now refl within c.in-Some.ensures.value in
+    lends-between g.G.Gateway.rules g.G.Gateway.order (slice_get items)
+    (slice_get (set items group c.take_end.new.self)) group c.in-Some.gateway.now c.take_end.new.self
     was (get-set items group c.take_end.new.self within) (λ j. get-set-other items group j c.take_end.new.self) c.take_end.ensures.lends
 
 pub returns-in-Some-clause-later : goal.returns-in-Some-clause-later

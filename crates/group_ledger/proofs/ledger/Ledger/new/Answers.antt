@@ -28,7 +28,8 @@ invariant_of-result c =
 pub returns : goal.returns
 returns c =
     let counts : c.in_ok-vec.field-0.items ≡ replicate 256 0 = c.in_ok-vec.ensures.items_if_clones_equal (λ y same. same) in
-    let places : items_of c.in_ok-no_places.field-0.items ≡ replicate c.args.shape.k [] = c.in_ok-no_places.ensures ∙ ap (λ (n : ℕ). replicate n []) c.k.ensures.value in
+    let places : items_of c.in_ok-no_places.field-0.items ≡ replicate c.args.shape.k [] = c.in_ok-no_places.ensures
+    ∙ ap (λ (n : ℕ). replicate n []) c.k.ensures.value in
     λ i. record {
       books = record {
         shape = c.args.shape;

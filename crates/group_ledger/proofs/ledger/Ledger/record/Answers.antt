@@ -73,7 +73,8 @@ asked-now c = with_items_is c.self.inside.asked c.enter.new.asked (grind (arith,
 
 tickets-now : (c : goal.After-len) → (with_items c.enter.new.tickets c.settle_all.new.tickets).items
     ≡ (recorded (call_in c.args.self.now.books.asked c.args.call) c.args.answer.now c.args.settled.now c.args.self.now.books).tickets
-tickets-now c = with_items_is c.enter.new.tickets c.settle_all.new.tickets (grind (arith, common_steps)) ∙ ap (λ (a : Accounts). a.tickets) (books-now c).accounts_are
+tickets-now c = with_items_is c.enter.new.tickets c.settle_all.new.tickets (grind (arith, common_steps))
+    ∙ ap (λ (a : Accounts). a.tickets) (books-now c).accounts_are
 
 pub invariant_of-self : goal.invariant_of-self
 invariant_of-self c =
@@ -82,7 +83,8 @@ invariant_of-self c =
     ∙ ap (λ (xs : List ℕ). asked_after xs (call_in xs c.args.call)) c.deref_mut.ensures.value in
     let many = ap length (with_items_is c.self.inside.places c.settle_all.new.places (grind (arith, common_steps))) ∙ c.settle_all.ensures.many
     ∙ ap length c.deref_mut-2.ensures.value in
-    let after = counts-after c.args.call c.self.inside.events c.self.inside.asked.items c.requires.caller c.self.invariant.0.callers_all c.self.invariant.0.calls_low in
+    let after = counts-after c.args.call c.self.inside.events c.self.inside.asked.items c.requires.caller
+    c.self.invariant.0.callers_all c.self.invariant.0.calls_low in
     let stand : Stand b.asked b.tickets = subst (λ (v : Kept). Stand v.books.asked v.books.tickets) c.self.view_is c.self.invariant.0.tickets_stand in (
       record {
         callers_all = ap length counts ∙ after.0;
@@ -103,7 +105,8 @@ returns-clause-books c =
     ∙ ap (λ (a : Accounts). a.places) made.accounts_are in
     let tickets-are = tickets-now c in
     let log-is = ap (λ (a : Accounts). a.log) made.accounts_are in
-    let events-are : c.self.inside.events + 1 ≡ suc c.args.self.now.books.events = let same = ap (λ (v : Kept). v.books.events) c.self.view_is in omega (arith, same) in
+    let events-are : c.self.inside.events + 1 ≡ suc c.args.self.now.books.events = let same =
+    ap (λ (v : Kept). v.books.events) c.self.view_is in omega (arith, same) in
     let shape-is = ap (λ (v : Kept). v.books.shape) c.self.view_is in
     λ i. record { shape = shape-is i; events = events-are i; asked = asked-is i; log = log-is i; places = places-are i; tickets = tickets-are i }
 

@@ -27,4 +27,5 @@ returns-clause-acts c =
     let reads = subst (λ (old : Member). CanReadFrom old.words of) (sym c.self.view_is) c.requires.other in
     let is : Some r ≡ ask_of n.callers caller = c.in_ok-request.ensures ∙ ap (λ (s : OwnCaller). ask_for caller s.next s.call) c.caller.ensures in
     subst (λ (old : Member). ActsHanding (Send caller of ∷ []) (request_handed of r) old (record v { callers = c.ask.new.self })) c.self.view_is
-    (subst (λ (k : OwnCallers). ActsHanding (Send caller of ∷ []) (request_handed of r) v (record v { callers = k })) (sym c.ask.ensures) (asks v caller of can reads r is))
+    (subst (λ (k : OwnCallers). ActsHanding (Send caller of ∷ []) (request_handed of r) v (record v { callers = k }))
+    (sym c.ask.ensures) (asks v caller of can reads r is))

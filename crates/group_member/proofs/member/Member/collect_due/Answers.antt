@@ -16,7 +16,8 @@ invariant_of-self c =
     let n = c.self.inside in
     let v : Member = record { words = n.words; signs = n.signs; callers = n.callers; parked = n.parked.items; node = n.node.node } in
     let t : NodeStep = unchanged c.collect.result c.collect.new.self.node in
-    collects-whole v n.node.shape c.self.invariant t c.told_reply-told.result c.tell_any.result c.pinged.result c.tell_any.new.callers c.pinged.ensures c.tell_any.ensures.callers
+    collects-whole v n.node.shape c.self.invariant t c.told_reply-told.result c.tell_any.result c.pinged.result
+    c.tell_any.new.callers c.pinged.ensures c.tell_any.ensures.callers
     c.tell_any.ensures.told c.collect.new.self.shape c.collect.ensures.shape c.due.inside.update.caller c.due.inside.update.call c.collect.ensures.step
 
 pub returns : goal.returns
@@ -30,9 +31,12 @@ returns c =
     let gateway = subst (λ (old : Member). HasGateway old.words.shape c.args.due.now.update.caller) (sym c.self.view_is) c.requires in
     let can = subst (λ (d : Settlement). HasGateway n.words.shape d.update.caller) (sym c.due.view_is) gateway in
     let told = told-handed caller call c.collect.result ∙ ap (λ (o : Option Told). listed o) (sym c.told_reply-told.ensures) in
-    subst (λ (d : Settlement). ActsHanding (Collect d.update.caller d.update.call c.args.self.now.words.name ∷ Learn c.args.self.now.words.name c.args.self.now.words.name ∷ [])
+    subst (λ (d : Settlement). ActsHanding (Collect d.update.caller d.update.call c.args.self.now.words.name
+    ∷ Learn c.args.self.now.words.name c.args.self.now.words.name ∷ [])
     (answer_handed c.args.self.now.words.shape c.tell_any.result) c.args.self.now after) c.due.view_is
-    (subst (λ (old : Member). ActsHanding (Collect caller call old.words.name ∷ Learn old.words.name old.words.name ∷ []) (answer_handed old.words.shape c.tell_any.result) old after)
+    (subst (λ (old : Member). ActsHanding (Collect caller call old.words.name ∷ Learn old.words.name old.words.name
+    ∷ []) (answer_handed old.words.shape c.tell_any.result) old after)
     c.self.view_is
-    (collects-as v n.node.shape c.self.invariant t c.told_reply-told.result c.tell_any.result c.pinged.result c.tell_any.new.callers c.pinged.ensures c.tell_any.ensures.callers
+    (collects-as v n.node.shape c.self.invariant t c.told_reply-told.result c.tell_any.result c.pinged.result
+    c.tell_any.new.callers c.pinged.ensures c.tell_any.ensures.callers
     c.tell_any.ensures.told caller call can c.collect.ensures.step told))

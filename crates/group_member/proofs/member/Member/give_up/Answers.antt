@@ -15,7 +15,9 @@ invariant_of-self c =
     let v : Member = record { words = n.words; signs = n.signs; callers = n.callers; parked = n.parked.items; node = n.node.node } in
     let can = subst (λ (old : Member). CanGiveUp old.words old.callers c.args.caller) (sym c.self.view_is) c.requires in
     let state = caller_of n.callers c.args.caller in
-    callers-whole c.self.invariant c.args.caller can.its (record state { call = call_staged (λ o. stage_given_up o.op o.stage) state.call }) c.give_up.new.self c.give_up.ensures
+    callers-whole c.self.invariant c.args.caller can.its
+    (record state { call = call_staged (λ o. stage_given_up o.op o.stage) state.call }) c.give_up.new.self
+    c.give_up.ensures
 
 pub returns-clause-acts : goal.returns-clause-acts
 returns-clause-acts c =

@@ -26,5 +26,6 @@ returns c =
     } in
     subst (λ (old : Member). ActsWhere (SetComes c.args.from old.words.name c.args.set.now) (Hear c.args.from old.words.name ∷ []) (λ out. out) old
     (record v { words = c.hear.new.self })) c.self.view_is
-    (subst (λ (w : OwnWords). ActsWhere (SetComes c.args.from v.words.name c.args.set.now) (Hear c.args.from v.words.name ∷ []) (λ out. out) v (record v { words = w }))
+    (subst (λ (w : OwnWords). ActsWhere (SetComes c.args.from v.words.name c.args.set.now)
+    (Hear c.args.from v.words.name ∷ []) (λ out. out) v (record v { words = w }))
     (sym c.hear.ensures.rest) (hear-acts v c.args.from c.args.set.now c.hear.new.self.heard can has))

@@ -27,7 +27,9 @@ returns c =
     let from = c.args.from in
     let can = subst (λ (old : Member). CanReadFrom old.words from) (sym c.self.view_is) c.requires.reads in
     let its = subst (λ (old : Member). IsItsCaller old.callers told.caller) (sym c.self.view_is) c.requires.its in
-    let now : callers_learned n.signs.pinged told n.callers ≡ c.learn.new.self = ap (λ (k : ℕ). callers_learned k told n.callers) (sym c.pinged.ensures) ∙ sym c.learn.ensures in
-    subst (λ (old : Member). ActsWhere (AnswerComes from old.words.name told) (Learn from old.words.name ∷ []) (λ out. out) old (record v { callers = c.learn.new.self })) c.self.view_is
+    let now : callers_learned n.signs.pinged told n.callers ≡ c.learn.new.self =
+    ap (λ (k : ℕ). callers_learned k told n.callers) (sym c.pinged.ensures) ∙ sym c.learn.ensures in
+    subst (λ (old : Member). ActsWhere (AnswerComes from old.words.name told) (Learn from old.words.name ∷ [])
+    (λ out. out) old (record v { callers = c.learn.new.self })) c.self.view_is
     (subst (λ (k : OwnCallers). ActsWhere (AnswerComes from v.words.name told) (Learn from v.words.name ∷ []) (λ out. out) v (record v { callers = k })) now
     (learn-acts v from told can its))

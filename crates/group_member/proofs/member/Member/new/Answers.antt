@@ -16,5 +16,6 @@ returns-clause-stands c =
       parked = parked;
       node = c.in_ok-new-4.field-0.node;
     })) (sym none)
-    (starts-as c.args.shape c.args.name c.in_ok-new.field-0 c.in_ok-new-2.field-0 c.in_ok-new-3.field-0 c.in_ok-new-4.field-0.node c.in_ok-new-3.ensures.own.limits
+    (starts-as c.args.shape c.args.name c.in_ok-new.field-0 c.in_ok-new-2.field-0 c.in_ok-new-3.field-0
+    c.in_ok-new-4.field-0.node c.in_ok-new-3.ensures.own.limits
     c.requires c.in_ok-new.ensures.opening c.in_ok-new-2.ensures c.in_ok-new-3.ensures.opening (ap (λ (n : NodeStanding). n.node) c.in_ok-new-4.ensures))

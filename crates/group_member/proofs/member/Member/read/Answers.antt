@@ -18,6 +18,8 @@ returns-clause-acts c = on-ok c.map_err.result (λ ok.
     let can = subst (λ (old : Member). CanReadFrom old.words from) (sym c.self.view_is) c.requires.reads in
     let pushed : is_ok c.push.result ≡ true = search rules in
     let now : c.push.new.self.items ≡ n.parked.items ++ r ∷ [] = search rules in
-    subst (λ (old : Member). ActsWhere (RequestComes from old.words.name r) (Read from old.words.name ∷ []) (λ out. out) old (record v { parked = c.push.new.self.items })) c.self.view_is
-    (subst (λ (rs : List Request). ActsWhere (RequestComes from v.words.name r) (Read from v.words.name ∷ []) (λ out. out) v (record v { parked = rs })) (sym now)
+    subst (λ (old : Member). ActsWhere (RequestComes from old.words.name r) (Read from old.words.name ∷ []) (λ out. out)
+    old (record v { parked = c.push.new.self.items })) c.self.view_is
+    (subst (λ (rs : List Request). ActsWhere (RequestComes from v.words.name r) (Read from v.words.name ∷ [])
+    (λ out. out) v (record v { parked = rs })) (sym now)
     (read-acts v from r can)))

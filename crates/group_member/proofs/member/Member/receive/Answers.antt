@@ -17,7 +17,8 @@ invariant_of-self-2 c =
     let v : Member = record { words = n.words; signs = n.signs; callers = n.callers; parked = n.parked.items; node = n.node.node } in
     let t : NodeStep = made c.receive.new.self.node c.in_ok-out.out in
     let plain : is_notice c.args.message.now ≡ false = sym c.is_notice.ensures ∙ c.if-is_notice.false in
-    rest-whole c.self.invariant refl refl (made-whole v n.node.shape c.self.invariant.member c.args.from c.args.message.now t c.in_ok-out.ensures.step plain c.receive.new.self.shape c.in_ok-out.ensures.shape)
+    rest-whole c.self.invariant refl refl (made-whole v n.node.shape c.self.invariant.member c.args.from
+    c.args.message.now t c.in_ok-out.ensures.step plain c.receive.new.self.shape c.in_ok-out.ensures.shape)
 
 pub returns-clause-received : goal.returns-clause-received
 returns-clause-received c =

@@ -24,5 +24,6 @@ returns-clause-acts c =
     let v : Member = record { words = n.words; signs = n.signs; callers = n.callers; parked = n.parked.items; node = n.node.node } in
     let t : NodeStep = made c.learn_death.new.self.node c.in_ok-out.out in
     let can = subst (λ (old : Member). CanTakeDeath old.words c.args.x) (sym c.self.view_is) c.requires.may in
-    subst (λ (old : Member). Acts (Take c.args.x old.words.name ∷ []) old (record v { words = c.take.new.self; node = c.learn_death.new.self.node })) c.self.view_is
+    subst (λ (old : Member). Acts (Take c.args.x old.words.name ∷ []) old
+    (record v { words = c.take.new.self; node = c.learn_death.new.self.node })) c.self.view_is
     (made-takes v n.node.shape c.self.invariant.member c.args.x t c.in_ok-out.ensures.step c.take.new.self c.take.ensures.taken c.take.ensures.words can)

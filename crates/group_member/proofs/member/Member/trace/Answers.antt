@@ -17,14 +17,16 @@ invariant_of-self c =
     let v : Member = record { words = n.words; signs = n.signs; callers = n.callers; parked = n.parked.items; node = n.node.node } in
     let can = subst (λ (old : Member). CanBeTraced old.callers c.args.caller) (sym c.self.view_is) c.requires.may in
     let state = caller_of n.callers c.args.caller in
-    callers-whole c.self.invariant c.args.caller can.its (record state { call = call_staged (λ _. TracedAt c.args.at) state.call }) c.trace.new.self c.trace.ensures
+    callers-whole c.self.invariant c.args.caller can.its
+    (record state { call = call_staged (λ _. TracedAt c.args.at) state.call }) c.trace.new.self c.trace.ensures
 
 pub returns : goal.returns
 returns c =
     let n = c.self.inside in
     let v : Member = record { words = n.words; signs = n.signs; callers = n.callers; parked = n.parked.items; node = n.node.node } in
     let caller = c.args.caller in
-    let place : Some (TraceOf caller c.trace_place-call.result.0 c.trace_place-call.result.1.0) ≡ trace_of n.words.shape.k caller (caller_of n.callers caller).call =
+    let place : Some (TraceOf caller c.trace_place-call.result.0 c.trace_place-call.result.1.0)
+    ≡ trace_of n.words.shape.k caller (caller_of n.callers caller).call =
     c.trace_place-call.ensures.call caller ∙ ap (λ (s : OwnCaller). trace_of c.k.result caller s.call) c.caller.ensures
     ∙ ap (λ (k : ℕ). trace_of k caller (caller_of n.callers caller).call) (c.k.ensures.value ∙ ap (λ (s : Dimensions). s.k) c.shape.ensures) in
     let at = c.args.at in

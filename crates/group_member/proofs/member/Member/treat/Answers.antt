@@ -38,12 +38,16 @@ returns-clause-treated c =
     let after : Member = record v { callers = c.tell_any-told.new.callers; parked = c.remove.new.self.items; node = c.treat_at.new.node.node } in
     let step = made-of v n.node.shape c.self.invariant r t c.in_ok-out.ensures.step in
     let told : c.told_to-told.result ≡ told_to r c.in_ok-out.out.answer = c.told_to-told.ensures
-    ∙ ap (λ (q : Request). told_to q c.in_ok-out.out.answer) (same-entry n.parked.items place c.remove.result r below c.remove.ensures.value c.index-request.ensures) in
-    let late : is_early r (treating v.words.shape r v.node.process).answer ≡ false = ap (is_early r) (sym step.answer) ∙ sym c.is_early.ensures ∙ c.if-is_early.false in
-    subst (λ (old : Member). HasTreated place (entry_at old.parked place) old after (Made c.tell_any-told.result c.in_ok-out.out.settled c.in_ok-out.out.opened)) c.self.view_is
+    ∙ ap (λ (q : Request). told_to q c.in_ok-out.out.answer)
+    (same-entry n.parked.items place c.remove.result r below c.remove.ensures.value c.index-request.ensures) in
+    let late : is_early r (treating v.words.shape r v.node.process).answer ≡ false = ap (is_early r) (sym step.answer)
+    ∙ sym c.is_early.ensures ∙ c.if-is_early.false in
+    subst (λ (old : Member). HasTreated place (entry_at old.parked place) old after
+    (Made c.tell_any-told.result c.in_ok-out.out.settled c.in_ok-out.out.opened)) c.self.view_is
     (subst (λ (o : Option Request). HasTreated place o v after (Made c.tell_any-told.result c.in_ok-out.out.settled c.in_ok-out.out.opened)) (sym there) (
       treats-as v n.node.shape c.self.invariant t c.told_to-told.result c.tell_any-told.result c.pinged.result c.tell_any-told.new.callers c.pinged.ensures
-          c.tell_any-told.ensures.callers c.tell_any-told.ensures.told place r there c.in_ok-out.ensures.step told c.remove.new.self.items c.remove.ensures.items,
+          c.tell_any-told.ensures.callers c.tell_any-told.ensures.told place r there c.in_ok-out.ensures.step told
+          c.remove.new.self.items c.remove.ensures.items,
       step.settled,
       c.in_ok-out.ensures.opened,
       late,

@@ -14,4 +14,5 @@ returns c =
     let other : process_at n.shape c.args.x ≢ n.name = search rules in
     let uncut : knows_dead n.cut (process_at n.shape c.args.x) ≡ false = search rules in
     subst (λ (v : OwnWords). IsTrue c.is_within.result ↔ HasSaidAll v (process_at v.shape c.args.x)) c.self.view_is
-    (said-all w c.index.result.now c.args.x c.is_within.result (let many = c.self.invariant.many in omega (arith, low, many)) c.index.ensures c.is_within.ensures other uncut)
+    (said-all w c.index.result.now c.args.x c.is_within.result (let many = c.self.invariant.many in
+    omega (arith, low, many)) c.index.ensures c.is_within.ensures other uncut)

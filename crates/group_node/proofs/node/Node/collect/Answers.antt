@@ -12,5 +12,6 @@ returns-clause-step c =
     let lives = ap (λ (v : NodeStanding). v.node.dead) c.self.view_is ∙ c.in_default.ensures.none.1 in
     subst (λ (v : NodeStanding). collect_node v.shape c.args.caller c.args.call v.node ≡ unchanged c.collect.result
     (node_standing n.shape c.collect.new.self n.links n.dead n.down).node) c.self.view_is
-    (collected n.shape n.process.shape c.args.caller c.args.call (node_standing n.shape n.process n.links n.dead n.down).node c.collect.result c.collect.new.self.process
+    (collected n.shape n.process.shape c.args.caller c.args.call
+    (node_standing n.shape n.process n.links n.dead n.down).node c.collect.result c.collect.new.self.process
     up lives (messages-long n.links ∙ c.self.invariant.many) c.self.invariant.shape c.collect.ensures.answer)

@@ -26,7 +26,8 @@ returns-then-not-acts_on-clause-step c =
 pub send_all-requires-clause-few : goal.send_all-requires-clause-few
 send_all-requires-clause-few c =
     let fits = subst (λ (v : NodeStanding). Fits v.shape c.args.from c.args.message.now v.node.process) (sym c.self.view_is) c.requires.comes.fits in
-    few-received c.self.inside.shape c.self.inside.process.shape c.self.inside.process.process c.receive.new.self.process c.args.from c.args.message.now c.in_ok-step.step
+    few-received c.self.inside.shape c.self.inside.process.shape c.self.inside.process.process
+    c.receive.new.self.process c.args.from c.args.message.now c.in_ok-step.step
     c.sends_few.ensures c.make_room.ensures.shape c.self.invariant.shape fits c.in_ok-step.ensures.step
 
 pub returns-clause-step : goal.returns-clause-step

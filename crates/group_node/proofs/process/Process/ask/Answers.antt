@@ -12,7 +12,8 @@ invariant_of-self c = elim c.match-self.branch [
       (name_of c.args.call) c.args.op.now w.in-Data.process.process w.ask.new.self.process w.ask.result w.ask.ensures.step w.ask.ensures.err)
       c.self.invariant
   | in-Parity w ↦
-      parity-named c.match-self.self-inside.role c.self.inside.role w.ask-in-Parity.new.self w.in-Parity.process (ap (λ (p : _). p.role) w.self-inside-is) w.in-Parity.is
+      parity-named c.match-self.self-inside.role c.self.inside.role w.ask-in-Parity.new.self w.in-Parity.process
+      (ap (λ (p : _). p.role) w.self-inside-is) w.in-Parity.is
       (asked-name w.in-Parity.process.shape
       (name_of c.args.call) c.args.op.now w.in-Parity.process.process w.ask-in-Parity.new.self.process w.ask-in-Parity.result w.ask-in-Parity.ensures.step
       w.ask-in-Parity.ensures.err)

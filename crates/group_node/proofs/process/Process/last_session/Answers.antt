@@ -2,7 +2,9 @@ use Rattle.group_node.proofs.Numbers.{last-data, last-is, last-parity}
 use Rattle.group_node.proofs.process.Process.last_session.Goals as goal
 
 pub returns-in-Data-clause-parity : goal.returns-in-Data-clause-parity
-returns-in-Data-clause-parity c = λ i other. absurd (last-data c.self.inside.role c.in-Data.field-0 c.args.self.now c.self.view_is c.self.invariant c.in-Data.is i other)
+returns-in-Data-clause-parity c =
+    λ i other. absurd (last-data c.self.inside.role c.in-Data.field-0 c.args.self.now c.self.view_is c.self.invariant
+    c.in-Data.is i other)
 
 pub returns-in-Parity-clause-parity : goal.returns-in-Parity-clause-parity
 returns-in-Parity-clause-parity c = λ i own.

@@ -8,7 +8,8 @@ pub invariant_of-self : goal.invariant_of-self
 invariant_of-self c = elim c.match-self.branch [
   | in-Data w ↦
       data-named c.match-self.self-inside.role c.self.inside.role w.receive.new.self w.in-Data.process (ap (λ (p : _). p.role) w.self-inside-is) w.in-Data.is
-      (received-name w.in-Data.process.shape c.args.from c.args.message.now w.in-Data.process.process w.receive.new.self.process w.receive.result w.receive.ensures.step
+      (received-name w.in-Data.process.shape c.args.from c.args.message.now w.in-Data.process.process
+      w.receive.new.self.process w.receive.result w.receive.ensures.step
       w.receive.ensures.err)
       c.self.invariant
   | in-Parity w ↦
@@ -24,7 +25,8 @@ returns-clause-name c = elim c.match-self.branch [
   | in-Data w ↦
       data-name c.match-self.self-inside.role c.self.inside.role w.receive.new.self w.in-Data.process c.args.self.now
       (ap (λ (p : _). p.role) w.self-inside-is) w.in-Data.is c.self.view_is
-      (received-name w.in-Data.process.shape c.args.from c.args.message.now w.in-Data.process.process w.receive.new.self.process w.receive.result w.receive.ensures.step
+      (received-name w.in-Data.process.shape c.args.from c.args.message.now w.in-Data.process.process
+      w.receive.new.self.process w.receive.result w.receive.ensures.step
       w.receive.ensures.err)
   | in-Parity w ↦
       parity-name c.match-self.self-inside.role c.self.inside.role w.receive-in-Parity.new.self w.in-Parity.process c.args.self.now

@@ -22,7 +22,8 @@ invariant_of-self-in-Err-fresh c =
     let bases : List ℕ = c.self.inside.bases.items in
     let past : List (List Entry) = map (λ log. log.items) c.self.inside.past.items in
     let l : List Lowered = c.self.inside.lowered.items in
-    let same : map (λ log. log.items) c.reserve.new.self.items ≡ past = map-same (λ log. log.items) c.reserve.new.self.items c.self.inside.past.items c.reserve.ensures.items in
+    let same : map (λ log. log.items) c.reserve.new.self.items ≡ past =
+    map-same (λ log. log.items) c.reserve.new.self.items c.self.inside.past.items c.reserve.ensures.items in
     subst (λ (logs : List (List Entry)). AreLed c.renew-fresh.new.world bases logs l) (sym same) (
     begun-led w bases past l c.run.ensures c.self.invariant c.in-Ok.ensures.can.rest c.renew-fresh.new.world c.in-Err-fresh.ensures.err)
 
@@ -32,7 +33,8 @@ returns-in-Err-fresh-clause-left c =
     let bases : List ℕ = c.self.inside.bases.items in
     let past : List (List Entry) = map (λ log. log.items) c.self.inside.past.items in
     let l : List Lowered = c.self.inside.lowered.items in
-    let same : map (λ log. log.items) c.reserve.new.self.items ≡ past = map-same (λ log. log.items) c.reserve.new.self.items c.self.inside.past.items c.reserve.ensures.items in
+    let same : map (λ log. log.items) c.reserve.new.self.items ≡ past =
+    map-same (λ log. log.items) c.reserve.new.self.items c.self.inside.past.items c.reserve.ensures.items in
     subst (λ (x : Eras). IsBegun x (eras_of c.renew-fresh.new.world bases (map (λ log. log.items) c.reserve.new.self.items) l)) c.self.view_is
     (subst (λ (logs : List (List Entry)). IsBegun (eras_of w bases past l) (eras_of c.renew-fresh.new.world bases logs l)) (sym same)
     (begun-is w bases past l c.run.ensures c.self.invariant c.in-Ok.ensures.can.rest c.renew-fresh.new.world c.in-Err-fresh.ensures.err))
@@ -49,10 +51,13 @@ invariant_of-self-in-Ok-fresh c =
     let few : w.events < 2 ^ 58 = subst (λ (x : Eras). x.world.events < 2 ^ 58) (sym c.self.view_is) c.requires.events in
     let made : IsFresh (reading w).world bases l s (reading w).parcels c.in-Ok-fresh.fresh
     = subst (λ (xs : List Lowered). IsFresh (reading w).world bases xs s (reading w).parcels c.in-Ok-fresh.fresh) c.deref-2.ensures.value
-    (subst (λ (bs : List ℕ). IsFresh (reading w).world bs c.deref-2.result.now s (reading w).parcels c.in-Ok-fresh.fresh) c.deref.ensures.value c.in-Ok-fresh.ensures.fresh) in
+    (subst (λ (bs : List ℕ). IsFresh (reading w).world bs c.deref-2.result.now s (reading w).parcels
+    c.in-Ok-fresh.fresh) c.deref.ensures.value c.in-Ok-fresh.ensures.fresh) in
     let pushed : map (λ log. log.items) c.push_reserved.new.self.items ≡ past ++ c.in-Ok-fresh.fresh.told.items ∷ []
-    = map-push (λ log. log.items) c.push_reserved.new.self.items c.reserve.new.self.items c.self.inside.past.items c.in-Ok-fresh.fresh.told c.push_reserved.ensures.items c.reserve.ensures.items in
-    subst (λ (xs : List Lowered). AreLed c.in-Ok-fresh.fresh.world c.in-Ok-fresh.fresh.bases.items (map (λ log. log.items) c.push_reserved.new.self.items) xs) (sym c.clear.ensures.items)
+    = map-push (λ log. log.items) c.push_reserved.new.self.items c.reserve.new.self.items c.self.inside.past.items
+    c.in-Ok-fresh.fresh.told c.push_reserved.ensures.items c.reserve.ensures.items in
+    subst (λ (xs : List Lowered). AreLed c.in-Ok-fresh.fresh.world c.in-Ok-fresh.fresh.bases.items
+    (map (λ log. log.items) c.push_reserved.new.self.items) xs) (sym c.clear.ensures.items)
     (subst (λ (logs : List (List Entry)). AreLed c.in-Ok-fresh.fresh.world c.in-Ok-fresh.fresh.bases.items logs []) (sym pushed)
     (carried-led w bases past l c.run.ensures c.self.invariant c.in-Ok.ensures.can.rest s successor c.in-Ok.ensures.can c.in-Ok-fresh.fresh made low few))
 
@@ -66,10 +71,13 @@ returns-in-Ok-fresh-clause-eras c =
     let successor : IsSuccessor w s = subst (λ (x : Eras). IsSuccessor x.world s) (sym c.self.view_is) c.requires.successor in
     let made : IsFresh (reading w).world bases l s (reading w).parcels c.in-Ok-fresh.fresh
     = subst (λ (xs : List Lowered). IsFresh (reading w).world bases xs s (reading w).parcels c.in-Ok-fresh.fresh) c.deref-2.ensures.value
-    (subst (λ (bs : List ℕ). IsFresh (reading w).world bs c.deref-2.result.now s (reading w).parcels c.in-Ok-fresh.fresh) c.deref.ensures.value c.in-Ok-fresh.ensures.fresh) in
+    (subst (λ (bs : List ℕ). IsFresh (reading w).world bs c.deref-2.result.now s (reading w).parcels
+    c.in-Ok-fresh.fresh) c.deref.ensures.value c.in-Ok-fresh.ensures.fresh) in
     let pushed : map (λ log. log.items) c.push_reserved.new.self.items ≡ past ++ c.in-Ok-fresh.fresh.told.items ∷ []
-    = map-push (λ log. log.items) c.push_reserved.new.self.items c.reserve.new.self.items c.self.inside.past.items c.in-Ok-fresh.fresh.told c.push_reserved.ensures.items c.reserve.ensures.items in
-    ap (λ (xs : List Lowered). eras_of c.in-Ok-fresh.fresh.world c.in-Ok-fresh.fresh.bases.items (map (λ log. log.items) c.push_reserved.new.self.items) xs) c.clear.ensures.items
+    = map-push (λ log. log.items) c.push_reserved.new.self.items c.reserve.new.self.items c.self.inside.past.items
+    c.in-Ok-fresh.fresh.told c.push_reserved.ensures.items c.reserve.ensures.items in
+    ap (λ (xs : List Lowered). eras_of c.in-Ok-fresh.fresh.world c.in-Ok-fresh.fresh.bases.items
+    (map (λ log. log.items) c.push_reserved.new.self.items) xs) c.clear.ensures.items
     ∙ ap (λ (logs : List (List Entry)). eras_of c.in-Ok-fresh.fresh.world c.in-Ok-fresh.fresh.bases.items logs []) pushed
     ∙ carried-is w bases past l c.run.ensures c.self.invariant c.in-Ok.ensures.can.rest s successor c.in-Ok.ensures.can c.in-Ok-fresh.fresh made
     ∙ ap (λ (x : Eras). carried x s) c.self.view_is
@@ -90,6 +98,7 @@ returns-in-Ok-fresh-clause-kept c =
     let successor : IsSuccessor w s = subst (λ (x : Eras). IsSuccessor x.world s) (sym c.self.view_is) c.requires.successor in
     let made : IsFresh (reading w).world bases l s (reading w).parcels c.in-Ok-fresh.fresh
     = subst (λ (xs : List Lowered). IsFresh (reading w).world bases xs s (reading w).parcels c.in-Ok-fresh.fresh) c.deref-2.ensures.value
-    (subst (λ (bs : List ℕ). IsFresh (reading w).world bs c.deref-2.result.now s (reading w).parcels c.in-Ok-fresh.fresh) c.deref.ensures.value c.in-Ok-fresh.ensures.fresh) in
+    (subst (λ (bs : List ℕ). IsFresh (reading w).world bs c.deref-2.result.now s (reading w).parcels
+    c.in-Ok-fresh.fresh) c.deref.ensures.value c.in-Ok-fresh.ensures.fresh) in
     subst (λ (x : Eras). HasCarried x s) c.self.view_is
     (carried-keeps w bases past l c.run.ensures c.self.invariant c.in-Ok.ensures.can.rest s successor c.in-Ok.ensures.can c.in-Ok-fresh.fresh made)

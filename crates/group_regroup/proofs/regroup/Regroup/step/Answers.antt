@@ -17,7 +17,8 @@ invariant_of-self-2 c =
     let e : Event = c.args.event.now in
     let bases : List ℕ = c.self.inside.bases.items in
     let made : c.make.new.world ≡ (step w (event_in c.deref-2.result.now w.shape.k e)).world = c.in_ok-out.ensures.world in
-    let stepped : c.make.new.world ≡ (step w (event_in bases w.shape.k e)).world = made ∙ ap (λ (bs : List ℕ). (step w (event_in bs w.shape.k e)).world) c.deref-2.ensures.value in
+    let stepped : c.make.new.world ≡ (step w (event_in bases w.shape.k e)).world = made
+    ∙ ap (λ (bs : List ℕ). (step w (event_in bs w.shape.k e)).world) c.deref-2.ensures.value in
     let lowered : c.in_ok-lowered.lowered ≡ lowered_by w bases e = c.in_ok-lowered.ensures ∙ ap (λ (bs : List ℕ). lowered_by w bs e) c.deref.ensures.value in
     let past : List (List Entry) = map (λ log. log.items) c.self.inside.past.items in
     record {
@@ -25,8 +26,10 @@ invariant_of-self-2 c =
           kept-step w c.make.new.world bases [] c.self.inside.lowered.items c.note.new.list.items e (length c.log.result.now) c.in_ok-lowered.lowered
           c.self.invariant.kept stepped lowered (ap length c.log.ensures.log)
           (c.note.ensures ∙ ap (λ (xs : List Lowered). noted xs c.in_ok-lowered.lowered (length c.log.result.now)) c.reserve.ensures.items);
-      led = led-made c.args.self.now (eras_of c.make.new.world bases past c.note.new.list.items) e (subst IsLed c.self.view_is c.self.invariant.led) c.requires.may (
-          eras-step w c.make.new.world bases (map (λ log. log.items) c.self.inside.past.items) c.self.inside.lowered.items c.note.new.list.items e (length c.log.result.now) c.in_ok-lowered.lowered
+      led = led-made c.args.self.now (eras_of c.make.new.world bases past c.note.new.list.items) e
+          (subst IsLed c.self.view_is c.self.invariant.led) c.requires.may (
+          eras-step w c.make.new.world bases (map (λ log. log.items) c.self.inside.past.items)
+          c.self.inside.lowered.items c.note.new.list.items e (length c.log.result.now) c.in_ok-lowered.lowered
           c.self.invariant.kept stepped lowered (ap length c.log.ensures.log)
           (c.note.ensures ∙ ap (λ (xs : List Lowered). noted xs c.in_ok-lowered.lowered (length c.log.result.now)) c.reserve.ensures.items) c.run.ensures
           ∙ ap (λ (x : Eras). (era_step x e).eras) c.self.view_is);
@@ -38,9 +41,11 @@ returns-clause-eras c =
     let e : Event = c.args.event.now in
     let bases : List ℕ = c.self.inside.bases.items in
     let made : c.make.new.world ≡ (step w (event_in c.deref-2.result.now w.shape.k e)).world = c.in_ok-out.ensures.world in
-    let stepped : c.make.new.world ≡ (step w (event_in bases w.shape.k e)).world = made ∙ ap (λ (bs : List ℕ). (step w (event_in bs w.shape.k e)).world) c.deref-2.ensures.value in
+    let stepped : c.make.new.world ≡ (step w (event_in bases w.shape.k e)).world = made
+    ∙ ap (λ (bs : List ℕ). (step w (event_in bs w.shape.k e)).world) c.deref-2.ensures.value in
     let lowered : c.in_ok-lowered.lowered ≡ lowered_by w bases e = c.in_ok-lowered.ensures ∙ ap (λ (bs : List ℕ). lowered_by w bs e) c.deref.ensures.value in
-    eras-step w c.make.new.world bases (map (λ log. log.items) c.self.inside.past.items) c.self.inside.lowered.items c.note.new.list.items e (length c.log.result.now) c.in_ok-lowered.lowered
+    eras-step w c.make.new.world bases (map (λ log. log.items) c.self.inside.past.items) c.self.inside.lowered.items
+    c.note.new.list.items e (length c.log.result.now) c.in_ok-lowered.lowered
     c.self.invariant.kept stepped lowered (ap length c.log.ensures.log)
     (c.note.ensures ∙ ap (λ (xs : List Lowered). noted xs c.in_ok-lowered.lowered (length c.log.result.now)) c.reserve.ensures.items) c.run.ensures
     ∙ ap (λ (x : Eras). (era_step x e).eras) c.self.view_is

@@ -20,7 +20,8 @@ callers-preserved c =
     record {
       table = c.part-seat.ensures.table;
       seat = c.part-seat.ensures.rest ∙ (λ j. (blank s (left j) 1 (then j), []));
-      many = let items = ap length c.push_reserved.ensures.items in let more = length-append c.callers.seats.items (c.part-seat.result.0 ∷ []) in omega (arith, items, more, many);
+      many = let items = ap length c.push_reserved.ensures.items in let more =
+          length-append c.callers.seats.items (c.part-seat.result.0 ∷ []) in omega (arith, items, more, many);
       room = let cap = c.push_reserved.ensures.capacity in let room = i.room in omega (arith, cap, room);
       new = subst (AreNew c.args.self.now) (sym c.push_reserved.ensures.items)
           (dealt c.args.self.now c.callers.seats.items c.part-seat.result.0 c.callers.raw.me.0.next i.new (omega (arith, next, many)) c.part-seat.ensures.seat);

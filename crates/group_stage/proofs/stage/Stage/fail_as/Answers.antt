@@ -10,12 +10,15 @@ use Rattle.group_stage.proofs.stage.Stage.fail_as.Goals as goal
 pub fail_all-requires-clause-can : goal.fail_all-requires-clause-can
 fail_all-requires-clause-can g c =
     let v = c.args.seat.now.me.0 in
-    let taken = subst (λ (e : Event). (es : List Event) × InHand (begun e v) 0 c.args.seat.now.me.1 c.in-Some.first c.take_first.new.seat.me es) c.requires.event c.in-Some.ensures.took in
-    can-fail c.args.self.now.plan v c.args.at c.args.keep c.args.seat.now.me.1 c.in-Some.first c.take_first.new.seat.me c.requires.ready c.requires.shape c.requires.process taken
+    let taken = subst (λ (e : Event). (es : List Event) × InHand (begun e v) 0 c.args.seat.now.me.1 c.in-Some.first
+    c.take_first.new.seat.me es) c.requires.event c.in-Some.ensures.took in
+    can-fail c.args.self.now.plan v c.args.at c.args.keep c.args.seat.now.me.1 c.in-Some.first c.take_first.new.seat.me
+    c.requires.ready c.requires.shape c.requires.process taken
 
 pub returns-in-Ok-clause-ended : goal.returns-in-Ok-clause-ended
 returns-in-Ok-clause-ended g c =
     let v = c.args.seat.now.me.0 in
-    let taken = subst (λ (e : Event). (es : List Event) × InHand (begun e v) 0 c.args.seat.now.me.1 c.in-Some.first c.take_first.new.seat.me es) c.requires.event c.in-Some.ensures.took in
+    let taken = subst (λ (e : Event). (es : List Event) × InHand (begun e v) 0 c.args.seat.now.me.1 c.in-Some.first
+    c.take_first.new.seat.me es) c.requires.event c.in-Some.ensures.took in
     failed-ended v c.args.at c.args.keep c.args.seat.now.me.1 c.in-Some.first c.take_first.new.seat.me c.fail_all.new.seat.me c.fail_all.result c.requires.ready
     (subst (λ (s : Dimensions). IsProcess s c.args.at) (sym c.requires.shape) c.requires.process) taken c.fail_all.ensures.failed

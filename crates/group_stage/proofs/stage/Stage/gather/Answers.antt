@@ -55,7 +55,8 @@ seats-preserved c =
     let i = c.seats.invariant in
     let both = front-of c.args.self.now c.seats.rest.seats c.take-in-seats.new.self.seats seat is i.of_stage in
     let raw = c.into_raw.ensures in
-    let view : c.join_seat.new.seat.me.0 ≡ joined c.seats.all.me.0 (view_of seat) = ap (λ (m : Sat). m.0) c.join_seat.ensures.2 ∙ ap (λ (r : _). joined c.seats.all.me.0 r.me.0) raw in
+    let view : c.join_seat.new.seat.me.0 ≡ joined c.seats.all.me.0 (view_of seat) =
+    ap (λ (m : Sat). m.0) c.join_seat.ensures.2 ∙ ap (λ (r : _). joined c.seats.all.me.0 r.me.0) raw in
     let sum = ap (λ (v : View). v.parts) view in
     let one = seat.is_seat.part in
     let many = ap (λ (l : List Seat). length l) is in
@@ -68,5 +69,6 @@ seats-preserved c =
       parts = omega (arith, sum, one, many, more, before);
       idle = ap (λ (v : View). v.held) view ∙ ap (λ (hs : List (ℕ × NodeStanding)). hs ++ (view_of seat).held) i.idle ∙ seat.is_seat.idle;
       of_stage = both.0;
-      whole = λ es whole. i.whole es (next-whole c.args.self.now.plan.shape c.seats.all.me.0 c.join_seat.new.seat.me.0 c.seats.rest.seats c.take-in-seats.new.self.seats seat is view es whole);
+      whole = λ es whole. i.whole es (next-whole c.args.self.now.plan.shape c.seats.all.me.0 c.join_seat.new.seat.me.0
+          c.seats.rest.seats c.take-in-seats.new.self.seats seat is view es whole);
     }

@@ -11,7 +11,8 @@ invariant-seats l = record {
   parts : l.all.me.0.parts + length l.rest.seats ≡ l.fn.self.plan.callers;
   idle : l.all.me.0.held ≡ [];
   of_stage : AreOf l.fn.self l.rest.seats;
-  whole : (es : List Event) → IsWhole l.fn.self.plan.shape es (l.all.me.0 ∷ map view_of l.rest.seats) → IsWhole l.fn.self.plan.shape es (map view_of l.fn.seats.seats);
+  whole : (es : List Event) → IsWhole l.fn.self.plan.shape es (l.all.me.0 ∷ map view_of l.rest.seats)
+      → IsWhole l.fn.self.plan.shape es (map view_of l.fn.seats.seats);
 }
 
 abbrev pub decreases-seats : goal.decreases-seats

@@ -10,14 +10,18 @@ pub fetch_add-requires : goal.fetch_add-requires
 fetch_add-requires g c = (
   c.requires.table,
   (let w = c.args.self.now.words in let i = c.word_of-word.ensures in let p = c.requires.begin.within in omega (arith, w, i, p)),
-  begins c.args.self.now.table.shared.key c.args.self.now.table.shared.table_id.slots c.args.seat.now.id c.args.seat.now.me c.args.place c.word_of-word.result c.word_of-word.ensures g.J.Calls.event
+  begins c.args.self.now.table.shared.key c.args.self.now.table.shared.table_id.slots c.args.seat.now.id
+      c.args.seat.now.me c.args.place c.word_of-word.result c.word_of-word.ensures g.J.Calls.event
       (subst (λ (k : Plan). CanBegin k c.args.seat.now.me.0 g.J.Calls.event c.args.place) (sym c.args.self.now.key_is) c.requires.begin),
 )
 
 pub exchange-requires : goal.exchange-requires
 exchange-requires g c =
     let v = begun g.J.Calls.event c.args.seat.now.me.0 in
-    let takes = at-place v c.args.place c.word_of-word.result c.args.seat.now.me.1 c.fetch_add.result c.fetch_add.new.seat.me c.word_of-word.ensures c.fetch_add.ensures.2 in (
+    let takes = at-place v c.args.place c.word_of-word.result c.args.seat.now.me.1 c.fetch_add.result
+    c.fetch_add.new.seat.me c.word_of-word.ensures c.fetch_add.ensures.2 in (
       c.fetch_add.ensures.0 ∙ c.requires.table,
-      slot-there v c.args.place c.args.seat.now.me.1 c.fetch_add.new.seat.me (free-taken v c.args.place c.args.seat.now.me.1 c.fetch_add.result c.fetch_add.new.seat.me takes c.if-fetch_add-gt0.false) c.slot_of-slot.result c.slot_of-slot.ensures,
+      slot-there v c.args.place c.args.seat.now.me.1 c.fetch_add.new.seat.me
+          (free-taken v c.args.place c.args.seat.now.me.1 c.fetch_add.result c.fetch_add.new.seat.me takes
+          c.if-fetch_add-gt0.false) c.slot_of-slot.result c.slot_of-slot.ensures,
     )

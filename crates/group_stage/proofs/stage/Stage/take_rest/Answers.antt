@@ -27,7 +27,8 @@ take_next-requires-clause-table c = c.processes.invariant.table ∙ c.requires.t
 
 pub take_next-requires-clause-take : goal.take_next-requires-clause-take
 take_next-requires-clause-take c =
-    let low : c.processes.place < processes_of c.args.self.now.plan.shape = let test = c.processes-test.true in let end = c.processes_of-place-end.ensures.value in omega (arith, test, end) in
+    let low : c.processes.place < processes_of c.args.self.now.plan.shape = let test = c.processes-test.true in
+    let end = c.processes_of-place-end.ensures.value in omega (arith, test, end) in
     subst (λ (x : Sat). CanTake c.args.self.now.plan x.0 c.processes.place) (sym c.processes.invariant.seat)
     (record {
       part = c.requires.all.part;
@@ -44,7 +45,8 @@ pub returns-in_default-clause-took : goal.returns-in_default-clause-took
 returns-in_default-clause-took c = (
   c.processes.invariant.many,
   (let test = c.processes-test.true in let end = c.processes_of-place-end.ensures.value in omega (arith, test, end)),
-  none-took c.processes.seat.me.0 c.processes.place c.processes.seat.me.1 c.take_next.result c.take_next.new.seat.me c.in_default.not-Some c.take_next.ensures.took
+  none-took c.processes.seat.me.0 c.processes.place c.processes.seat.me.1 c.take_next.result c.take_next.new.seat.me
+      c.in_default.not-Some c.take_next.ensures.took
       ∙ ap (λ (x : Sat). (with_met x.0 c.processes.place, x.1)) c.processes.invariant.seat,
 )
 
@@ -58,7 +60,9 @@ push-requires c =
 
 pub processes-preserved : goal.processes-preserved
 processes-preserved c =
-    let more = one-more c.args.seat.now.me.0 c.processes.nodes.nodes c.in-Some.node c.processes.seat.me c.take_next.new.seat.me c.processes.place (sym c.processes.invariant.many) c.processes.invariant.seat c.in-Some.ensures.took in
+    let more = one-more c.args.seat.now.me.0 c.processes.nodes.nodes c.in-Some.node c.processes.seat.me
+    c.take_next.new.seat.me c.processes.place (sym c.processes.invariant.many) c.processes.invariant.seat
+    c.in-Some.ensures.took in
     let nodes : c.push.new.self.nodes ≡ c.processes.nodes.nodes ++ c.in-Some.node ∷ [] = ap (λ (l : _). l.nodes) c.push.ensures in
     record {
       table = c.take_next.ensures.table ∙ c.processes.invariant.table;
@@ -74,7 +78,9 @@ returns-clause-table c = c.processes.invariant.table
 
 pub returns-clause-took : goal.returns-clause-took
 returns-clause-took c = (
-  (let many = c.processes.invariant.many in let within = c.processes.invariant.within in let test = c.processes-test.false in let end = c.processes_of-place-end.ensures.value in omega (arith, many, within, test, end)),
+  (let many = c.processes.invariant.many in let within = c.processes.invariant.within in
+      let test = c.processes-test.false in let end = c.processes_of-place-end.ensures.value in
+      omega (arith, many, within, test, end)),
   c.processes.invariant.seat,
   c.processes.invariant.knows,
 )

@@ -27,7 +27,9 @@ returns c =
     let all = c.requires.parts ∙ ap (λ (k : Plan). k.callers) (sym c.args.self.key_is) in
     λ seats whole.
     let F : Plan → Type 0 = λ k. HasClosed k.shape seats c.take_nodes.result.nodes in
-    subst F c.args.self.key_is (has-closed key fin.0 fin.1.0 c.args.seat.id c.args.seat.me.0 fin.1.1 all c.requires.idle (slots_items c.close_with.result.slots) fin.4 seats c.take_nodes.result.nodes
+    subst F c.args.self.key_is (has-closed key fin.0 fin.1.0 c.args.seat.id c.args.seat.me.0 fin.1.1 all c.requires.idle
+    (slots_items c.close_with.result.slots) fin.4 seats c.take_nodes.result.nodes
     (c.take_nodes.ensures.many ∙ ap (λ (k : Plan). processes_of k.shape) (sym c.args.self.key_is))
     (λ p y low is. c.take_nodes.ensures.nodes p y (subst (λ (k : Plan). p < processes_of k.shape) c.args.self.key_is low) is)
-    (subst (λ (k : Plan). (es : List Event) → IsWhole k.shape es (c.args.seat.me.0 ∷ []) → IsWhole k.shape es (map view_of seats)) (sym c.args.self.key_is) whole))
+    (subst (λ (k : Plan). (es : List Event) → IsWhole k.shape es (c.args.seat.me.0 ∷ [])
+    → IsWhole k.shape es (map view_of seats)) (sym c.args.self.key_is) whole))

@@ -13,5 +13,7 @@ pub invariant_of-seat : goal.invariant_of-seat
 invariant_of-seat c =
     let seat = c.args.seat.now in
     let low = not-worn seat.calls (sym c.is_worn.ensures ∙ c.if-is_worn.false) seat.is_seat.few in
-    let all = asked-once (Ask c.args.seat.now.caller c.args.op.now c.args.at) seat.raw.me c.ask_as-ended.new.seat.me seat.caller seat.calls seat.asks seat.is_seat c.ask_as-ended.result low c.ask_as-ended.ensures.ended c.ask_as-ended.ensures.slots (own-ask seat.caller) in
+    let all = asked-once (Ask c.args.seat.now.caller c.args.op.now c.args.at) seat.raw.me c.ask_as-ended.new.seat.me
+    seat.caller seat.calls seat.asks seat.is_seat c.ask_as-ended.result low c.ask_as-ended.ensures.ended
+    c.ask_as-ended.ensures.slots (own-ask seat.caller) in
     record { is_seat = subst (λ (n : ℕ). IsSeat c.ask_as-ended.new.seat.me seat.caller (seat.calls + 1) (seat.asks + n)) (sym c.made_in.ensures) all }

@@ -12,4 +12,8 @@ pub invariant_of-seat : goal.invariant_of-seat
 invariant_of-seat c =
     let seat = c.args.seat.now in
     let low = not-worn seat.calls (sym c.is_worn.ensures ∙ c.if-is_worn.false) seat.is_seat.few in
-    record { is_seat = seat-looked c.args.from c.args.to seat.raw.me c.look_as-looked.new.seat.me seat.caller seat.calls seat.asks c.look_as-looked.result seat.is_seat low c.look_as-looked.ensures.looked c.look_as-looked.ensures.slots }
+    record {
+      is_seat = seat-looked c.args.from c.args.to seat.raw.me c.look_as-looked.new.seat.me seat.caller seat.calls
+          seat.asks c.look_as-looked.result seat.is_seat low c.look_as-looked.ensures.looked
+          c.look_as-looked.ensures.slots;
+    }

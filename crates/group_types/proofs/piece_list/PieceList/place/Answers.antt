@@ -14,7 +14,8 @@ returns-then-piece-number-clause-place c =
 
 pub pieces-preserved : goal.pieces-preserved
 pieces-preserved c =
-    missing_more _ c.args.number c.pieces.place c.piece-item.result c.pieces-test.true (λ same. c.if-piece-number.false (ap (λ (p : Piece). p.number) c.piece-item.is ∙ same)) c.pieces.invariant
+    missing_more _ c.args.number c.pieces.place c.piece-item.result c.pieces-test.true
+    (λ same. c.if-piece-number.false (ap (λ (p : Piece). p.number) c.piece-item.is ∙ same)) c.pieces.invariant
 
 pub unreachable-requires : goal.unreachable-requires
 unreachable-requires c =

@@ -7,5 +7,6 @@ use Rattle.head_service.proofs.head.Head.acknowledge.Goals as goal
 pub returns : goal.returns
 returns c =
     ap (λ (acks : List (Option ℕ)). record { rank = c.self.inside.rank.0; inherited = c.self.inside.inherited; acks = acks })
-    (set_put None c.self.inside.acks.items c.args.parity (Some c.args.number) (subst (λ (h : Head). c.args.parity < length h.acks) (sym c.self.view_is) c.requires))
+    (set_put None c.self.inside.acks.items c.args.parity (Some c.args.number)
+    (subst (λ (h : Head). c.args.parity < length h.acks) (sym c.self.view_is) c.requires))
     ∙ ap (acknowledged c.args.parity c.args.number) c.self.view_is

@@ -10,9 +10,12 @@ pub returns : goal.returns
 returns c = record {
   reaches = c.least_acked-number.ensures.value;
   messages = c.in_ok-tell.ensures
-      ∙ ap (λ (xs : List Sent). xs ++ to_all c.args.peers.now (tells.Update c.rank.result c.args.partition c.in_ok-update.update c.args.applied)) c.new-sent.ensures.items
+      ∙ ap (λ (xs : List Sent). xs
+      ++ to_all c.args.peers.now (tells.Update c.rank.result c.args.partition c.in_ok-update.update c.args.applied))
+      c.new-sent.ensures.items
       ∙ ap (λ (r : ℕ). to_all c.args.peers.now (tells.Update (record { 0 = r }) c.args.partition c.in_ok-update.update c.args.applied)) c.rank.ensures
-      ∙ ap (λ (u : Update). to_all c.args.peers.now (tells.Update (record { 0 = c.args.head.now.rank }) c.args.partition u c.args.applied)) c.in_ok-update.ensures;
+      ∙ ap (λ (u : Update). to_all c.args.peers.now (tells.Update (record { 0 = c.args.head.now.rank }) c.args.partition
+      u c.args.applied)) c.in_ok-update.ensures;
   empty = c.in_ok-settled.ensures.items;
   fits = grind (arith, common_steps);
 }

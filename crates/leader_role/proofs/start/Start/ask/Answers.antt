@@ -22,5 +22,7 @@ partitions-preserved c =
     (read_of c.args.self.now c.args.rows.now c.partitions.d ∷ [])
     (c.args.sent.now.items ++ reads c.args.self.now c.args.shape c.args.known.now c.args.rows.now)
     (ap not (sym c.is_dead.ensures ∙ c.if-is_dead.false))
-    (c.in_ok-push.ensures.items ∙ ap (λ (m : Message). c.partitions.sent.items ++ record { to = DataNode c.partitions.d; message = m } ∷ []) c.in_ok-message.ensures)
+    (c.in_ok-push.ensures.items
+    ∙ ap (λ (m : Message). c.partitions.sent.items ++ record { to = DataNode c.partitions.d; message = m } ∷ [])
+    c.in_ok-message.ensures)
     refl c.partitions.invariant

@@ -11,7 +11,8 @@ on-err P (Err e) holds = holds
 
 pub returns-in_err-ruling-clause-wanted : goal.returns-in_err-ruling-clause-wanted
 returns-in_err-ruling-clause-wanted c =
-    let is : ruling_of c.args.op.now.moment (c.count.result + 1) c.args.op.now.act (option_copied c.find-live.result) ≡ ruling_on (contents c.args.self.now) c.args.op.now = search rules in
+    let is : ruling_of c.args.op.now.moment (c.count.result + 1) c.args.op.now.act (option_copied c.find-live.result)
+    ≡ ruling_on (contents c.args.self.now) c.args.op.now = search rules in
     on-err _ c.from_residual.result (subst HoldsItem is c.in_err-ruling.ensures.wanted)
 
 pub returns-clause-wanted : goal.returns-clause-wanted

@@ -19,5 +19,11 @@ returns-clause-all c _ a from to =
     let long = c.block-block.ensures.dimensions.long in
     let block = c.args.self.now.block in
     let last : c.numbers.number ≡ (c.args.at + c.args.len - 1) / block + 1 =
-    subst (λ b. c.numbers.number ≡ (c.args.at + c.args.len - 1) / b + 1) same (omega (arith, same_or_earlier c.args.at (c.args.at + c.args.len - 1) c.block-block.result (omega arith) (omega arith))) in
-    c.numbers.invariant.there (a / block) (same_or_earlier c.args.at a block (omega arith) from) (omega (arith, last, same_or_earlier a (c.args.at + c.args.len - 1) block (omega arith) (omega (arith, to))))
+    subst (λ b. c.numbers.number ≡ (c.args.at + c.args.len - 1) / b + 1) same
+    (omega (
+      arith,
+      same_or_earlier c.args.at (c.args.at + c.args.len - 1) c.block-block.result (omega arith)
+          (omega arith),
+    )) in
+    c.numbers.invariant.there (a / block) (same_or_earlier c.args.at a block (omega arith) from)
+    (omega (arith, last, same_or_earlier a (c.args.at + c.args.len - 1) block (omega arith) (omega (arith, to))))

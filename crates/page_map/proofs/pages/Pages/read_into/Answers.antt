@@ -10,8 +10,10 @@ pieces-preserved c =
     let start = c.args.at + c.pieces.done in
     let len = c.pieces.done + c.min-len.result - c.pieces.done in
     let same = c.block-block.ensures.length in
-    let long : length c.read_piece.new.into ≡ len = c.read_piece.auto.into ∙ length-between c.pieces.into c.pieces.done (c.pieces.done + c.min-len.result) (omega arith) in
-    let bytes : (i : ℕ) → i < length c.read_piece.new.into → get_or c.read_piece.new.into i 0 ≡ byte_of (page_in pages (start / pages.block)) (start % pages.block + i) = λ i below.
+    let long : length c.read_piece.new.into ≡ len = c.read_piece.auto.into ∙ length-between c.pieces.into c.pieces.done
+    (c.pieces.done + c.min-len.result) (omega arith) in
+    let bytes : (i : ℕ) → i < length c.read_piece.new.into → get_or c.read_piece.new.into i 0
+    ≡ byte_of (page_in pages (start / pages.block)) (start % pages.block + i) = λ i below.
     subst (λ b. get_or c.read_piece.new.into i 0 ≡ byte_of (page_in pages (start / b)) (start % b + i)) same
     (c.read_piece.ensures i below ∙ ap (λ o. byte_of o (start % c.block-block.result + i)) c.page-page.ensures.page) in
     record {

@@ -22,6 +22,7 @@ returns-in_ok-reserve-clause-makes c =
       shape = refl;
       pages = put-pages c.self.inside.shape.block c.args.update.now.body c.in-Put.flags c.in-Put.until c.in-Put.run' c.in-Put.delta
           c.self.inside.space.made c.reserve.new.self.made c.in-Put.is
-          (subst (λ (s : Dimensions). MakesOnly s.block c.in-Put.run' c.self.inside.space.made c.reserve.new.self.made) c.self.invariant.space_shape c.in_ok-reserve.ensures.made);
+          (subst (λ (s : Dimensions). MakesOnly s.block c.in-Put.run' c.self.inside.space.made c.reserve.new.self.made)
+          c.self.invariant.space_shape c.in_ok-reserve.ensures.made);
       kept = still_ready c.self.inside.shape c.self.inside.space.made c.reserve.new.self.made c.in_ok-reserve.ensures.made.kept;
     })

@@ -6,7 +6,8 @@ use Rattle.parity_process.proofs.Standing.{received-ready}
 use Rattle.parity_process.proofs.process.ParityProcess.receive.Goals as goal
 
 pub invariant_of-self : goal.invariant_of-self
-invariant_of-self c = received-ready c.self.inside.service c.receive.new.service c.self.inside.bytes c.receive.new.bytes c.args.from c.args.message.now c.receive.result
+invariant_of-self c = received-ready c.self.inside.service c.receive.new.service c.self.inside.bytes c.receive.new.bytes
+    c.args.from c.args.message.now c.receive.result
     c.self.invariant
     (subst (λ (p : Standing). Fits p.shape c.args.from c.args.message.now p.process) (sym c.self.view_is) c.requires.fits)
     (subst (λ (p : Standing). IsOfGroup p.shape c.args.message.now p.process) (sym c.self.view_is) c.requires.group)

@@ -7,7 +7,8 @@ use Rattle.group_run.specs.Fitting.{AllCanCome, CanCome}
 use Rattle.part_tests.proofs.replica.steps.adopt.Goals as goal
 
 -- where nothing is settled, the first update can come in place of the log
-first_comes : (space : ℕ) (r : Replica) (u : Update) → with_log [] r ≡ empty_replica → CanCome space empty_replica u → AllCanCome space (with_log [] r) (drop (r.applied - 0) (u ∷ []))
+first_comes : (space : ℕ) (r : Replica) (u : Update) → with_log [] r ≡ empty_replica → CanCome space empty_replica u
+    → AllCanCome space (with_log [] r) (drop (r.applied - 0) (u ∷ []))
 first_comes space r u start comes =
     let none : r.applied ≡ 0 = ap (λ (r : Replica). r.applied) start in
     rw (start, none) (comes, tt)

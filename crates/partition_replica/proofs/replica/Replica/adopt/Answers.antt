@@ -29,7 +29,8 @@ log_is c = c.adopt-dropped.ensures.updates ∙ ap (drop (c.self.inside.log.appli
 pub take_runs-requires-clause-free : goal.take_runs-requires-clause-free
 take_runs-requires-clause-free c =
     let s = state_in c.self.inside.shape c.self.inside.index c.self.inside.log c.self.inside.kept.items c.self.inside.spare in
-    let come : AllCanCome (space_of s.shape) (with_log [] s.replica) c.adopt-dropped.new.self.updates = rw (log_is c) (rw (← c.self.view_is) at c.requires.fits) in
+    let come : AllCanCome (space_of s.shape) (with_log [] s.replica) c.adopt-dropped.new.self.updates =
+    rw (log_is c) (rw (← c.self.view_is) at c.requires.fits) in
     let gives = rw (c.as_slice.ensures, c.adopt-dropped.ensures.handed) at c.give_runs.ensures in
     adopted_takeable c.adopt-dropped.new.self.updates c.self.invariant come gives
 
@@ -42,15 +43,22 @@ has_room room n list has = record {
 pub invariant_of-self : goal.invariant_of-self
 invariant_of-self c =
     let s = state_in c.self.inside.shape c.self.inside.index c.self.inside.log c.self.inside.kept.items c.self.inside.spare in
-    let is : c.adopt-dropped.new.self.updates ≡ drop (c.self.inside.log.applied - c.args.base) c.args.list = c.adopt-dropped.ensures.updates ∙ ap (drop (c.self.inside.log.applied - c.args.base)) (c.new.ensures ∙ c.from.ensures) in
+    let is : c.adopt-dropped.new.self.updates ≡ drop (c.self.inside.log.applied - c.args.base) c.args.list =
+    c.adopt-dropped.ensures.updates ∙ ap (drop (c.self.inside.log.applied - c.args.base))
+    (c.new.ensures ∙ c.from.ensures) in
     let come : AllCanCome (space_of s.shape) (with_log [] s.replica) c.adopt-dropped.new.self.updates = rw is (rw (← c.self.view_is) at c.requires.fits) in
-    let room : HasRoom s.room c.adopt-dropped.new.self.updates = rw is (has_room s.room (c.self.inside.log.applied - c.args.base) c.args.list (rw (← c.self.view_is) at c.requires.room)) in
+    let room : HasRoom s.room c.adopt-dropped.new.self.updates =
+    rw is (has_room s.room (c.self.inside.log.applied - c.args.base) c.args.list
+    (rw (← c.self.view_is) at c.requires.room)) in
     let gives = rw (c.as_slice.ensures, c.adopt-dropped.ensures.handed) at c.give_runs.ensures in
     rw (c.tidy_dropped.ensures.items, c.adopt-dropped.ensures.applied, c.adopt-dropped.ensures.spare)
-    (agrees_adopted c.adopt-dropped.new.self.updates c.self.invariant come gives c.take_runs.new.runs _ _ _ room c.tidy_dropped.ensures.ready c.take_runs.ensures)
+    (agrees_adopted c.adopt-dropped.new.self.updates c.self.invariant come gives c.take_runs.new.runs _ _ _ room
+    c.tidy_dropped.ensures.ready c.take_runs.ensures)
 
 pub returns-clause-owed : goal.returns-clause-owed
 returns-clause-owed c owed tidy q is =
     let was = rw (← c.self.view_is) at tidy in
     let kept = rw (c.as_slice-2.ensures, c.adopt-dropped.ensures.handed) at c.tidy_dropped.ensures.ready in
-    rw c.tidy_dropped.ensures.items (tidy_adopted (state_in c.self.inside.shape c.self.inside.index c.self.inside.log c.self.inside.kept.items c.self.inside.spare) _ c.adopt-dropped.new.self.updates owed kept was q is)
+    rw c.tidy_dropped.ensures.items
+    (tidy_adopted (state_in c.self.inside.shape c.self.inside.index c.self.inside.log c.self.inside.kept.items
+    c.self.inside.spare) _ c.adopt-dropped.new.self.updates owed kept was q is)

@@ -6,7 +6,8 @@ use Rattle.partition_replica.proofs.Keys.{slot_in-items_in}
 use Rattle.partition_replica.proofs.Sound.{item_inside}
 use Rattle.partition_replica.proofs.replica.Replica.item.Goals as goal
 
-lent : (space : ℕ) (found : Option (Bor Slot)) → IfSome (option_copied found) (λ slot. slot.at + slot.len ≤ space) → IfSome found (λ slot. slot.now.at + slot.now.len ≤ space)
+lent : (space : ℕ) (found : Option (Bor Slot)) → IfSome (option_copied found) (λ slot. slot.at + slot.len ≤ space)
+    → IfSome found (λ slot. slot.now.at + slot.now.len ≤ space)
 lent space None inside = tt
 lent space (Some slot) inside = inside
 
@@ -17,5 +18,6 @@ returns c =
     let space = space_of c.self.inside.shape in
     rw (← c.self.view_is) (record {
       item = found;
-      inside = lent space c.get.result (subst (λ (s : Option Slot). IfSome s (λ slot. slot.at + slot.len ≤ space)) (sym found) (item_inside space replica c.self.invariant.sound c.args.key.now));
+      inside = lent space c.get.result (subst (λ (s : Option Slot). IfSome s (λ slot. slot.at + slot.len ≤ space))
+          (sym found) (item_inside space replica c.self.invariant.sound c.args.key.now));
     })

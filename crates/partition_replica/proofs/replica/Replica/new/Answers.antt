@@ -15,7 +15,9 @@ started c = rw (c.new.ensures, items_in-empty, c.new-3.ensures.applied, c.new-3.
 pub invariant_of-result : goal.invariant_of-result
 invariant_of-result c =
     rw (c.new-3.ensures.spare)
-    (agrees_at_start (state_in c.args.shape c.new.result c.new-3.result c.in_ok-vec.field-0.items 0) c.in_ok-new.field-0 (started c) refl (c.in_ok-new.ensures.size ∙ c.space.ensures.value) (rw c.space.ensures.value at c.in_ok-new.ensures.free))
+    (agrees_at_start (state_in c.args.shape c.new.result c.new-3.result c.in_ok-vec.field-0.items 0) c.in_ok-new.field-0
+    (started c) refl (c.in_ok-new.ensures.size ∙ c.space.ensures.value)
+    (rw c.space.ensures.value at c.in_ok-new.ensures.free))
 
 pub returns-clause-replica : goal.returns-clause-replica
 returns-clause-replica c = started c

@@ -8,7 +8,8 @@ use Rattle.partition_replica.proofs.replica.Replica.place.Goals as goal
 pub returns-in_err-at : goal.returns-in_err-at
 returns-in_err-at c =
     let replica = replica_in c.self.inside.index c.self.inside.log c.self.inside.kept.items in
-    let none = no_place (space_of c.self.inside.shape) replica c.args.len (is_free c.self.inside.runs) c.self.invariant.free (omega arith) (rw c.self.invariant.size at c.in_err-at.ensures) in
+    let none = no_place (space_of c.self.inside.shape) replica c.args.len (is_free c.self.inside.runs)
+    c.self.invariant.free (omega arith) (rw c.self.invariant.size at c.in_err-at.ensures) in
     rw (c.from_residual.ensures, ← c.self.view_is) (record { place = none; run = tt; free = tt })
 
 pub returns : goal.returns

@@ -17,12 +17,17 @@ index_mut-requires c = omega (arith, first_caller (items_in-sorted c.self.inside
 pub give_run-requires-clause-inside : goal.give_run-requires-clause-inside
 give_run-requires-clause-inside c =
     let replica = replica_in c.self.inside.index c.self.inside.log c.self.inside.kept.items in
-    rw c.self.invariant.size (freed_inside (space_of c.self.inside.shape) replica _ _ (items_in-sorted c.self.inside.index) c.in_ok-update.ensures.updates c.self.invariant.sound)
+    rw c.self.invariant.size
+    (freed_inside (space_of c.self.inside.shape) replica _ _ (items_in-sorted c.self.inside.index)
+    c.in_ok-update.ensures.updates c.self.invariant.sound)
 
-settled : (c : goal.After-give_run) → replica_in c.settle.new.index c.apply_next.new.self (slice_set c.self.inside.kept.items c.in_ok-update.update.caller (Some (record { call = c.in_ok-update.update.call; outcome = c.in_ok-update.update.outcome })))
+settled : (c : goal.After-give_run) → replica_in c.settle.new.index c.apply_next.new.self
+    (slice_set c.self.inside.kept.items c.in_ok-update.update.caller
+    (Some (record { call = c.in_ok-update.update.call; outcome = c.in_ok-update.update.outcome })))
     ≡ applied_to (c.self.inside.log.applied + 1) (replica_in c.self.inside.index c.self.inside.log c.self.inside.kept.items)
 settled c =
-    replica_settled _ _ c.self.inside.log c.apply_next.new.self _ c.in_ok-update.update c.in_ok-update.ensures.updates c.in_ok-update.ensures.applied c.settle.ensures.items
+    replica_settled _ _ c.self.inside.log c.apply_next.new.self _ c.in_ok-update.update c.in_ok-update.ensures.updates
+    c.in_ok-update.ensures.applied c.settle.ensures.items
     (first_caller (items_in-sorted c.self.inside.index) c.in_ok-update.ensures.updates c.self.invariant)
 
 pub invariant_of-self-2 : goal.invariant_of-self-2
@@ -42,4 +47,7 @@ pub returns-clause-owed : goal.returns-clause-owed
 returns-clause-owed c owed tidy q is =
     let was = rw (← c.self.view_is) at tidy in
     let ready = rw c.settle.ensures.ready at is in
-    rw c.settle.ensures.items (tidy_settled (state_in c.self.inside.shape c.self.inside.index c.self.inside.log c.self.inside.kept.items c.self.inside.spare) c.in_ok-update.update c.apply_next.new.self.updates owed c.in_ok-update.ensures.updates was q ready)
+    rw c.settle.ensures.items
+    (tidy_settled (state_in c.self.inside.shape c.self.inside.index c.self.inside.log c.self.inside.kept.items
+    c.self.inside.spare) c.in_ok-update.update c.apply_next.new.self.updates owed c.in_ok-update.ensures.updates was q
+    ready)

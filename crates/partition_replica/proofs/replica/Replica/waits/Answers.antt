@@ -8,4 +8,6 @@ use Rattle.partition_replica.proofs.replica.Replica.waits.Goals as goal
 pub returns : goal.returns
 returns c =
     let test = λ (u : Update). u.caller == c.args.caller && u.call == c.args.call in
-    rw (← c.self.view_is) (any_from_yields_List test _ _ c.any.result c.any.ensures.ran (YieldsList-from_deque c.self.inside.log.updates c.iter.ensures.rest) (λ x b q k. search (rules)) ∙ any_is test c.self.inside.log.updates)
+    rw (← c.self.view_is) (any_from_yields_List test _ _ c.any.result c.any.ensures.ran
+    (YieldsList-from_deque c.self.inside.log.updates c.iter.ensures.rest) (λ x b q k. search (rules))
+    ∙ any_is test c.self.inside.log.updates)

@@ -33,7 +33,9 @@ adopt-requires-clause-seat g c = seat-of (lent g c) c.requires.beneath
 pub returns-in_err-adopt-clause-grows : goal.returns-in_err-adopt-clause-grows
 returns-in_err-adopt-clause-grows g c =
     let f : goal.After-adopt-arg-2-1 g = c.before.before.before.before.before.before in
-    subst (λ (x : Dimensions). GrowsOver (AllMiss x.block c.args.list.now) c.args.self.now (written (lent g f) c.adopt.new.replica) (g.B.Beneath.storage c.args.below.now) (g.B.Beneath.storage c.adopt.new.below))
+    subst (λ (x : Dimensions). GrowsOver (AllMiss x.block c.args.list.now) c.args.self.now
+    (written (lent g f) c.adopt.new.replica) (g.B.Beneath.storage c.args.below.now)
+    (g.B.Beneath.storage c.adopt.new.below))
     c.requires.beneath.shape
     (grows-over (lent g f) c.requires.beneath c.adopt.new.replica c.adopt.ensures.seat (same-as _ _ c.in_err-adopt.ensures.err.process) c.adopt.ensures.makes)
 
@@ -49,10 +51,13 @@ pub returns-clause-grows : goal.returns-clause-grows
 returns-clause-grows g c =
     let f : goal.After-adopt-arg-2-1 g = c.before.before.before.before.before.before.before.before.before.before in
     let ranks : List ℕ = map (λ x. x.0) (set c.self.inside.ranks.items c.args.partition.0 c.args.rank) in
-    subst (λ (x : Dimensions). GrowsOver (AllMiss x.block c.args.list.now) c.args.self.now (record (written (lent g f) c.adopt.new.replica) { ranks = ranks }) (g.B.Beneath.storage c.args.below.now)
+    subst (λ (x : Dimensions). GrowsOver (AllMiss x.block c.args.list.now) c.args.self.now
+    (record (written (lent g f) c.adopt.new.replica) { ranks = ranks }) (g.B.Beneath.storage c.args.below.now)
     (g.B.Beneath.storage c.adopt.new.below)) c.requires.beneath.shape
     (other-ranks ranks
-    (grows-over (lent g f) c.requires.beneath c.adopt.new.replica c.adopt.ensures.seat (applied-kept (lent g f) c.requires.beneath (g.B.Beneath.storage c.adopt.new.below) c.args.base c.in_ok-adopt.ensures.bytes) c.adopt.ensures.makes))
+    (grows-over (lent g f) c.requires.beneath c.adopt.new.replica c.adopt.ensures.seat
+    (applied-kept (lent g f) c.requires.beneath (g.B.Beneath.storage c.adopt.new.below) c.args.base
+    c.in_ok-adopt.ensures.bytes) c.adopt.ensures.makes))
 
 pub returns-clause-step : goal.returns-clause-step
 returns-clause-step g c =
@@ -64,11 +69,16 @@ returns-clause-step g c =
     let b2 : Process = (g.B.Beneath.storage c.adopt.new.below).process in
     let ranks : List ℕ = map (λ x. x.0) (set c.self.inside.ranks.items d c.args.rank) in
     ap (λ (x : Dimensions). adopt_comes x c.args.from c.args.rank.0 d c.args.base c.args.list.now (serving v b)) (sym c.requires.beneath.shape)
-    ∙ adoption-made (g.B.Beneath.storage c.args.below.now).shape d v b c.index_mut-replica.result.now.replica (here (lent g f)) c.args.from c.args.rank.0 c.args.base c.args.list.now
+    ∙ adoption-made (g.B.Beneath.storage c.args.below.now).shape d v b c.index_mut-replica.result.now.replica
+    (here (lent g f)) c.args.from c.args.rank.0 c.args.base c.args.list.now
     r2 b2 (current g f) c.in_ok-adopt.ensures.replica c.in_ok-adopt.ensures.bytes
-    ∙ ap (λ (n : ℕ). ack_to c.args.from c.args.rank.0 d n (serving (record v { replicas = put empty_replica v.replicas d r2; ranks = put 0 v.ranks d c.args.rank.0 }) b2)) (sym c.reach.ensures)
-    ∙ ap (λ (xs : List ℕ). ack_to c.args.from c.args.rank.0 d c.reach.result (serving (record v { replicas = put empty_replica v.replicas d r2; ranks = xs }) b2))
+    ∙ ap (λ (n : ℕ). ack_to c.args.from c.args.rank.0 d n
+    (serving (record v { replicas = put empty_replica v.replicas d r2; ranks = put 0 v.ranks d c.args.rank.0 }) b2))
+    (sym c.reach.ensures)
+    ∙ ap (λ (xs : List ℕ). ack_to c.args.from c.args.rank.0 d c.reach.result
+    (serving (record v { replicas = put empty_replica v.replicas d r2; ranks = xs }) b2))
     (sym (ranks-put (lent g f).place c.args.rank))
-    ∙ ap (λ (w : Serving). ack_to c.args.from c.args.rank.0 d c.reach.result (serving (record w { ranks = ranks }) b2)) (sym (put-back (lent g f) c.adopt.new.replica))
+    ∙ ap (λ (w : Serving). ack_to c.args.from c.args.rank.0 d c.reach.result (serving (record w { ranks = ranks }) b2))
+    (sym (put-back (lent g f) c.adopt.new.replica))
     ∙ acknowledged-as c.args.from c.args.rank.0 d c.reach.result (serving (record (written (lent g f) c.adopt.new.replica) { ranks = ranks }) b2)
     c.sending.result.sent.items c.sending.result.settled.items (c.sending.ensures.sent ∙ c.in_ok-sent.ensures) c.sending.ensures.settled

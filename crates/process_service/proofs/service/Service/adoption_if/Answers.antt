@@ -17,9 +17,12 @@ returns c =
     let told : ℕ → ProcessId → ℕ → Replica → List Sent
     = λ m name n r. to_parities (other_parities m name c.args.known) (tells.Adopt (rank n) (partition c.args.partition.0) r.applied r.log) in
     subst (λ (xs : List Sent). OnOk c.adoption.result (c.adoption.new.sent.items ≡ c.args.sent.now.items ++ xs))
-    (ap (λ (m : ℕ). told m c.self.inside.name c.next_rank.result.0 c.index-replica.result.now.replica) (c.m.ensures.value ∙ ap (λ (v : Serving). v.shape.m) c.self.view_is)
-    ∙ ap (λ (x : ProcessId). told c.args.self.now.shape.m x c.next_rank.result.0 c.index-replica.result.now.replica) (ap (λ (v : Serving). v.name) c.self.view_is)
+    (ap (λ (m : ℕ). told m c.self.inside.name c.next_rank.result.0 c.index-replica.result.now.replica)
+    (c.m.ensures.value ∙ ap (λ (v : Serving). v.shape.m) c.self.view_is)
+    ∙ ap (λ (x : ProcessId). told c.args.self.now.shape.m x c.next_rank.result.0 c.index-replica.result.now.replica)
+    (ap (λ (v : Serving). v.name) c.self.view_is)
     ∙ ap (λ (n : ℕ). told c.args.self.now.shape.m c.args.self.now.name n c.index-replica.result.now.replica) c.next_rank.ensures
     ∙ ap (λ (r : Replica). adoption_if true c.args.self.now.shape c.args.known c.args.self.now.name c.args.partition.0 r) (sym (here lent))
-    ∙ ap (λ (due : Bool). adoption_if due c.args.self.now.shape c.args.known c.args.self.now.name c.args.partition.0 (at empty_replica c.args.self.now.replicas c.args.partition.0)) (sym c.if-not-due.false))
+    ∙ ap (λ (due : Bool). adoption_if due c.args.self.now.shape c.args.known c.args.self.now.name c.args.partition.0
+    (at empty_replica c.args.self.now.replicas c.args.partition.0)) (sym c.if-not-due.false))
     c.adoption.ensures

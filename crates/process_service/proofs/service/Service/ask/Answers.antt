@@ -24,7 +24,8 @@ use Rattle.process_service.specs.Paging.{CallMisses}
 use Rattle.process_service.specs.Steps.{IsAsked}
 use Rattle.process_service.specs.Wanting.{AskWants}
 use Rattle.process_service.proofs.Asked.{asked-at, moved}
-use Rattle.process_service.proofs.Lent.{HasPlace, IsLent, counts, grows-over, head-at, here, heads-as, lends, narrow, put-back, put-same, same-shape, seat-of, shape-after, written}
+use Rattle.process_service.proofs.Lent.{HasPlace, IsLent, counts, grows-over, head-at, here, heads-as, lends, narrow}
+use Rattle.process_service.proofs.Lent.{put-back, put-same, same-shape, seat-of, shape-after, written}
 use Rattle.process_service.proofs.Paging.{pages-at}
 use Rattle.process_service.proofs.Lists.{long-set, part-at, part-put}
 use Rattle.process_service.proofs.Results.{on-err-one, on-ok}
@@ -65,7 +66,8 @@ pub ask-requires-clause-numbers : goal.ask-requires-clause-numbers
 ask-requires-clause-numbers g c =
     let wide : c.self.inside.shape.k ≡ c.args.self.now.shape.k = ap (λ (w : Serving). w.shape.k) c.self.view_is in
     let home : c.home-partition.result.0 ≡ home_of (key_of c.args.op.now.act) c.args.self.now.shape.k
-    = c.home-partition.ensures.value ∙ home-same c.key.result.now c.act.result.now c.args.op.now.act c.k.result c.args.self.now.shape.k c.key.ensures c.act.ensures (c.k.ensures.value ∙ wide) in
+    = c.home-partition.ensures.value ∙ home-same c.key.result.now c.act.result.now c.args.op.now.act c.k.result
+    c.args.self.now.shape.k c.key.ensures c.act.ensures (c.k.ensures.value ∙ wide) in
     lends (lent g c) (λ _ r. last_of r < 4611686018427387904)
     (subst (λ (d : ℕ). last_of (at empty_replica c.args.self.now.replicas d) < 4611686018427387904) (sym home) c.requires.numbers)
 
@@ -87,7 +89,8 @@ invariant_of-self g c =
       held_long = long-set c.self.inside.held.items c.home-partition.result.0 c.ask.new.held ∙ c.self.invariant.held_long;
       shapes = All-set (λ (x : State). x.shape ≡ c.self.inside.shape) c.self.inside.replicas.items c.home-partition.result.0 c.ask.new.replica
           (shape-after (lent g e) c.requires.beneath c.ask.new.replica c.ask.ensures.seat c.ask.ensures.makes.shape) c.self.invariant.shapes;
-      tidy = All-set (λ (x : State). IsTidyBut x (λ _. false)) c.self.inside.replicas.items c.home-partition.result.0 c.ask.new.replica c.ask.ensures.seat.tidy c.self.invariant.tidy;
+      tidy = All-set (λ (x : State). IsTidyBut x (λ _. false)) c.self.inside.replicas.items c.home-partition.result.0
+          c.ask.new.replica c.ask.ensures.seat.tidy c.self.invariant.tidy;
       acks = c.self.invariant.acks;
     }
 
@@ -97,7 +100,8 @@ returns-in-None-clause-asked g c =
     let place : HasPlace c.self.inside c.args.self.now c.home-partition.result.0
     = record { view = c.self.view_is; kept = c.self.invariant; below = omega (arith, wide, c.home-partition.ensures.within, c.k.ensures.value) } in
     let home : c.home-partition.result.0 ≡ home_of (key_of c.args.op.now.act) c.args.self.now.shape.k
-    = c.home-partition.ensures.value ∙ home-same c.key.result.now c.act.result.now c.args.op.now.act c.k.result c.args.self.now.shape.k c.key.ensures c.act.ensures (c.k.ensures.value ∙ wide) in
+    = c.home-partition.ensures.value ∙ home-same c.key.result.now c.act.result.now c.args.op.now.act c.k.result
+    c.args.self.now.shape.k c.key.ensures c.act.ensures (c.k.ensures.value ∙ wide) in
     moved c.args.self.now.shape (name_of c.args.call) c.args.op.now (serving c.args.self.now (g.B.Beneath.storage c.args.below.now).process) c.only.result
     (ap (at None c.args.self.now.heads) (sym home) ∙ head-at place c.index.result.now c.index.ensures ∙ c.in-None.is)
     c.only.ensures.answer c.only.ensures.sent c.only.ensures.settled
@@ -118,7 +122,8 @@ module _ (g : given.Over) (c : goal.After-self-in-Some-1 g) where
   kept = made-kept c.index_mut.result.now.shape (d g e) c.peers-peers.result c.in-Some.head (name_of c.args.call) c.args.op.now c.index_mut.result.now
       c.index_mut-in-Some.result.now.items (g.B.Beneath.storage c.args.below.now) (g.B.Beneath.storage c.ask.new.below)
       (decision_of (d g e) c.in-Some.head c.args.op.now c.index_mut.result.now (g.B.Beneath.storage c.args.below.now))
-      (omega (arith, (lent g e).place.below, c.requires.beneath.blocks)) c.ask.result c.ask.new.replica c.ask.new.held.items c.ask.ensures.made c.ask.ensures.err
+      (omega (arith, (lent g e).place.below, c.requires.beneath.blocks)) c.ask.result c.ask.new.replica
+      c.ask.new.held.items c.ask.ensures.made c.ask.ensures.err
 
 pub returns-in-Some-clause-asked : goal.returns-in-Some-clause-asked
 returns-in-Some-clause-asked g c = on-ok c.ask.result (λ asked made.
@@ -136,15 +141,20 @@ returns-in-Some-clause-asked g c = on-ok c.ask.result (λ asked made.
     let home : d g f ≡ home_of (key_of c.args.op.now.act) s.k
     = c.home-partition.ensures.value ∙ home-same c.key.result.now c.act.result.now c.args.op.now.act c.k.result s.k c.key.ensures c.act.ensures
     (c.k.ensures.value ∙ ap (λ (x : Serving). x.shape.k) c.self.view_is ∙ sym (ap (λ (x : Dimensions). x.k) c.requires.beneath.shape)) in
-    subst (λ (x : Dimensions). IsAsked x name c.args.op.now (serving v b) asked (serving (record (written (lent g f) c.ask.new.replica) { held = held g c }) b2)) c.requires.beneath.shape
-    (subst (λ (w : Serving). IsAsked s name c.args.op.now (serving v b) asked (serving (record w { held = held g c }) b2)) (sym (put-back (lent g f) c.ask.new.replica))
-    (subst (λ (hs : List (List Held)). IsAsked s name c.args.op.now (serving v b) asked (serving (record v { replicas = put empty_replica v.replicas (d g f) r2; held = hs }) b2)) (sym (held-put g c))
+    subst (λ (x : Dimensions). IsAsked x name c.args.op.now (serving v b) asked
+    (serving (record (written (lent g f) c.ask.new.replica) { held = held g c }) b2)) c.requires.beneath.shape
+    (subst (λ (w : Serving). IsAsked s name c.args.op.now (serving v b) asked
+    (serving (record w { held = held g c }) b2)) (sym (put-back (lent g f) c.ask.new.replica))
+    (subst (λ (hs : List (List Held)). IsAsked s name c.args.op.now (serving v b) asked
+    (serving (record v { replicas = put empty_replica v.replicas (d g f) r2; held = hs }) b2)) (sym (held-put g c))
     (asked-at s v b peers h r name c.args.op.now (d g f) home
-    (peers-are c.requires.beneath peers c.peers-peers.ensures.m c.peers-peers.ensures.name c.peers-peers.ensures.known) (heads-are g f) asked r2 c.ask.new.held.items b2
+    (peers-are c.requires.beneath peers c.peers-peers.ensures.m c.peers-peers.ensures.name c.peers-peers.ensures.known)
+    (heads-are g f) asked r2 c.ask.new.held.items b2
     (subst (λ (x : Dimensions). IsMade x (decide (space_of x) h.inherited r c.args.op.now (found_in s (d g f) b))
     (acts s (d g f) peers h name c.args.op.now r (at [] v.held (d g f)) b (decide (space_of x) h.inherited r c.args.op.now (found_in s (d g f) b)))
     asked r2 c.ask.new.held.items b2) same
-    (subst (λ (xs : List Held). IsMade c.index_mut.result.now.shape (decide (space_of c.index_mut.result.now.shape) h.inherited r c.args.op.now (found_in s (d g f) b))
+    (subst (λ (xs : List Held). IsMade c.index_mut.result.now.shape
+    (decide (space_of c.index_mut.result.now.shape) h.inherited r c.args.op.now (found_in s (d g f) b))
     (acts s (d g f) peers h name c.args.op.now r xs b (decide (space_of c.index_mut.result.now.shape) h.inherited r c.args.op.now (found_in s (d g f) b)))
     asked r2 c.ask.new.held.items b2) (sym (held-is g f)) made)))))) c.ask.ensures.made
 
@@ -153,7 +163,10 @@ returns-in-None-clause-grows g c = record {
   shape = refl;
   name = refl;
   beneath = c.requires.beneath;
-  pages = makes-none (CallMisses c.args.self.now.shape c.args.op.now (serving c.args.self.now (g.B.Beneath.storage c.args.below.now).process)) (g.B.Beneath.storage c.args.below.now).made;
+  pages = makes-none
+      (CallMisses c.args.self.now.shape c.args.op.now
+      (serving c.args.self.now (g.B.Beneath.storage c.args.below.now).process))
+      (g.B.Beneath.storage c.args.below.now).made;
 }
 
 pub returns-in-Some-clause-grows : goal.returns-in-Some-clause-grows
@@ -177,7 +190,10 @@ returns-in-Some-clause-grows g c =
       beneath = record { shape = is.beneath.shape; name = is.beneath.name; blocks = is.beneath.blocks; ready = is.beneath.ready };
       pages = subst (λ (x : Dimensions). MakesNoneOf (CallMisses x c.args.op.now (serving v b)) old new) c.requires.beneath.shape
           (pages-at s v b h r c.args.op.now old new (d g f) home (heads-are g f).head (heads-are g f).replica
-          (subst (λ (x : Dimensions). MakesNoneOf (DecisionMisses s.block (decide (space_of x) h.inherited r c.args.op.now (found_in s (d g f) b))) old new) same c.ask.ensures.makes.pages));
+          (subst (λ (x : Dimensions).
+          MakesNoneOf (DecisionMisses s.block
+          (decide (space_of x) h.inherited r c.args.op.now (found_in s (d g f) b))) old new) same
+          c.ask.ensures.makes.pages));
     }
 
 pub returns-in-Some-clause-err : goal.returns-in-Some-clause-err

@@ -49,8 +49,10 @@ returns-in-partitions-clause-answer c b =
     ∙ collected-as c.args.caller c.args.call k d v b below (omega (arith, has_held, long-map (λ h. h.items) c.partitions.self-inside.held.items))
     c.hand_out.result c.applied-applied.result c.index_mut.result.now.items c.hand_out.new.held.items
     (c.applied-applied.ensures ∙ sym (ap (λ r. r.applied)
-    (part-at (λ r. r.replica) empty_replica c.partitions.self-inside.replicas.items d c.index-in-partitions.result.now has_replica c.index-in-partitions.ensures)))
+    (part-at (λ r. r.replica) empty_replica c.partitions.self-inside.replicas.items d c.index-in-partitions.result.now
+    has_replica c.index-in-partitions.ensures)))
     calls c.hand_out.ensures.answer c.hand_out.ensures.held
-    (ap (λ (xs : List Held). is_some (find (is_call c.args.caller c.args.call) xs)) (sym looked) ∙ ap is_some (sym c.look_up.ensures) ∙ c.is_none.ensures ∙ ap not c.if-is_none.false)
+    (ap (λ (xs : List Held). is_some (find (is_call c.args.caller c.args.call) xs)) (sym looked)
+    ∙ ap is_some (sym c.look_up.ensures) ∙ c.is_none.ensures ∙ ap not c.if-is_none.false)
     ∙ ap (λ (held : List (List Held)). only c.hand_out.result (serving (record v { held = held }) b))
     (sym (part-put (λ h. h.items) [] c.partitions.self-inside.held.items d c.hand_out.new.held has_held))

@@ -15,8 +15,10 @@ returns c b name = on-ok c.flush.result (λ sent is.
     let v : Serving = c.args.self.now in
     let k : c.self.inside.shape.k ≡ v.shape.k = ap (λ (w : Serving). w.shape.k) c.self.view_is in
     let parts : stables c.peers.result 0 c.deref.result.now (map (λ r. r.replica) c.deref-2.result.now) ≡ stables c.peers.result 0 v.heads v.replicas
-    = ap (λ (hs : List (Option Head)). stables c.peers.result 0 hs (map (λ r. r.replica) c.deref-2.result.now)) (c.deref.ensures.value ∙ ap (λ (w : Serving). w.heads) c.self.view_is)
-    ∙ ap (λ (rs : List Replica). stables c.peers.result 0 v.heads rs) (ap (map (λ r. r.replica)) c.deref-2.ensures.value ∙ ap (λ (w : Serving). w.replicas) c.self.view_is) in
+    = ap (λ (hs : List (Option Head)). stables c.peers.result 0 hs (map (λ r. r.replica) c.deref-2.result.now))
+    (c.deref.ensures.value ∙ ap (λ (w : Serving). w.heads) c.self.view_is)
+    ∙ ap (λ (rs : List Replica). stables c.peers.result 0 v.heads rs) (ap (map (λ r. r.replica)) c.deref-2.ensures.value
+    ∙ ap (λ (w : Serving). w.replicas) c.self.view_is) in
     flushes_are_the_machines v.shape v b c.peers.result
     (record { m = c.peers.ensures.m; name = c.peers.ensures.name ∙ sym name; known = c.peers.ensures.known })
     (sym (ap (λ (w : Serving). length w.heads) c.self.view_is) ∙ c.self.invariant.heads_long ∙ k)

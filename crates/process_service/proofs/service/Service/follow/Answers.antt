@@ -32,9 +32,12 @@ follow-requires-clause-seat g c = seat-of (lent g c) c.requires.beneath
 pub returns-in_err-follow-clause-grows : goal.returns-in_err-follow-clause-grows
 returns-in_err-follow-clause-grows g c =
     let f : goal.After-follow-arg-2-1 g = c.before.before.before.before.before.before in
-    subst (λ (x : Dimensions). GrowsOver (Misses x.block c.args.update.now.body) c.args.self.now (written (lent g f) c.follow.new.replica) (g.B.Beneath.storage c.args.below.now) (g.B.Beneath.storage c.follow.new.below))
+    subst (λ (x : Dimensions). GrowsOver (Misses x.block c.args.update.now.body) c.args.self.now
+    (written (lent g f) c.follow.new.replica) (g.B.Beneath.storage c.args.below.now)
+    (g.B.Beneath.storage c.follow.new.below))
     c.requires.beneath.shape
-    (grows-over (lent g f) c.requires.beneath c.follow.new.replica c.follow.ensures.seat (same-as _ _ c.in_err-follow.ensures.err.process) c.follow.ensures.makes)
+    (grows-over (lent g f) c.requires.beneath c.follow.new.replica c.follow.ensures.seat
+    (same-as _ _ c.in_err-follow.ensures.err.process) c.follow.ensures.makes)
 
 pub returns-in_err-follow-clause-err : goal.returns-in_err-follow-clause-err
 returns-in_err-follow-clause-err g c =
@@ -47,9 +50,13 @@ returns-in_err-follow-clause-err g c =
 pub returns-clause-grows : goal.returns-clause-grows
 returns-clause-grows g c =
     let f : goal.After-follow-arg-2-1 g = c.before.before.before.before.before.before in
-    subst (λ (x : Dimensions). GrowsOver (Misses x.block c.args.update.now.body) c.args.self.now (written (lent g f) c.follow.new.replica) (g.B.Beneath.storage c.args.below.now) (g.B.Beneath.storage c.follow.new.below))
+    subst (λ (x : Dimensions). GrowsOver (Misses x.block c.args.update.now.body) c.args.self.now
+    (written (lent g f) c.follow.new.replica) (g.B.Beneath.storage c.args.below.now)
+    (g.B.Beneath.storage c.follow.new.below))
     c.requires.beneath.shape
-    (grows-over (lent g f) c.requires.beneath c.follow.new.replica c.follow.ensures.seat (applied-kept (lent g f) c.requires.beneath (g.B.Beneath.storage c.follow.new.below) c.args.stable c.in_ok-follow.ensures.bytes) c.follow.ensures.makes)
+    (grows-over (lent g f) c.requires.beneath c.follow.new.replica c.follow.ensures.seat
+    (applied-kept (lent g f) c.requires.beneath (g.B.Beneath.storage c.follow.new.below) c.args.stable
+    c.in_ok-follow.ensures.bytes) c.follow.ensures.makes)
 
 pub returns-clause-step : goal.returns-clause-step
 returns-clause-step g c =
@@ -59,8 +66,10 @@ returns-clause-step g c =
     let b : Process = (g.B.Beneath.storage c.args.below.now).process in
     let b2 : Process = (g.B.Beneath.storage c.follow.new.below).process in
     ap (λ (x : Dimensions). update_comes x c.args.from c.args.rank.0 c.args.partition.0 u c.args.stable (serving v b)) (sym c.requires.beneath.shape)
-    ∙ update-made (g.B.Beneath.storage c.args.below.now).shape c.args.partition.0 v b c.index_mut-replica.result.now.replica (here (lent g f)) c.args.from c.args.rank.0 u c.args.stable
+    ∙ update-made (g.B.Beneath.storage c.args.below.now).shape c.args.partition.0 v b
+    c.index_mut-replica.result.now.replica (here (lent g f)) c.args.from c.args.rank.0 u c.args.stable
     c.follow.new.replica.replica b2 (current g f) c.in_ok-follow.ensures.replica c.in_ok-follow.ensures.bytes
     ∙ ap (λ (w : Serving). ack_to c.args.from c.args.rank.0 c.args.partition.0 u.number (serving w b2)) (sym (put-back (lent g f) c.follow.new.replica))
-    ∙ acknowledged-as c.args.from c.args.rank.0 c.args.partition.0 u.number (serving (written (lent g f) c.follow.new.replica) b2) c.sending.result.sent.items c.sending.result.settled.items
+    ∙ acknowledged-as c.args.from c.args.rank.0 c.args.partition.0 u.number
+    (serving (written (lent g f) c.follow.new.replica) b2) c.sending.result.sent.items c.sending.result.settled.items
     (c.sending.ensures.sent ∙ c.in_ok-sent.ensures) c.sending.ensures.settled

@@ -13,7 +13,9 @@ returns c =
     let lent : IsLent c.self.inside c.args.self.now c.args.partition.0 c.index-replica.result.now
     = record { place = record { view = c.self.view_is; kept = c.self.invariant; below = c.requires }; entry = c.index-replica.ensures } in
     ap (λ (h : Head). Some h) c.in_ok-head.ensures
-    ∙ ap (λ (s : Dimensions). Some (new_head s c.next_rank.result.0 (last_of c.index-replica.result.now.replica))) (ap (λ (v : Serving). v.shape) c.self.view_is)
+    ∙ ap (λ (s : Dimensions). Some (new_head s c.next_rank.result.0 (last_of c.index-replica.result.now.replica)))
+    (ap (λ (v : Serving). v.shape) c.self.view_is)
     ∙ ap (λ (n : ℕ). Some (new_head c.args.self.now.shape n (last_of c.index-replica.result.now.replica))) c.next_rank.ensures
     ∙ ap (λ (r : Replica). heir_if true c.args.self.now.shape c.args.self.now.name r) (sym (here lent))
-    ∙ ap (λ (due : Bool). heir_if due c.args.self.now.shape c.args.self.now.name (at empty_replica c.args.self.now.replicas c.args.partition.0)) (sym c.if-not-due.false)
+    ∙ ap (λ (due : Bool). heir_if due c.args.self.now.shape c.args.self.now.name
+    (at empty_replica c.args.self.now.replicas c.args.partition.0)) (sym c.if-not-due.false)

@@ -8,7 +8,8 @@ use Rattle.process_service.proofs.service.Service.inherited_at.Goals as goal
 pub returns-in-None : goal.returns-in-None
 returns-in-None c b =
     let place : HasPlace c.self.inside c.args.self.now c.args.partition.0 = record { view = c.self.view_is; kept = c.self.invariant; below = c.requires } in
-    ap (λ (h : Option Head). inherited_or (serving c.args.self.now b) c.args.partition.0 h None) (head-at place c.index.result.now c.index.ensures ∙ c.in-None.is)
+    ap (λ (h : Option Head). inherited_or (serving c.args.self.now b) c.args.partition.0 h None)
+    (head-at place c.index.result.now c.index.ensures ∙ c.in-None.is)
 
 pub returns-in-Some : goal.returns-in-Some
 returns-in-Some c b =

@@ -15,7 +15,8 @@ headed known name i d head is some =
     ap (λ (x : ProcessId). is_due known x d head) is
     ∙ ap (λ (x : Bool). not x && knows_dead known (DataNode d) && list_all (λ j. knows_dead known (ParityNode j)) (range_with_len 0 i)) some
 
-unheaded : (known : Membership) (name : ProcessId) (i d : ℕ) (head : Option Head) → name ≡ ParityNode i → is_some head ≡ false → knows_dead known (DataNode d) ≡ true
+unheaded : (known : Membership) (name : ProcessId) (i d : ℕ) (head : Option Head) → name ≡ ParityNode i
+    → is_some head ≡ false → knows_dead known (DataNode d) ≡ true
     → is_due known name d head ≡ list_all (λ j. knows_dead known (ParityNode j)) (range_with_len 0 i)
 unheaded known name i d head is none dead =
     ap (λ (x : ProcessId). is_due known x d head) is
@@ -25,13 +26,17 @@ unheaded known name i d head is none dead =
 pub returns-then-is_some : goal.returns-then-is_some
 returns-then-is_some c =
     let name : c.args.self.now.name ≡ ParityNode c.in-ParityNode.i = ap (λ (v : Serving). v.name) (sym c.self.view_is) ∙ c.in-ParityNode.is in
-    let place : HasPlace c.self.inside c.args.self.now c.args.partition.0 = record { view = c.self.view_is; kept = c.self.invariant; below = c.requires.partition } in
+    let place : HasPlace c.self.inside c.args.self.now c.args.partition.0 =
+    record { view = c.self.view_is; kept = c.self.invariant; below = c.requires.partition } in
     sym (headed c.args.known c.args.self.now.name c.in-ParityNode.i c.args.partition.0 (at None c.args.self.now.heads c.args.partition.0) name
     (ap is_some (head-at place c.index.result.now c.index.ensures) ∙ sym c.is_some.ensures ∙ c.if-is_some.true))
 
 pub returns-then-is_dead : goal.returns-then-is_dead
 returns-then-is_dead c =
     let name : c.args.self.now.name ≡ ParityNode c.in-ParityNode.i = ap (λ (v : Serving). v.name) (sym c.self.view_is) ∙ c.in-ParityNode.is in
-    let place : HasPlace c.self.inside c.args.self.now c.args.partition.0 = record { view = c.self.view_is; kept = c.self.invariant; below = c.requires.partition } in
-    c.are_dead.ensures ∙ sym (unheaded c.args.known c.args.self.now.name c.in-ParityNode.i c.args.partition.0 (at None c.args.self.now.heads c.args.partition.0) name
+    let place : HasPlace c.self.inside c.args.self.now c.args.partition.0 =
+    record { view = c.self.view_is; kept = c.self.invariant; below = c.requires.partition } in
+    c.are_dead.ensures
+    ∙ sym (unheaded c.args.known c.args.self.now.name c.in-ParityNode.i c.args.partition.0
+    (at None c.args.self.now.heads c.args.partition.0) name
     (ap is_some (head-at place c.index.result.now c.index.ensures) ∙ sym c.is_some.ensures ∙ c.if-is_some.false) (sym c.is_dead.ensures ∙ c.if-is_dead.true))

@@ -27,6 +27,7 @@ partitions-preserved g c =
       room = c.judge_at.ensures.room;
       ahead = left-next (judge s) s.k c.partitions.d p q c.partitions.settled.items c.judge_at.new.settled.items c.args.settled.now.items
           (for_each (range_with_len 0 s.k) (judge s) (serving c.args.self.now (g.B.Beneath.storage c.args.below.now).process)) below
-          (subst (λ (x : Dimensions). HasMade (judge x c.partitions.d p) c.partitions.settled.items q c.judge_at.new.settled.items) c.partitions.invariant.stays.shape c.judge_at.ensures.made)
+          (subst (λ (x : Dimensions). HasMade (judge x c.partitions.d p) c.partitions.settled.items q
+          c.judge_at.new.settled.items) c.partitions.invariant.stays.shape c.judge_at.ensures.made)
           c.partitions.invariant.ahead;
     }

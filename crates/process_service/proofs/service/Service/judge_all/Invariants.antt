@@ -13,5 +13,6 @@ invariant-partitions g l = record {
   stays : StaysOver l.initial.self l.self (g.B.Beneath.storage l.initial.below) (g.B.Beneath.storage l.below);
   room : vec_len l.settled + waiting l.self.replicas ≤ vec_capacity l.settled;
   ahead : IsLeft (judge l.initial.self.shape) l.initial.self.shape.k l.d (serving l.self (g.B.Beneath.storage l.below).process) l.settled.items
-      (for_each (range_with_len 0 l.initial.self.shape.k) (judge l.initial.self.shape) (serving l.initial.self (g.B.Beneath.storage l.initial.below).process)) l.initial.settled.items;
+      (for_each (range_with_len 0 l.initial.self.shape.k) (judge l.initial.self.shape)
+      (serving l.initial.self (g.B.Beneath.storage l.initial.below).process)) l.initial.settled.items;
 }

@@ -32,7 +32,8 @@ pub returns-in-Some-clause-stays : goal.returns-in-Some-clause-stays
 returns-in-Some-clause-stays g c =
     let f : goal.After-judge-arg-in-Some-1 g = c.before.before in
     stays-over (lent g f) c.requires.beneath c.judge.new.replica c.judge.ensures.seat
-    (applied-kept (lent g f) c.requires.beneath (g.B.Beneath.storage c.judge.new.below) (number g f) c.judge.ensures.settled.applied.process) c.judge.ensures.stays
+    (applied-kept (lent g f) c.requires.beneath (g.B.Beneath.storage c.judge.new.below) (number g f)
+    c.judge.ensures.settled.applied.process) c.judge.ensures.stays
 
 pub returns-in-Some-clause-room : goal.returns-in-Some-clause-room
 returns-in-Some-clause-room g c = room-left (lent g c.before.before) (number g c.before.before) c.judge.new.replica
@@ -48,16 +49,20 @@ returns-in-Some-clause-made g c =
     let s : Dimensions = (g.B.Beneath.storage c.args.below.now).shape in
     let b : Process = (g.B.Beneath.storage c.args.below.now).process in
     let b2 : Process = (g.B.Beneath.storage c.judge.new.below).process in
-    subst (λ (x : Dimensions). HasMade (machine.judge x d (serving v b)) c.args.settled.now.items (serving (written (lent g f) c.judge.new.replica) b2) c.judge.new.settled.items)
+    subst (λ (x : Dimensions). HasMade (machine.judge x d (serving v b)) c.args.settled.now.items
+    (serving (written (lent g f) c.judge.new.replica) b2) c.judge.new.settled.items)
     c.requires.beneath.shape
-    (subst (λ (w : Serving). HasMade (machine.judge s d (serving v b)) c.args.settled.now.items (serving w b2) c.judge.new.settled.items) (sym (put-back (lent g f) c.judge.new.replica))
+    (subst (λ (w : Serving). HasMade (machine.judge s d (serving v b)) c.args.settled.now.items (serving w b2)
+    c.judge.new.settled.items) (sym (put-back (lent g f) c.judge.new.replica))
     (judged-made s v b c.peers-peers.result d c.in-Some.head c.index_mut.result.now.replica
     (peers-are c.requires.beneath c.peers-peers.result c.peers-peers.ensures.m c.peers-peers.ensures.name c.peers-peers.ensures.known)
     (heads-as (lent g f) c.in-Some.head (head-at (lent g f).place c.index.result.now c.index.ensures ∙ c.in-Some.is))
-    c.judge.new.replica.replica b2 c.args.settled.now.items c.judge.new.settled.items c.judge.ensures.settled.applied.replica c.judge.ensures.settled.applied.process c.judge.ensures.settled.settled))
+    c.judge.new.replica.replica b2 c.args.settled.now.items c.judge.new.settled.items
+    c.judge.ensures.settled.applied.replica c.judge.ensures.settled.applied.process c.judge.ensures.settled.settled))
 
 pub returns-in-None-clause-made : goal.returns-in-None-clause-made
 returns-in-None-clause-made g c =
-    let place : HasPlace c.self.inside c.args.self.now c.args.partition.0 = record { view = c.self.view_is; kept = c.self.invariant; below = c.requires.partition } in
+    let place : HasPlace c.self.inside c.args.self.now c.args.partition.0 =
+    record { view = c.self.view_is; kept = c.self.invariant; below = c.requires.partition } in
     unjudged c.args.self.now.shape c.args.partition.0 (serving c.args.self.now (g.B.Beneath.storage c.args.below.now).process) c.args.settled.now.items
     (head-at place c.index.result.now c.index.ensures ∙ c.in-None.is)

@@ -34,7 +34,9 @@ module _ (s : Dimensions) where
 
   first-counts : (name : ProcessId) → IsProcess s name → All Counts (heads_at_start s name)
   first-counts (ParityNode i) is = nobody
-  first-counts (DataNode d) is = subst (All Counts) (first-put d is) (All-set Counts (replicate s.k None) d (Some (new_head s 0 0)) (length-replicate s.m None) nobody)
+  first-counts (DataNode d) is =
+      subst (All Counts) (first-put d is) (All-set Counts (replicate s.k None) d (Some (new_head s 0 0))
+      (length-replicate s.m None) nobody)
 
   first-long : (name : ProcessId) → IsProcess s name → length (heads_at_start s name) ≡ s.k
   first-long (ParityNode i) is = none-long None where
@@ -48,13 +50,16 @@ pub invariant_of-result : goal.invariant_of-result
 invariant_of-result c = record {
   process = c.requires;
   members = ap (λ (x : Membership). x.shape) c.new.ensures;
-  replicas_long = sym (long-map (λ r. r.replica) c.in_ok-replicas.field-0.items) ∙ ap length c.in_ok-replicas.ensures.content ∙ length-replicate c.args.shape.k empty_replica;
+  replicas_long = sym (long-map (λ r. r.replica) c.in_ok-replicas.field-0.items)
+      ∙ ap length c.in_ok-replicas.ensures.content ∙ length-replicate c.args.shape.k empty_replica;
   ranks_long = sym (long-map (λ r. r.0) c.in_ok-ranks.field-0.items) ∙ ap length c.in_ok-ranks.ensures ∙ length-replicate c.k.result 0 ∙ c.k.ensures.value;
   heads_long = ap length c.in_ok-heads.ensures ∙ first-long c.args.shape c.args.name c.requires;
-  held_long = sym (long-map (λ h. h.items) c.in_ok-held.field-0.items) ∙ ap length c.in_ok-held.ensures ∙ length-replicate c.k-2.result [] ∙ c.k-2.ensures.value;
+  held_long = sym (long-map (λ h. h.items) c.in_ok-held.field-0.items) ∙ ap length c.in_ok-held.ensures
+      ∙ length-replicate c.k-2.result [] ∙ c.k-2.ensures.value;
   shapes = c.in_ok-replicas.ensures.shape;
   tidy = c.in_ok-replicas.ensures.tidy;
-  acks = subst (All (λ (head : Option Head). IfSome head (λ h. length h.acks ≡ c.args.shape.m))) (sym c.in_ok-heads.ensures) (first-counts c.args.shape c.args.name c.requires);
+  acks = subst (All (λ (head : Option Head). IfSome head (λ h. length h.acks ≡ c.args.shape.m)))
+      (sym c.in_ok-heads.ensures) (first-counts c.args.shape c.args.name c.requires);
 }
 
 pub returns-clause-value : goal.returns-clause-value
@@ -65,7 +70,13 @@ returns-clause-value c =
     let ranks : List ℕ = map (λ r. r.0) c.in_ok-ranks.field-0.items in
     let held : List (List Held) = map (λ h. h.items) c.in_ok-held.field-0.items in
     ap (λ (x : Membership). record start { known = x; replicas = replicas; ranks = ranks; heads = c.in_ok-heads.field-0.items; held = held }) c.new.ensures
-    ∙ ap (λ (xs : List Replica). record start { replicas = xs; ranks = ranks; heads = c.in_ok-heads.field-0.items; held = held }) c.in_ok-replicas.ensures.content
-    ∙ ap (λ (xs : List ℕ). record start { ranks = xs; heads = c.in_ok-heads.field-0.items; held = held }) (c.in_ok-ranks.ensures ∙ ap (λ n. replicate n 0) c.k.ensures.value)
+    ∙ ap (λ (xs : List Replica). record start {
+      replicas = xs;
+      ranks = ranks;
+      heads = c.in_ok-heads.field-0.items;
+      held = held;
+    }) c.in_ok-replicas.ensures.content
+    ∙ ap (λ (xs : List ℕ). record start { ranks = xs; heads = c.in_ok-heads.field-0.items; held = held })
+    (c.in_ok-ranks.ensures ∙ ap (λ n. replicate n 0) c.k.ensures.value)
     ∙ ap (λ (xs : List (Option Head)). record start { heads = xs; held = held }) c.in_ok-heads.ensures
     ∙ ap (λ (xs : List (List Held)). record start { held = xs }) (c.in_ok-held.ensures ∙ ap (λ n. replicate n []) c.k-2.ensures.value)

@@ -38,7 +38,8 @@ module _ (g : given.Over) (c : goal.After-settled-2-1 g) where
   ds = range_with_len 0 s.k
 
   known-is : record (the_view c.self.inside) { known = c.args.notice.known } ≡ v
-  known-is = ap (λ (x : Serving). record x { known = c.args.notice.known }) c.self.view_is ∙ ap (λ (x : Membership). record (c.args.self.now) { known = x }) c.requires.prepared.known_is
+  known-is = ap (λ (x : Serving). record x { known = c.args.notice.known }) c.self.view_is
+      ∙ ap (λ (x : Membership). record (c.args.self.now) { known = x }) c.requires.prepared.known_is
 
   shape-is : (the_view c.self.inside).shape ≡ s
   shape-is = ap (λ (x : Serving). x.shape) c.self.view_is
@@ -49,7 +50,9 @@ module _ (g : given.Over) (c : goal.After-settled-2-1 g) where
   made : HasMade judged [] (serving w b2) c.judge_all.new.settled.items
   made = subst (λ (before : List Settlement). HasMade judged before (serving w b2) c.judge_all.new.settled.items) c.requires.settled
       (subst (λ (x : Serving). HasMade (for_each ds (judge s) (serving x b)) c.args.notice.settled.items (serving w b2) c.judge_all.new.settled.items) known-is
-      (subst (λ (x : Dimensions). HasMade (for_each (range_with_len 0 x.k) (judge x) (serving (record (the_view c.self.inside) { known = c.args.notice.known }) b)) c.args.notice.settled.items
+      (subst (λ (x : Dimensions).
+      HasMade (for_each (range_with_len 0 x.k) (judge x)
+      (serving (record (the_view c.self.inside) { known = c.args.notice.known }) b)) c.args.notice.settled.items
       (serving w b2) c.judge_all.new.settled.items) shape-is c.judge_all.ensures.made))
 
   w-shape : s ≡ w.shape
@@ -85,8 +88,10 @@ returns-clause-step g c =
     let p : Process = serving (v g f) (b g f) in
     let q : Process = serving c.take_over_all.new.self (g.B.Beneath.storage c.take_over_all.new.below).process in
     let taken : HasMade (for_each (ds g f) (take_over_if (s g f)) (judged g f).process) c.judge_all.new.settled.items q c.take_over_all.new.settled.items
-    = subst (λ (x : Process). HasMade (for_each (ds g f) (take_over_if (s g f)) x) c.judge_all.new.settled.items q c.take_over_all.new.settled.items) (made g f).process
-    (subst (λ (x : Dimensions). HasMade (for_each (range_with_len 0 x.k) (take_over_if x) (serving (w g f) (b2 g f))) c.judge_all.new.settled.items q c.take_over_all.new.settled.items) (sym (w-shape g f))
+    = subst (λ (x : Process). HasMade (for_each (ds g f) (take_over_if (s g f)) x) c.judge_all.new.settled.items q
+    c.take_over_all.new.settled.items) (made g f).process
+    (subst (λ (x : Dimensions). HasMade (for_each (range_with_len 0 x.k) (take_over_if x) (serving (w g f) (b2 g f)))
+    c.judge_all.new.settled.items q c.take_over_all.new.settled.items) (sym (w-shape g f))
     c.take_over_all.ensures.made) in
     step-is (after_mourning (s g f) p) q (adoptions (v g f) (ds g f)) c.take_over_all.new.settled.items (sym taken.process)
     (mourned-sent (s g f) p ∙ ap (λ (x : Serving). adoptions x (ds g f)) (viewed (s g f) (v g f) (b g f) c.requires.beneath.name refl))

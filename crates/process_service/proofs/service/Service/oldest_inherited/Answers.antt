@@ -9,7 +9,8 @@ returns-then-is_some c b =
     let k : c.self.inside.shape.k ≡ c.args.self.now.shape.k = ap (λ (v : Serving). v.shape.k) c.self.view_is in
     let below : c.partitions.d < c.args.self.now.shape.k = grind (arith, common_steps) in
     c.partitions.invariant.ahead b
-    ∙ oldest-here (serving c.args.self.now b) c.args.self.now.shape.k c.partitions.d below c.inherited_at-found.result (sym c.is_some.ensures ∙ c.if-is_some.true)
+    ∙ oldest-here (serving c.args.self.now b) c.args.self.now.shape.k c.partitions.d below c.inherited_at-found.result
+    (sym c.is_some.ensures ∙ c.if-is_some.true)
     (c.inherited_at-found.ensures b)
 
 pub partitions-preserved : goal.partitions-preserved

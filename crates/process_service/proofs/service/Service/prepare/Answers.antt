@@ -24,7 +24,8 @@ partitions-preserved c =
     = c.is_due-due.ensures ∙ ap (λ (x : Membership). is_due x v.name d (at None v.heads d)) c.partitions.invariant.known in
     let head : c.in_ok-head.head ≡ heir_at v d = c.in_ok-head.ensures ∙ ap (λ (x : Bool). heir_if x v.shape v.name r) due in
     let told : adoption_if c.is_due-due.result v.shape c.fail.new.self v.name d r ≡ adoption_if (is_taken v d) v.shape v.known v.name d r
-    = ap (λ (x : Bool). adoption_if x v.shape c.fail.new.self v.name d r) due ∙ ap (λ (x : Membership). adoption_if (is_taken v d) v.shape x v.name d r) c.partitions.invariant.known in
+    = ap (λ (x : Bool). adoption_if x v.shape c.fail.new.self v.name d r) due
+    ∙ ap (λ (x : Membership). adoption_if (is_taken v d) v.shape x v.name d r) c.partitions.invariant.known in
     record {
       known = c.partitions.invariant.known;
       kept = c.partitions.invariant.kept;

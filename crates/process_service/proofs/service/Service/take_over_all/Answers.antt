@@ -39,7 +39,8 @@ take_over_if-requires-clause-head g c =
     let wide : c.self.inside.shape.k ≡ c.args.self.now.shape.k = ap (λ (w : Serving). w.shape.k) c.self.view_is in
     let below : c.partitions.d < c.args.self.now.shape.k = grind (arith, common_steps) in
     c.take-head.ensures.value
-    ∙ sym (entry-at None c.partitions.heads.items c.partitions.d c.index_mut.result.now (omega (arith, below, c.partitions.invariant.long)) c.index_mut.ensures.value)
+    ∙ sym (entry-at None c.partitions.heads.items c.partitions.d c.index_mut.result.now
+    (omega (arith, below, c.partitions.invariant.long)) c.index_mut.ensures.value)
     ∙ c.partitions.invariant.heads c.partitions.d (omega arith) below
 
 pub partitions-preserved : goal.partitions-preserved
@@ -50,8 +51,10 @@ partitions-preserved g c =
     let b2 : Process = (g.B.Beneath.storage c.take_over_if.new.below).process in
     let wide : c.self.inside.shape.k ≡ s.k = ap (λ (w : Serving). w.shape.k) c.self.view_is in
     let below : d < s.k = grind (arith, common_steps) in
-    let made : HasMade (take_over_if s d (serving c.partitions.self b)) c.partitions.settled.items (serving c.take_over_if.new.self b2) c.take_over_if.new.settled.items
-    = subst (λ (x : Dimensions). HasMade (take_over_if x d (serving c.partitions.self b)) c.partitions.settled.items (serving c.take_over_if.new.self b2) c.take_over_if.new.settled.items)
+    let made : HasMade (take_over_if s d (serving c.partitions.self b)) c.partitions.settled.items
+    (serving c.take_over_if.new.self b2) c.take_over_if.new.settled.items
+    = subst (λ (x : Dimensions). HasMade (take_over_if x d (serving c.partitions.self b)) c.partitions.settled.items
+    (serving c.take_over_if.new.self b2) c.take_over_if.new.settled.items)
     c.partitions.invariant.stays.shape c.take_over_if.ensures.made in
     record {
       stays = record {
@@ -63,12 +66,18 @@ partitions-preserved g c =
       room = c.take_over_if.ensures.room;
       long = long-set c.partitions.heads.items d c.take-head.new.self ∙ c.partitions.invariant.long;
       heads = λ e high within.
-          ap (λ (xs : List (Option Head)). at None xs e) (set_put None c.partitions.heads.items d c.take-head.new.self (omega (arith, below, c.partitions.invariant.long)))
+          ap (λ (xs : List (Option Head)). at None xs e) (set_put None c.partitions.heads.items d c.take-head.new.self
+          (omega (arith, below, c.partitions.invariant.long)))
           ∙ at-put-other None c.partitions.heads.items d e c.take-head.new.self (above e d high)
           ∙ c.partitions.invariant.heads e (omega (arith, high)) within
           ∙ sym (heirs-stay s c.partitions.self c.take_over_if.new.self b b2 c.partitions.invariant.stays.beneath.name (sym c.partitions.invariant.stays.shape)
-          c.take_over_if.ensures.stays.beneath.name (sym (c.take_over_if.ensures.stays.shape ∙ c.partitions.invariant.stays.shape)) d e (above e d high) made.process);
-      ahead = left-next (take_over_if s) s.k d (serving c.partitions.self b) (serving c.take_over_if.new.self b2) c.partitions.settled.items c.take_over_if.new.settled.items
-          c.args.settled.now.items (for_each (range_with_len 0 s.k) (take_over_if s) (serving c.args.self.now (g.B.Beneath.storage c.args.below.now).process)) below made
+          c.take_over_if.ensures.stays.beneath.name
+          (sym (c.take_over_if.ensures.stays.shape ∙ c.partitions.invariant.stays.shape)) d e (above e d high)
+          made.process);
+      ahead = left-next (take_over_if s) s.k d (serving c.partitions.self b) (serving c.take_over_if.new.self b2)
+          c.partitions.settled.items c.take_over_if.new.settled.items
+          c.args.settled.now.items
+          (for_each (range_with_len 0 s.k) (take_over_if s)
+          (serving c.args.self.now (g.B.Beneath.storage c.args.below.now).process)) below made
           c.partitions.invariant.ahead;
     }

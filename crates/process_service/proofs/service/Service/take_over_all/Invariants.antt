@@ -16,5 +16,6 @@ invariant-partitions g l = record {
   long : length l.heads.items ≡ l.initial.self.shape.k;
   heads : (e : ℕ) → l.d ≤ e → e < l.initial.self.shape.k → at None l.heads.items e ≡ heir_at l.self e;
   ahead : IsLeft (take_over_if l.initial.self.shape) l.initial.self.shape.k l.d (serving l.self (g.B.Beneath.storage l.below).process) l.settled.items
-      (for_each (range_with_len 0 l.initial.self.shape.k) (take_over_if l.initial.self.shape) (serving l.initial.self (g.B.Beneath.storage l.initial.below).process)) l.initial.settled.items;
+      (for_each (range_with_len 0 l.initial.self.shape.k) (take_over_if l.initial.self.shape)
+      (serving l.initial.self (g.B.Beneath.storage l.initial.below).process)) l.initial.settled.items;
 }

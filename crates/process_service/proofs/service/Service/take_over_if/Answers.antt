@@ -10,7 +10,8 @@ use Rattle.head_service.specs.Peers.{settles}
 use Rattle.head_service.specs.Serving.{Serving, serving}
 use Rattle.process_service.specs.Noticing.{heir_at}
 use Rattle.process_service.specs.Steps.{HasMade}
-use Rattle.process_service.proofs.Lent.{IsLent, applied-kept, has-replica, headed, headed-is, here, other-heads, room-left, seat-of, shape-after, stays-over, up-in}
+use Rattle.process_service.proofs.Lent.{IsLent, applied-kept, has-replica, headed, headed-is, here, other-heads}
+use Rattle.process_service.proofs.Lent.{room-left, seat-of, shape-after, stays-over, up-in}
 use Rattle.process_service.proofs.Lists.{long-set}
 use Rattle.process_service.proofs.Standing.{peers-are}
 use Rattle.process_service.proofs.Taken.{heir-long, taken-made}
@@ -47,8 +48,11 @@ invariant_of-self g c =
       ranks_long = long-set c.self.inside.ranks.items d c.rank.result ∙ c.self.invariant.ranks_long;
       heads_long = long-set c.self.inside.heads.items d (Some c.in-Some.head) ∙ c.self.invariant.heads_long;
       held_long = c.self.invariant.held_long;
-      shapes = All-set (λ (x : State). x.shape ≡ c.self.inside.shape) c.self.inside.replicas.items d c.judge.new.replica (shape-after (lent g f) c.requires.beneath c.judge.new.replica c.judge.ensures.seat c.judge.ensures.stays.shape) c.self.invariant.shapes;
-      tidy = All-set (λ (x : State). IsTidyBut x (λ _. false)) c.self.inside.replicas.items d c.judge.new.replica c.judge.ensures.seat.tidy c.self.invariant.tidy;
+      shapes = All-set (λ (x : State). x.shape ≡ c.self.inside.shape) c.self.inside.replicas.items d c.judge.new.replica
+          (shape-after (lent g f) c.requires.beneath c.judge.new.replica c.judge.ensures.seat
+          c.judge.ensures.stays.shape) c.self.invariant.shapes;
+      tidy = All-set (λ (x : State). IsTidyBut x (λ _. false)) c.self.inside.replicas.items d c.judge.new.replica
+          c.judge.ensures.seat.tidy c.self.invariant.tidy;
       acks = All-set (λ (x : Option Head). IfSome x (λ h. length h.acks ≡ c.self.inside.shape.m)) c.self.inside.heads.items d (Some c.in-Some.head)
           (heir-long c.args.self.now d c.in-Some.head (heir-is g f) ∙ sym (ap (λ (w : Serving). w.shape.m) c.self.view_is)) c.self.invariant.acks;
     }
@@ -56,9 +60,11 @@ invariant_of-self g c =
 pub returns-clause-stays : goal.returns-clause-stays
 returns-clause-stays g c =
     let f : goal.After-judge-arg-2-1 g = c.before.before.before.before.before.before.before.before.before.before.before in
-    other-heads (map (λ x. x.0) (set c.self.inside.ranks.items c.args.partition.0 c.rank.result)) (set c.self.inside.heads.items c.args.partition.0 (Some c.in-Some.head))
+    other-heads (map (λ x. x.0) (set c.self.inside.ranks.items c.args.partition.0 c.rank.result))
+    (set c.self.inside.heads.items c.args.partition.0 (Some c.in-Some.head))
     (stays-over (lent g f) c.requires.beneath c.judge.new.replica c.judge.ensures.seat
-    (applied-kept (lent g f) c.requires.beneath (g.B.Beneath.storage c.judge.new.below) (number g f) c.judge.ensures.settled.applied.process) c.judge.ensures.stays)
+    (applied-kept (lent g f) c.requires.beneath (g.B.Beneath.storage c.judge.new.below) (number g f)
+    c.judge.ensures.settled.applied.process) c.judge.ensures.stays)
 
 pub returns-clause-room : goal.returns-clause-room
 returns-clause-room g c =
@@ -77,7 +83,8 @@ returns-clause-made g c =
     let b : Process = (g.B.Beneath.storage c.args.below.now).process in
     let b2 : Process = (g.B.Beneath.storage c.judge.new.below).process in
     let next : Serving = headed (lent g f) c.judge.new.replica c.rank.result (Some c.in-Some.head) in
-    subst (λ (x : Dimensions). HasMade (take_over_if x d (serving v b)) c.args.settled.now.items (serving next b2) c.judge.new.settled.items) c.requires.beneath.shape
+    subst (λ (x : Dimensions). HasMade (take_over_if x d (serving v b)) c.args.settled.now.items (serving next b2)
+    c.judge.new.settled.items) c.requires.beneath.shape
     (subst (λ (w : Serving). HasMade (take_over_if s d (serving v b)) c.args.settled.now.items (serving w b2) c.judge.new.settled.items)
     (sym (headed-is (lent g f) c.judge.new.replica c.rank.result c.in-Some.head c.rank.ensures))
     (taken-made s v b c.requires.beneath.name c.requires.beneath.shape d c.peers-peers.result c.in-Some.head c.index_mut.result.now.replica

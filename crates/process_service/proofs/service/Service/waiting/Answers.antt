@@ -16,7 +16,9 @@ pub partitions-preserved : goal.partitions-preserved
 partitions-preserved c =
     let i : ℕ = c.partitions.d - 1 in
     let rs : List Replica = c.args.self.now.replicas in
-    let wide : length c.self.inside.replicas.items ≡ length rs = sym (long-map (λ r. r.replica) c.self.inside.replicas.items) ∙ ap (λ (v : Serving). length v.replicas) c.self.view_is in
+    let wide : length c.self.inside.replicas.items ≡ length rs =
+    sym (long-map (λ r. r.replica) c.self.inside.replicas.items) ∙ ap (λ (v : Serving). length v.replicas)
+    c.self.view_is in
     let within : i < length c.self.inside.replicas.items = omega (arith, wide, c.partitions.invariant.within, c.partitions-test.true) in
     let here : get_or rs i empty_replica ≡ c.index.result.now.replica
     = sym (at_index empty_replica empty_replica rs i (omega (arith, wide, within))) ∙ ap (λ (v : Serving). at empty_replica v.replicas i) (sym c.self.view_is)

@@ -7,12 +7,16 @@ use Rattle.ready_client.proofs.client.Client.run.Given as goal
 
 abbrev pub invariant-steps : goal.invariant-steps
 invariant-steps g l = record {
-  comes : (input : Input) (first : g.row.G.Denot) (before : List ℕ) → Comes g.G.Gateway.rules l.overlap (g.T.Clock.moment l.clock) input (g.S.TryStream.input l.initial.self.stream) first before l.initial.gateway
-      (g.S.TryStream.held l.initial.self.stream ++ l.initial.self.outbox) l.initial.self.connection l.initial.self.calls.list l.initial.self.calls.unwanted l.initial.self.end
+  comes : (input : Input) (first : g.row.G.Denot) (before : List ℕ)
+      → Comes g.G.Gateway.rules l.overlap (g.T.Clock.moment l.clock) input (g.S.TryStream.input l.initial.self.stream)
+      first before l.initial.gateway
+      (g.S.TryStream.held l.initial.self.stream ++ l.initial.self.outbox) l.initial.self.connection
+      l.initial.self.calls.list l.initial.self.calls.unwanted l.initial.self.end
       → Comes g.G.Gateway.rules l.overlap (g.T.Clock.moment l.clock) input (g.S.TryStream.input l.self.stream) first before l.gateway
       (g.S.TryStream.held l.self.stream ++ l.self.outbox) l.self.connection l.self.calls.list l.self.calls.unwanted l.self.end;
   asks : AsksFrom g.G.Gateway.rules (g.T.Clock.moment l.clock) l.overlap (g.S.TryStream.input l.initial.self.stream)
-      (connection_at l.initial.gateway l.initial.self.connection l.initial.self.calls.list l.initial.self.calls.unwanted l.initial.self.end (g.S.TryStream.held l.initial.self.stream ++ l.initial.self.outbox))
+      (connection_at l.initial.gateway l.initial.self.connection l.initial.self.calls.list l.initial.self.calls.unwanted
+      l.initial.self.end (g.S.TryStream.held l.initial.self.stream ++ l.initial.self.outbox))
       (connection_at l.gateway l.self.connection l.self.calls.list l.self.calls.unwanted l.self.end (g.S.TryStream.held l.self.stream ++ l.self.outbox));
   apart : KeepsApart g.G.Gateway.rules l.initial.self.calls.list l.self.calls.list l.initial.gateway l.gateway;
   lends : LendsApart g.G.Gateway.rules l.initial.self.calls.list l.self.calls.list l.initial.gateway l.gateway;

@@ -13,7 +13,9 @@ index_mut-requires c = omega (arith, below)
     below = within _ _ _ c.in_ok-key.key before (itself c.in_ok-key.key c.pop_front.new.self.items)
 
 pub invariant_of-self-2 : goal.invariant_of-self-2
-invariant_of-self-2 c = larger c.pop_front.new.self.items c.pop_front.new.self.items _ (deque_capacity c.self.inside.keys) _ (rest _ _ _ c.in_ok-key.key before) refl (omega (arith, c.in_ok-key.ensures.capacity))
+invariant_of-self-2 c = larger c.pop_front.new.self.items c.pop_front.new.self.items _
+    (deque_capacity c.self.inside.keys) _ (rest _ _ _ c.in_ok-key.key before) refl
+    (omega (arith, c.in_ok-key.ensures.capacity))
   where
     before : MarksKeys (c.in_ok-key.key ∷ c.pop_front.new.self.items) c.self.inside.marks.items (deque_capacity c.self.inside.keys)
     before = subst (λ (keys : List ℕ). MarksKeys keys c.self.inside.marks.items (deque_capacity c.self.inside.keys)) c.in_ok-key.ensures.items c.self.invariant

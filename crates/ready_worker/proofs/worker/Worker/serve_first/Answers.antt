@@ -14,16 +14,25 @@ settle-requires-clause-first g c = ap first_of c.serve_one-turn.ensures.queue �
 
 pub invariant_of-self : goal.invariant_of-self
 invariant_of-self g c =
-    let from = settled-from c.serve_one-turn.new.self.places c.settle.new.places c.in_ok-key.key c.serve_one-turn.result c.settle.ensures.more c.settle.ensures.waits c.settle.ensures.over in record {
+    let from = settled-from c.serve_one-turn.new.self.places c.settle.new.places c.in_ok-key.key c.serve_one-turn.result
+    c.settle.ensures.more c.settle.ensures.waits c.settle.ensures.over in record {
       full = c.serve_one-turn.new.self.full;
       come = λ key there at. c.serve_one-turn.new.self.come key there (from key there at);
       apart = apart-from c.serve_one-turn.new.self.places c.settle.new.places from c.serve_one-turn.new.self.apart;
-      more = more-settled c.serve_one-turn.new.self.places c.settle.new.places c.in_ok-key.key c.serve_one-turn.result (ap first_of c.serve_one-turn.ensures.queue ∙ sym c.in_ok-key.ensures.first) c.serve_one-turn.ensures.more c.settle.ensures.more
+      more = more-settled c.serve_one-turn.new.self.places c.settle.new.places c.in_ok-key.key c.serve_one-turn.result
+          (ap first_of c.serve_one-turn.ensures.queue ∙ sym c.in_ok-key.ensures.first) c.serve_one-turn.ensures.more
+          c.settle.ensures.more
           c.settle.ensures.waits c.settle.ensures.over c.settle.ensures.queue c.serve_one-turn.new.self.more;
     }
 
 pub returns-clause-come : goal.returns-clause-come
-returns-clause-come g c = subst (λ (overlap : Overlap). IfSome c.settle.result (ClientComes g.G.Gateway.rules overlap (g.T.Clock.moment c.args.self.now.clock.now) c.serve_one-turn.new.self.gateway)) c.serve_one-turn.ensures.overlap
-    (subst (λ (told : Option ℕ). IfSome c.settle.result (ClientComes g.G.Gateway.rules c.serve_one-turn.new.self.overlap told c.serve_one-turn.new.self.gateway)) (ap (λ clock. g.T.Clock.moment clock.now) c.serve_one-turn.ensures.clock)
-    (settled-gone (ClientComes g.G.Gateway.rules c.serve_one-turn.new.self.overlap (g.T.Clock.moment c.serve_one-turn.new.self.clock.now) c.serve_one-turn.new.self.gateway) c.serve_one-turn.new.self.places c.in_ok-key.key c.serve_one-turn.result c.settle.result
+returns-clause-come g c =
+    subst (λ (overlap : Overlap). IfSome c.settle.result
+    (ClientComes g.G.Gateway.rules overlap (g.T.Clock.moment c.args.self.now.clock.now)
+    c.serve_one-turn.new.self.gateway)) c.serve_one-turn.ensures.overlap
+    (subst (λ (told : Option ℕ). IfSome c.settle.result (ClientComes g.G.Gateway.rules c.serve_one-turn.new.self.overlap
+    told c.serve_one-turn.new.self.gateway)) (ap (λ clock. g.T.Clock.moment clock.now) c.serve_one-turn.ensures.clock)
+    (settled-gone (ClientComes g.G.Gateway.rules c.serve_one-turn.new.self.overlap
+    (g.T.Clock.moment c.serve_one-turn.new.self.clock.now) c.serve_one-turn.new.self.gateway)
+    c.serve_one-turn.new.self.places c.in_ok-key.key c.serve_one-turn.result c.settle.result
     c.settle.ensures.stays c.settle.ensures.gone c.serve_one-turn.new.self.come))

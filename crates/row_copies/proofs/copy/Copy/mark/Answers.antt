@@ -8,6 +8,12 @@ pub returns-clause-copy : goal.returns-clause-copy
 returns-clause-copy c =
     let long : length c.self.inside.marks.items ≡ c.args.shape.k = ap (λ (v : Copy). length v.marks) c.self.view_is ∙ c.requires.marks in
     let below = c.requires.partition in
-    ap (λ (marks : List (Option ℕ)). record { leader = c.self.inside.leader; number = c.self.inside.number; block = c.self.inside.block; bytes = c.self.inside.bytes; marks = marks })
+    ap (λ (marks : List (Option ℕ)). record {
+      leader = c.self.inside.leader;
+      number = c.self.inside.number;
+      block = c.self.inside.block;
+      bytes = c.self.inside.bytes;
+      marks = marks;
+    })
     (set_put None c.self.inside.marks.items c.args.d.0 (Some c.args.n) (omega (arith, long, below)))
     ∙ ap (marked c.args.d.0 c.args.n) c.self.view_is

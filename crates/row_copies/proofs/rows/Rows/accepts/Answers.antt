@@ -7,4 +7,7 @@ pub returns : goal.returns
 returns c =
     let below : c.args.leader < c.self.inside.shape.m = subst (λ (r : Row). c.args.leader < r.shape.m) (sym c.self.view_is) c.requires in
     let long = c.self.invariant.0.leaders in
-    rw (← c.self.view_is) (ap (λ (l : ℕ). nat_lt l c.args.number) (c.index.ensures ∙ sym (at_index 0 c.index.result.now c.self.inside.ceased.items c.args.leader (omega (arith, below, long)))))
+    rw (← c.self.view_is)
+    (ap (λ (l : ℕ). nat_lt l c.args.number)
+    (c.index.ensures
+    ∙ sym (at_index 0 c.index.result.now c.self.inside.ceased.items c.args.leader (omega (arith, below, long)))))

@@ -13,7 +13,9 @@ invariant_of-self c =
         number = c.self.invariant.0.number;
         leaders = c.self.invariant.0.leaders;
         whole = c.add.ensures.whole;
-        each = subst HaveOneEach (sym c.add.ensures.copies) (each-map (copy_after c.self.inside.shape (ParityNode c.self.inside.number) c.args.d.0 (c.args.update.now ∷ []))
+        each = subst HaveOneEach (sym c.add.ensures.copies)
+            (each-map (copy_after c.self.inside.shape (ParityNode c.self.inside.number) c.args.d.0
+            (c.args.update.now ∷ []))
             (λ x. (session_kept c.self.inside.shape c.self.inside.number c.args.d.0 c.args.update.now x).0)
             (λ x. (session_kept c.self.inside.shape c.self.inside.number c.args.d.0 c.args.update.now x).1) c.self.inside.copies.items c.self.invariant.0.each);
       },

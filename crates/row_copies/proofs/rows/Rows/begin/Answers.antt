@@ -10,9 +10,18 @@ use Rattle.row_copies.proofs.rows.Rows.begin.Goals as goal
 pub invariant_of-self : goal.invariant_of-self
 invariant_of-self c =
     let copy : Copy = unmarked c.self.inside.shape c.args.leader c.args.number c.args.block c.args.bytes in
-    let marks : c.args.marks.items ≡ replicate c.self.inside.shape.k None = c.requires.marks ∙ ap (λ (r : Row). replicate r.shape.k None) (sym c.self.view_is) in
-    let is : c.new-copy.result ≡ copy = c.new-copy.ensures ∙ ap (λ (ms : List (Option ℕ)). record { leader = c.args.leader; number = c.args.number; block = c.args.block; bytes = c.args.bytes; marks = ms }) marks in
-    let items : c.push.new.self.items ≡ c.self.inside.copies.items ++ copy ∷ [] = c.in-Ok.ensures.items ∙ ap (λ (x : Copy). c.self.inside.copies.items ++ x ∷ []) is in
+    let marks : c.args.marks.items ≡ replicate c.self.inside.shape.k None = c.requires.marks
+    ∙ ap (λ (r : Row). replicate r.shape.k None) (sym c.self.view_is) in
+    let is : c.new-copy.result ≡ copy = c.new-copy.ensures
+    ∙ ap (λ (ms : List (Option ℕ)). record {
+      leader = c.args.leader;
+      number = c.args.number;
+      block = c.args.block;
+      bytes = c.args.bytes;
+      marks = ms;
+    }) marks in
+    let items : c.push.new.self.items ≡ c.self.inside.copies.items ++ copy ∷ [] = c.in-Ok.ensures.items
+    ∙ ap (λ (x : Copy). c.self.inside.copies.items ++ x ∷ []) is in
     let one : IsWhole c.self.inside.shape copy = record {
       leader = subst (λ (r : Row). c.args.leader < r.shape.m) (sym c.self.view_is) c.requires.leader;
       block = subst (λ (r : Row). c.args.block < r.shape.blocks) (sym c.self.view_is) c.requires.block;
@@ -23,7 +32,8 @@ invariant_of-self c =
       record {
         number = c.self.invariant.0.number;
         leaders = c.self.invariant.0.leaders;
-        whole = subst (All (IsWhole c.self.inside.shape)) (sym items) (All-push (IsWhole c.self.inside.shape) c.self.inside.copies.items copy c.self.invariant.0.whole one);
+        whole = subst (All (IsWhole c.self.inside.shape)) (sym items)
+            (All-push (IsWhole c.self.inside.shape) c.self.inside.copies.items copy c.self.invariant.0.whole one);
         each = subst HaveOneEach (sym items) (each-push c.self.inside.copies.items copy c.self.invariant.0.each absent);
       },
       omega (arith, c.self.invariant.1, c.in-Ok.ensures.len, c.in-Ok.ensures.capacity, c.requires.room),

@@ -14,8 +14,11 @@ invariant_of-self c = (
     number = c.self.invariant.0.number;
     leaders = length-set c.self.inside.ceased.items c.args.leader c.max.result ∙ c.self.invariant.0.leaders;
     whole = subst (All (IsWhole c.self.inside.shape)) (sym c.cease.ensures.copies)
-        (All-filter (λ (x : Copy). not (x.leader == c.args.leader && nat_le x.number c.args.upto)) (IsWhole c.self.inside.shape) c.self.inside.copies.items c.self.invariant.0.whole);
-    each = subst HaveOneEach (sym c.cease.ensures.copies) (each-filter (λ (x : Copy). not (x.leader == c.args.leader && nat_le x.number c.args.upto)) c.self.inside.copies.items c.self.invariant.0.each);
+        (All-filter (λ (x : Copy). not (x.leader == c.args.leader && nat_le x.number c.args.upto))
+        (IsWhole c.self.inside.shape) c.self.inside.copies.items c.self.invariant.0.whole);
+    each = subst HaveOneEach (sym c.cease.ensures.copies)
+        (each-filter (λ (x : Copy). not (x.leader == c.args.leader && nat_le x.number c.args.upto))
+        c.self.inside.copies.items c.self.invariant.0.each);
   },
   omega (arith, c.self.invariant.1, c.cease.ensures.len, c.cease.ensures.capacity),
 )
@@ -27,6 +30,7 @@ returns-clause-state c = λ p row.
     let within : c.args.leader < length c.self.inside.ceased.items = omega (arith, below, long) in
     let read = at_index 0 c.index-last.result.now c.self.inside.ceased.items c.args.leader within in
     let most : c.max.result ≡ max c.index-last.result.now c.args.upto = search rules in
-    state_ceased c.args.leader c.args.upto c.self.inside.copies.items c.cease.new.copies.items c.self.inside.ceased.items c.max.result c.cease.ensures.copies within
+    state_ceased c.args.leader c.args.upto c.self.inside.copies.items c.cease.new.copies.items
+    c.self.inside.ceased.items c.max.result c.cease.ensures.copies within
     (most ∙ ap (λ (l : ℕ). max l c.args.upto) (c.index-last.ensures ∙ sym read)) p
     (row ∙ sym (ap (λ (r : Row). r.state) c.self.view_is))

@@ -10,8 +10,12 @@ invariant_of-self c = (
   record {
     number = c.self.invariant.0.number;
     leaders = c.self.invariant.0.leaders;
-    whole = subst (All (IsWhole c.self.inside.shape)) (sym c.forget.ensures.copies) (All-filter (λ (x : Copy). not (x.leader == c.in-ParityNode.leader)) (IsWhole c.self.inside.shape) c.self.inside.copies.items c.self.invariant.0.whole);
-    each = subst HaveOneEach (sym c.forget.ensures.copies) (each-filter (λ (x : Copy). not (x.leader == c.in-ParityNode.leader)) c.self.inside.copies.items c.self.invariant.0.each);
+    whole = subst (All (IsWhole c.self.inside.shape)) (sym c.forget.ensures.copies)
+        (All-filter (λ (x : Copy). not (x.leader == c.in-ParityNode.leader)) (IsWhole c.self.inside.shape)
+        c.self.inside.copies.items c.self.invariant.0.whole);
+    each = subst HaveOneEach (sym c.forget.ensures.copies)
+        (each-filter (λ (x : Copy). not (x.leader == c.in-ParityNode.leader)) c.self.inside.copies.items
+        c.self.invariant.0.each);
   },
   omega (arith, c.self.invariant.1, c.forget.ensures.len, c.forget.ensures.capacity),
 )

@@ -11,10 +11,14 @@ invariant_of-self c =
         number = c.self.invariant.0.number;
         leaders = c.self.invariant.0.leaders;
         whole = subst (All (IsWhole c.self.inside.shape)) (sym c.mark.ensures.copies)
-            (whole_after c.self.inside.shape c.args.d.0 c.args.n (copy_in c.self.inside.copies.items c.args.leader c.args.number) c.self.inside.copies.items below
-            (found_among (IsWhole c.self.inside.shape) (is_copy c.args.leader c.args.number) c.self.inside.copies.items c.self.invariant.0.whole) c.self.invariant.0.whole);
+            (whole_after c.self.inside.shape c.args.d.0 c.args.n
+            (copy_in c.self.inside.copies.items c.args.leader c.args.number) c.self.inside.copies.items below
+            (found_among (IsWhole c.self.inside.shape) (is_copy c.args.leader c.args.number) c.self.inside.copies.items
+            c.self.invariant.0.whole) c.self.invariant.0.whole);
         each = subst HaveOneEach (sym c.mark.ensures.copies)
-            (each_after c.self.inside.shape c.args.d.0 c.args.n (copy_in c.self.inside.copies.items c.args.leader c.args.number) c.self.inside.copies.items c.self.invariant.0.each);
+            (each_after c.self.inside.shape c.args.d.0 c.args.n
+            (copy_in c.self.inside.copies.items c.args.leader c.args.number) c.self.inside.copies.items
+            c.self.invariant.0.each);
       },
       omega (arith, c.self.invariant.1, c.mark.ensures.len, c.mark.ensures.capacity),
     )

@@ -7,4 +7,5 @@ pub settle-requires-clause-stocked : goal.settle-requires-clause-stocked
 settle-requires-clause-stocked c = omega (arith, even-few c.self.inside.chunks.items c.self.invariant.even, c.self.invariant.room)
 
 pub returns-clause-rises : goal.returns-clause-rises
-returns-clause-rises c = shelf_rises (rank_of c.self.inside.order) c.settle.new.chunks.items c.settle.ensures.laid (c.settle.ensures.starts ∙ c.put_in-place.ensures.starts)
+returns-clause-rises c = shelf_rises (rank_of c.self.inside.order) c.settle.new.chunks.items c.settle.ensures.laid
+    (c.settle.ensures.starts ∙ c.put_in-place.ensures.starts)

@@ -5,7 +5,13 @@ use Rattle.run_alloc.proofs.Laid.{even-few}
 use Rattle.run_alloc.proofs.shelf.Shelf.shrink.Goals as goal
 
 pub overflow_sub-len : goal.overflow_sub-len
-overflow_sub-len c = omega (arith, even-few c.self.inside.chunks.items c.self.invariant.even, c.self.invariant.room, c.saturating_sub-blanks.ensures, c.len.ensures)
+overflow_sub-len c = omega (
+  arith,
+  even-few c.self.inside.chunks.items c.self.invariant.even,
+  c.self.invariant.room,
+  c.saturating_sub-blanks.ensures,
+  c.len.ensures,
+)
 
 pub invariant_of-self : goal.invariant_of-self
 invariant_of-self c =

@@ -7,7 +7,13 @@ use Rattle.run_verify.specs.declared.step.Step.{Step}
 use Rattle.run_verify.proofs.account.Account.meet.Goals as goal
 
 pub returns-in-Make : goal.returns-in-Make
-returns-in-Make c = subst (λ (s : Step). Judges (IsMet c.args.shape (account_of c.args.self.now) s c.args.line.now (lines_of c.args.ahead.now)) (account_of c.answer.new.self) c.answer.result) (sym c.in-Make.is) c.answer.ensures
+returns-in-Make c =
+    subst (λ (s : Step).
+    Judges (IsMet c.args.shape (account_of c.args.self.now) s c.args.line.now (lines_of c.args.ahead.now))
+    (account_of c.answer.new.self) c.answer.result) (sym c.in-Make.is) c.answer.ensures
 
 pub returns-in-Look : goal.returns-in-Look
-returns-in-Look c = subst (λ (s : Step). Judges (IsMet c.args.shape (account_of c.args.self.now) s c.args.line.now (lines_of c.args.ahead.now)) (account_of c.look.new.self) c.look.result) (sym c.in-Look.is) c.look.ensures
+returns-in-Look c =
+    subst (λ (s : Step).
+    Judges (IsMet c.args.shape (account_of c.args.self.now) s c.args.line.now (lines_of c.args.ahead.now))
+    (account_of c.look.new.self) c.look.result) (sym c.in-Look.is) c.look.ensures

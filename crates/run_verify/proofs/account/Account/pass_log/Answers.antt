@@ -8,4 +8,5 @@ use Rattle.run_verify.proofs.account.Account.pass_log.Goals as goal
 pub returns-then-not-branch : goal.returns-then-not-branch
 returns-then-not-branch c = λ sheet steps is.
     not_log sheet (account_of c.args.self.now) c.args.step.now steps c.args.logging c.args.line.now (lines_of c.args.ahead.now)
-    (judged_not (IsLogged sheet (account_of c.args.self.now) c.args.line.now) (account_of c.log.new.self) c.log.result c.in_ok-log.field-0 c.in_ok-log.was (grind arith) (c.log.ensures sheet is))
+    (judged_not (IsLogged sheet (account_of c.args.self.now) c.args.line.now) (account_of c.log.new.self) c.log.result
+    c.in_ok-log.field-0 c.in_ok-log.was (grind arith) (c.log.ensures sheet is))

@@ -5,11 +5,13 @@ use Rattle.stage_caller.proofs.progress.Progress.after.Goals as goal
 
 pub returns-in-Ask-clause-goes : goal.returns-in-Ask-clause-goes
 returns-in-Ask-clause-goes c =
-    subst (λ (made : Move). GoesTo made c.args.phase c.args.heard c.args.self.now c.after_ask.result) (sym c.in-Ask.is) (c.after_ask.ensures.goes c.in-Ask.field-0)
+    subst (λ (made : Move). GoesTo made c.args.phase c.args.heard c.args.self.now c.after_ask.result) (sym c.in-Ask.is)
+    (c.after_ask.ensures.goes c.in-Ask.field-0)
 
 pub returns-in-Ask-clause-helps : goal.returns-in-Ask-clause-helps
 returns-in-Ask-clause-helps c =
-    subst (λ (made : Move). Helps made c.args.phase c.args.heard c.args.self.now c.after_ask.result) (sym c.in-Ask.is) (c.after_ask.ensures.helps c.in-Ask.field-0)
+    subst (λ (made : Move). Helps made c.args.phase c.args.heard c.args.self.now c.after_ask.result) (sym c.in-Ask.is)
+    (c.after_ask.ensures.helps c.in-Ask.field-0)
 
 pub returns-in-Collect-clause-goes : goal.returns-in-Collect-clause-goes
 returns-in-Collect-clause-goes c =

@@ -16,7 +16,8 @@ returns c =
     let part = bytes_at c.args.run.at c.args.run.len c.args.self.now.bytes in
     let long : length c.deref_mut.result.now ≡ c.args.run.len = ap length copied ∙ c.in_ok-copy.ensures.length in
     let same : length c.deref_mut.result.now ≡ length c.args.value.now = long ∙ sym c.requires.length in
-    let sum : c.xor_into.new.dst ≡ add_bytes c.deref_mut.result.now c.args.value.now = c.xor_into.ensures ∙ ap (add_bytes c.deref_mut.result.now) c.bytes.ensures in
+    let sum : c.xor_into.new.dst ≡ add_bytes c.deref_mut.result.now c.args.value.now = c.xor_into.ensures
+    ∙ ap (add_bytes c.deref_mut.result.now) c.bytes.ensures in
     let whole : length c.xor_into.new.dst ≡ c.from-bytes.result.len = ap length sum ∙ (length-add_bytes _ _ same ∙ c.deref_mut.ensures.len) in
     let is : c.xor_into.new.dst ≡ add_bytes c.args.value.now part =
     sum ∙ (add_bytes_comm _ _ same ∙ ap (add_bytes c.args.value.now) (copied ∙ c.in_ok-copy.ensures.bytes)) in

@@ -27,4 +27,6 @@ returns-in_ok-messages-in-Whole-clause-messages c =
     let long = ap (λ (k : Kept). length k.front) c.self.view_is in
     let at = c.self.inside.begun + (c.len.result + c.in-Whole.taken) in
     subst (λ (kept : Kept). Feeds old kept piece c.from.result) (sym c.drop-in-Whole.view_is)
-    (feeds-whole old decoder piece c.split_at.result.1.now c.in-Whole.message c.in-Whole.taken at c.in_ok-messages-in-Whole.messages.items c.from.result goes within is (omega (arith, begun, len, long)) c.split_at.ensures.back c.in_ok-messages-in-Whole.ensures.read c.from.ensures)
+    (feeds-whole old decoder piece c.split_at.result.1.now c.in-Whole.message c.in-Whole.taken at
+    c.in_ok-messages-in-Whole.messages.items c.from.result goes within is (omega (arith, begun, len, long))
+    c.split_at.ensures.back c.in_ok-messages-in-Whole.ensures.read c.from.ensures)
