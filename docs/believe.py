@@ -20,6 +20,8 @@ ROOTS = [
     ("A group over machines, beside these", [("group_wire", "Composition", "RunsCompose"), ("group_wire", "Shown", "ShownIsLogged")]),
     ("What `run_program` says, beside these", None),
     ("What `run_words` says, beside these", [("group_program", "Run", "HasExited"), ("group_program", "Arguments", "words_behind"), ("group_program", "Arguments", "lacks_memory")]),
+    ("What a client is written at a port, beside these", [("ready_client", "Coming", "Comes"), ("ready_client", "Asking", "Asks")]),
+    ("What a member shows its clients, beside these", [("member_runs", "Laws", "MembersShowLogged"), ("member_gateway", "Laws", "EndsAreLogged")]),
 ]
 HEAD = re.compile(r"^(?:abbrev |unfoldable )?pub (?:record |data )?(\S+)|^(?:abbrev|unfoldable|record|data) (\S+)")
 WORD = re.compile(r"[A-Za-z_◌][\w◌'≟-]*")
