@@ -6,23 +6,15 @@ set -eu
 top=$(cd "$(dirname "$0")/.." && pwd)
 work=$(mktemp -d)
 trap 'rm -rf "$work"' EXIT
-mkdir -p "$work/crates/frames_bench/src"
-cp "$top/bench/frames/main.rattle" "$work/crates/frames_bench/src/main.rt"
-for name in group_types vector_stamp group_message wire_codec; do
-    cp -r "$top/crates/$name" "$work/crates/"
-    grep "^$name:" "$top/crates.txt" >> "$work/crates.txt"
-done
-echo 'frames_bench: anyhow group_message wire_codec' >> "$work/crates.txt"
+sh "$top/bench/stand" "$work" frames_bench
 (cd "$work/crates/frames_bench" && rt run > "$work/frames.txt" 2> "$work/log.txt") || { tail -20 "$work/log.txt"; exit 1; }
 echo "best of 100 runs: millions of updates a second, and GB/s"
 awk 'BEGIN { printf "%8s %18s %18s %18s %8s\n", "value", "encode", "encode_around", "decode", "copy" }
     { bytes = $2 * $3
       printf "%8d %9.2f %8.2f %9.2f %8s %9.2f %8.2f %8.2f\n", $1, $3 * 1e3 / $4, bytes / $4, $3 * 1e3 / $5, "", $3 * 1e3 / $6, bytes / $6, bytes / $7 }' "$work/frames.txt"
 # and frames of links, with their sums
-links=$(mktemp -d)
-sh "$top/bench/links/stand" "$links" links_bench "$top/bench/links/main.rattle" anyhow crc32c group_types link_frames
-(cd "$links/crates/links_bench" && rt run > "$work/links.txt" 2> "$work/log.txt") || { tail -20 "$work/log.txt"; rm -rf "$links"; exit 1; }
-rm -rf "$links"
+sh "$top/bench/stand" "$work/links" links_bench
+(cd "$work/links/crates/links_bench" && rt run > "$work/links.txt" 2> "$work/log.txt") || { tail -20 "$work/log.txt"; exit 1; }
 echo "frames of links, with their sums: ns a frame, GB/s; and the sum alone, GB/s"
 awk 'BEGIN { printf "%8s %18s %18s %8s\n", "value", "write", "read", "sum" }
     { bytes = $2 * $3

@@ -5,11 +5,7 @@ here=$(cd "$(dirname "$0")" && pwd)
 top=$(dirname "$here")
 work=$(mktemp -d)
 trap 'rm -rf "$work"' EXIT
-mkdir -p "$work/crates/index_bench/src"
-cp -r "$top/crates/item_index" "$work/crates/"
-rm -rf "$work"/crates/*/out
-cp "$here/index/main.rattle" "$work/crates/index_bench/src/main.rt"
-printf 'item_index: indexmap bytes\nindex_bench: anyhow bytes item_index\n' > "$work/crates.txt"
+sh "$top/bench/stand" "$work" index_bench
 rustc -O -o "$work/map" "$here/index/map.rs"
 (cd "$work/crates/index_bench" && rt run > "$work/rattle.txt" 2> "$work/log.txt") || { tail -20 "$work/log.txt"; exit 1; }
 "$work/map" > "$work/rust.txt"

@@ -10,7 +10,7 @@ seed=${3:-1}
 top=$(cd "$(dirname "$0")/.." && pwd)
 work=$(mktemp -d)
 trap 'rm -rf "$work"' EXIT
-mkdir -p "$work/model" "$work/crates/judged_bench/src"
+mkdir -p "$work/model"
 cp "$top/bench/judged/judged.rs" "$work/model/"
 for name in explore induct script world; do
     cp "$model/$name.rs" "$work/model/"
@@ -19,18 +19,7 @@ sed 's/^fn check_fits/pub &/' "$model/check.rs" > "$work/model/check.rs"
 rustc --edition 2021 -O -A warnings -o "$work/model/judged" "$work/model/judged.rs"
 "$work/model/judged" "$count" "$work/told" "$seed" > "$work/script"
 
-cp "$top/bench/judged/main.rattle" "$work/crates/judged_bench/src/main.rt"
-uses='group_node scenario_text wire_codec'
-while :; do
-    more=$(for name in $uses; do echo "$name"; sed -n "s/^$name://p" "$top/crates.txt" | tr ' ' '\n' | while read -r used; do if [ -d "$top/crates/$used" ]; then echo "$used"; fi; done; done | sort -u | tr '\n' ' ')
-    [ "$more" = "$uses" ] && break
-    uses=$more
-done
-for name in $uses; do
-    cp -r "$top/crates/$name" "$work/crates/"
-    grep "^$name:" "$top/crates.txt" >> "$work/crates.txt"
-done
-echo 'judged_bench: anyhow hex group_types memc_table group_message head_service group_node scenario_text wire_codec' >> "$work/crates.txt"
+sh "$top/bench/stand" "$work" judged_bench
 (cd "$work/crates/judged_bench" && rt try --steps 1000 --seconds 600 < "$work/script" > "$work/answers" 2> "$work/log.txt") || { tail -20 "$work/log.txt"; exit 1; }
 
 [ "$(wc -l < "$work/answers")" -eq "$(wc -l < "$work/told")" ] || { echo 'not every message was judged' >&2; tail -5 "$work/log.txt" >&2; exit 1; }

@@ -7,11 +7,7 @@ here=$(cd "$(dirname "$0")" && pwd)
 top=$(dirname "$here")
 work=$(mktemp -d)
 trap 'rm -rf "$work"' EXIT
-mkdir -p "$work/crates/kernels_bench/src"
-cp -r "$top/crates/field_byte" "$top/crates/lane_kernel" "$work/crates/"
-rm -rf "$work"/crates/*/out
-cp "$here/kernels/main.rattle" "$work/crates/kernels_bench/src/main.rt"
-printf 'field_byte:\nlane_kernel: field_byte\nkernels_bench: anyhow lane_kernel\n' > "$work/crates.txt"
+sh "$top/bench/stand" "$work" kernels_bench
 gcc -O3 -mssse3 -o "$work/kernels_c" "$here/kernels/kernels.c"
 (cd "$work/crates/kernels_bench" && rt run --cpu "$processor" > "$work/rattle.txt" 2> "$work/log.txt") || { tail -20 "$work/log.txt"; exit 1; }
 "$work/kernels_c" > "$work/c.txt"

@@ -6,10 +6,7 @@ here=$(cd "$(dirname "$0")" && pwd)
 top=$(dirname "$here")
 work=$(mktemp -d)
 trap 'rm -rf "$work"' EXIT
-mkdir -p "$work/crates/requests_bench/src"
-for crate in group_types memc_table memc_proto; do cp -a "$top/crates/$crate" "$work/crates/"; done
-cp "$here/requests/main.rattle" "$work/crates/requests_bench/src/main.rt"
-printf 'group_types: bytes\nmemc_table: group_types\nmemc_proto: group_types memc_table memchr\nrequests_bench: anyhow memc_proto\n' > "$work/crates.txt"
+sh "$top/bench/stand" "$work" requests_bench
 cc -O3 -o "$work/lines" "$here/requests/lines.c"
 (cd "$work/crates/requests_bench" && rt run > "$work/rattle.txt" 2> "$work/log.txt") || { tail -20 "$work/log.txt"; exit 1; }
 "$work/lines" > "$work/c.txt"

@@ -4,12 +4,7 @@ set -eu
 top=$(cd "$(dirname "$0")/.." && pwd)
 work=$(mktemp -d)
 trap 'rm -rf "$work"' EXIT
-mkdir -p "$work/crates/runs_bench/src"
-cp "$top/bench/runs/main.rattle" "$work/crates/runs_bench/src/main.rt"
-cp -r "$top/bench/runs/proofs" "$work/crates/runs_bench/"
-find "$work" -path '*/proofs/*' -type f -exec mv {} {}.antt \;
-cp -r "$top/crates/run_alloc" "$work/crates/"
-printf 'run_alloc:\nruns_bench: anyhow run_alloc\n' > "$work/crates.txt"
+sh "$top/bench/stand" "$work" runs_bench
 rustc -O -o "$work/sets" "$top/bench/runs/sets.rs"
 (cd "$work/crates/runs_bench" && rt run > "$work/rattle.txt" 2> "$work/log.txt") || { tail -20 "$work/log.txt"; exit 1; }
 "$work/sets" > "$work/rust.txt" 2> "$work/log.txt"

@@ -7,20 +7,7 @@ set -eu
 top=$(cd "$(dirname "$0")/.." && pwd)
 work=$(mktemp -d)
 trap 'rm -rf "$work"' EXIT
-mkdir -p "$work/crates/stage_bench/src"
-for file in "$top"/bench/stage/*.rattle; do cp "$file" "$work/crates/stage_bench/src/$(basename "$file" .rattle).rt"; done
-uses=stage_caller
-while :; do
-    more=$(for name in $uses; do echo "$name"; sed -n "s/^$name[^:]*://p" "$top/crates.txt" | tr ' ' '\n' | while read -r used; do if [ -d "$top/crates/$used" ]; then echo "$used"; fi; done; done | sort -u | tr '\n' ' ')
-    [ "$more" = "$uses" ] && break
-    uses=$more
-done
-for name in $uses; do
-    cp -r "$top/crates/$name" "$work/crates/"
-    grep "^$name[ :]" "$top/crates.txt" >> "$work/crates.txt"
-done
-echo 'stage_bench may_wait=9: anyhow group_types memc_table group_calls group_core front_end group_stage stage_caller' >> "$work/crates.txt"
-cp "$top/HANDLES" "$work/"
+sh "$top/bench/stand" "$work" stage_bench
 (cd "$work/crates/stage_bench" && rt run > "$work/stage.txt" 2> "$work/log.txt") || { tail -20 "$work/log.txt"; exit 1; }
 echo "calls a second, nanoseconds a call of one thread, and the median and 99th percentile of a call"
 awk 'BEGIN { printf "%5s %6s %8s %12s %8s %8s %8s\n", "call", "keys", "threads", "a second", "ns", "median", "late" }
