@@ -5,9 +5,9 @@ set -eu
 top=$(cd "$(dirname "$0")/.." && pwd)
 work=$(mktemp -d)
 trap 'rm -rf "$work"' EXIT
-needs='group_types membership memc_table group_calls head_service group_node group_member'
-sh "$top/bench/links/stand" "$work" member_times "$top/bench/member_times/main.rattle" anyhow $needs
-(cd "$work/crates/member_times" && rt try --steps 1000000000000 --seconds 1800 > "$work/times.txt" 2> "$work/log.txt") || { tail -20 "$work/log.txt"; exit 1; }
+sh "$top/bench/stand" "$work" member_times
+sh "$top/bench/optimised" "$work/kit"
+(cd "$work/crates/member_times" && "$work/kit/bin/rt" try --steps 1 --seconds 1800 > "$work/times.txt" 2> "$work/log.txt") || { tail -20 "$work/log.txt"; exit 1; }
 echo "ns a call, the least and the median of 201 runs: a set of 100 bytes, with its messages to both parity processes and"
 echo "back; a get; each by members, with its share of a round of pings, and by nodes, which judge the same messages"
 awk 'BEGIN { split("set by members,set by nodes,get by members,get by nodes", name, ",") }
