@@ -1,5 +1,5 @@
 -- What the steps of a connection ask of its gateway, one behind the other, and what is made of each end.
-use Rattle.std.specs.Prelude.{ℕ, ◌≡◌, ◌≢◌, ◌<◌, ◌≤◌, ◌-◌, ◌⊎◌, Bool, List, [], ◌∷◌, ◌++◌, length, Option, Some, None, Result, Err}
+use Rattle.std.specs.Prelude.{ℕ, ◌≡◌, ◌≢◌, ◌<◌, ◌≤◌, ◌+◌, ◌-◌, ◌⊎◌, Bool, List, [], ◌∷◌, ◌++◌, length, Option, Some, None, Result, Err}
 use Rattle.std.specs.List.{list_any}
 use Rattle.edge_io.specs.Moving.{Input}
 use Rattle.edge_io.specs.Writing.{HasWritten}
@@ -61,6 +61,10 @@ pub record HasReadSo (kept : Kept) (quits : Bool) : Type 0 where
 abbrev pub Closes : List Request → List ℕ → List ℕ → Type 0
 Closes waiting before after = (after ≡ before) ⊎ ((waiting ≡ []) × HasWritten before after too_long_text)
 
+-- the most bytes that may wait to be sent where a call is begun, an order given, a text told or a piece read
+abbrev pub most_unsent : ℕ
+most_unsent = 262144
+
 module _ {G K : Type 0} (rules : Rules G K) (told : Option ℕ) where
   -- it hasn't ended, and the end of its first call is wanted
   abbrev pub IsGoing : ConnectionAt G K → Type 0
@@ -83,37 +87,42 @@ module _ {G K : Type 0} (rules : Rules G K) (told : Option ℕ) where
       ⊎ ((at : ProcessId) × (keep : ℕ) × IsDue told before.connection.waiting (due.Fail at keep) × (before.calls ≡ [])
       × rules.ways.unmade before.gateway after)
 
+module _ {G K : Type 0} (rules : Rules G K) (told : Option ℕ) (sent : List ℕ) where
+  -- it is going, and of its text, of which this was sent, at most so much waits
+  abbrev pub GoesFurther : ConnectionAt G K → Type 0
+  GoesFurther at = (at.end ≡ None) × (at.unwanted ≡ 0) × (length at.text ≤ length sent + most_unsent)
+
   -- what a step makes of where the connection stood
   abbrev pub Does : Asking K → ConnectionAt G K → ConnectionAt G K → Type 0
-  Does (Begins op call) before after = IsGoing before
+  Does (Begins op call) before after = GoesFurther before
       × IsDueAhead told before.connection.waiting (length before.calls) op
       × IsBegunAs rules before.gateway op call after.gateway
       × (after ≡ connection_at after.gateway before.connection (before.calls ++ call ∷ []) 0 None before.text)
-  Does (Takes call end) before after = IsGoing before
+  Does (Takes call end) before after = IsGoing rules told before
       × (before.calls ≡ call ∷ after.calls)
       × HasEndOf rules before.gateway call end after.gateway
       × (after.unwanted ≤ unneeded_of end before.connection.waiting)
-      × AnswersFirst (HasSettled end) (first_text end before.connection.waiting) before after
+      × AnswersFirst rules told (HasSettled end) (first_text end before.connection.waiting) before after
   Does (LetsGo call end) before after = ((0 < before.unwanted) ⊎ (before.end ≢ None))
       × (before.calls ≡ call ∷ after.calls)
       × HasEndOf rules before.gateway call end after.gateway
       × (after ≡ connection_at after.gateway before.connection after.calls (before.unwanted - 1) before.end before.text)
-  Does (Orders at keep end) before after = IsGoing before
+  Does (Orders at keep end) before after = GoesFurther before
       × IsDue told before.connection.waiting (due.Fail at keep)
       × (before.calls ≡ [])
       × rules.ways.failed before.gateway at keep end after.gateway
       × (after ≡ connection_at after.gateway after.connection [] 0 after.end after.text)
-      × AnswersFirst (HasTold (fail_text end)) (fail_text end) before after
-  Does Tells before after = IsGoing before
+      × AnswersFirst rules told (HasTold (fail_text end)) (fail_text end) before after
+  Does Tells before after = GoesFurther before
       × IsDue told before.connection.waiting due.Text
       × (after ≡ connection_at before.gateway after.connection before.calls 0 after.end after.text)
-      × AnswersFirst (HasTold (own_text before.connection.waiting)) (own_text before.connection.waiting) before after
-  Does Reads before after = IsGoing before
+      × AnswersFirst rules told (HasTold (own_text before.connection.waiting)) (own_text before.connection.waiting) before after
+  Does Reads before after = GoesFurther before
       × (before.connection.waiting ≡ [])
       × (after ≡ connection_at before.gateway after.connection before.calls 0 after.end after.text)
       × Closes after.connection.waiting before.text after.text
-  Does Wants before after = IsGoing before
-      × LeftUnasked before after.gateway
+  Does Wants before after = GoesFurther before
+      × LeftUnasked rules told before after.gateway
       × (after ≡ connection_at after.gateway before.connection before.calls 0 (Some (Err Want)) before.text)
 
   -- such steps were made, one behind the other and nothing between them

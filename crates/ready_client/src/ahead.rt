@@ -3,7 +3,7 @@ ghost use Rattle.edge_io.specs.Moving.{Input};
 ghost use Rattle.front_end.specs.Ahead.{IsDueAhead};
 ghost use Rattle.front_end.specs.Progress.{Progress};
 ghost use Rattle.front_end.specs.declared.overlap.Overlap.TheVariants.{OtherKeys};
-ghost use Rattle.ready_client.specs.Asking.{connection_at, Asks};
+ghost use Rattle.ready_client.specs.Asking.{connection_at, most_unsent, Asks};
 ghost use Rattle.ready_client.specs.Calling.{KeepsApart, LendsApart};
 ghost use Rattle.ready_client.specs.Coming.{end_by, Comes};
 
@@ -30,7 +30,8 @@ pub(crate) fn go_ahead<G: Gateway, T: Clock>(
         → Comes G.rules overlap (T.moment clock.now) input input_now first before gateway.old held connection.now calls.old 0 None
         → Comes G.rules overlap (T.moment clock.now) input input_now first before gateway.new held connection.now calls.new 0
         (end_by result) }
-    ensures asks { (held : List ℕ) → Asks G.rules (T.moment clock.now) (connection_at gateway.old connection.now calls.old 0 None held)
+    ensures asks { (sent held : List ℕ) → length held ≤ length sent + most_unsent
+        → Asks G.rules (T.moment clock.now) sent (connection_at gateway.old connection.now calls.old 0 None held)
         (connection_at gateway.new connection.now calls.new 0 (end_by result) held) }
     ensures few { length calls.old ≤ 16 → length calls.new ≤ 16 }
     ensures apart { KeepsApart G.rules calls.old calls.new gateway.old gateway.new }
@@ -56,7 +57,8 @@ fn begin_further<G: Gateway, T: Clock>(
         → Comes G.rules OtherKeys (T.moment clock.now) input input_now first before gateway.old held connection.now calls.old 0 None
         → Comes G.rules OtherKeys (T.moment clock.now) input input_now first before gateway.new held connection.now calls.new 0
         (end_by result) }
-    ensures asks { (held : List ℕ) → Asks G.rules (T.moment clock.now) (connection_at gateway.old connection.now calls.old 0 None held)
+    ensures asks { (sent held : List ℕ) → length held ≤ length sent + most_unsent
+        → Asks G.rules (T.moment clock.now) sent (connection_at gateway.old connection.now calls.old 0 None held)
         (connection_at gateway.new connection.now calls.new 0 (end_by result) held) }
     ensures few { length calls.old ≤ 16 → length calls.new ≤ 16 }
     ensures apart { KeepsApart G.rules calls.old calls.new gateway.old gateway.new }
@@ -85,8 +87,9 @@ fn begin_behind<G: Gateway>(
         → IsDueAhead told progress.waiting (length calls.old) op → progress.waiting ≢ []
         → Comes G.rules OtherKeys told input input_now first before gateway.old held progress calls.old 0 None
         → Comes G.rules OtherKeys told input input_now first before gateway.new held progress calls.new 0 (end_by result) }
-    ensures asks { (told : Option ℕ) (progress : Progress) (held : List ℕ) → IsDueAhead told progress.waiting (length calls.old) op
-        → Asks G.rules told (connection_at gateway.old progress calls.old 0 None held)
+    ensures asks { (told : Option ℕ) (progress : Progress) (sent held : List ℕ) → length held ≤ length sent + most_unsent
+        → IsDueAhead told progress.waiting (length calls.old) op
+        → Asks G.rules told sent (connection_at gateway.old progress calls.old 0 None held)
         (connection_at gateway.new progress calls.new 0 (end_by result) held) }
     ensures more { length calls.new ≤ length calls.old + 1 }
     ensures apart { KeepsApart G.rules calls.old calls.new gateway.old gateway.new }

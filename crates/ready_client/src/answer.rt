@@ -1,11 +1,11 @@
-ghost use Rattle.std.specs.Prelude.{◌≡◌, ◌≢◌, ◌++◌, ℕ, List, Option, [], None, true, false};
+ghost use Rattle.std.specs.Prelude.{◌≡◌, ◌≢◌, ◌++◌, ◌≤◌, ℕ, List, Option, [], None, length, true, false};
 ghost use Rattle.edge_io.specs.Moving.{Input};
 ghost use Rattle.front_end.specs.Settling.{CallIsDue, IsDue, OrderIsDue, TextIsDue};
 ghost use Rattle.front_end.specs.declared.overlap.Overlap.{Overlap};
 ghost use Rattle.front_end.specs.Gateway.{KeepsOpen, LendsNone};
 ghost use Rattle.ready_client.specs.declared.open_call.OpenCall.{OpenCall};
 ghost use Rattle.front_end.specs.declared.due.Due.TheVariants as due;
-ghost use Rattle.ready_client.specs.Asking.{connection_at, AsksFrom};
+ghost use Rattle.ready_client.specs.Asking.{connection_at, most_unsent, AsksFrom};
 ghost use Rattle.ready_client.specs.Calling.{KeepsApart, LendsApart};
 ghost use Rattle.ready_client.specs.Coming.{end_by, Comes};
 
@@ -32,12 +32,13 @@ pub(crate) fn answer<G: Gateway, T: Clock>(
 ) -> Result<Step, ConnectionFault>
     requires some { connection.old.waiting ≢ [] }
     requires wanted { calls.old.unwanted ≡ 0 }
+    requires short { length outbox.old ≤ most_unsent }
     ensures comes { (input input_now : Input) (first : G) (before sent : List ℕ)
         → Comes G.rules overlap (T.moment clock.now) input input_now first before
         gateway.old (sent ++ outbox.old) connection.old calls.old.list 0 None
         → Comes G.rules overlap (T.moment clock.now) input input_now first before
         gateway.new (sent ++ outbox.new) connection.new calls.new.list calls.new.unwanted (end_by result) }
-    ensures asks { (input : Input) (sent : List ℕ) → AsksFrom G.rules (T.moment clock.now) overlap input
+    ensures asks { (input : Input) (sent : List ℕ) → AsksFrom G.rules (T.moment clock.now) sent overlap input
         (connection_at gateway.old connection.old calls.old.list 0 None (sent ++ outbox.old))
         (connection_at gateway.new connection.new calls.new.list calls.new.unwanted (end_by result) (sent ++ outbox.new)) }
     ensures apart { KeepsApart G.rules calls.old.list calls.new.list gateway.old gateway.new }
@@ -88,12 +89,13 @@ fn begin<G: Gateway, T: Clock>(
     requires due { IsDue (T.moment clock.now) connection.old.waiting (due.Call op) }
     requires none { calls.old.list ≡ [] }
     requires wanted { calls.old.unwanted ≡ 0 }
+    requires short { length outbox.old ≤ most_unsent }
     ensures comes { (input input_now : Input) (first : G) (before sent : List ℕ)
         → Comes G.rules overlap (T.moment clock.now) input input_now first before
         gateway.old (sent ++ outbox.old) connection.old calls.old.list 0 None
         → Comes G.rules overlap (T.moment clock.now) input input_now first before
         gateway.new (sent ++ outbox.new) connection.new calls.new.list calls.new.unwanted (end_by result) }
-    ensures asks { (input : Input) (sent : List ℕ) → AsksFrom G.rules (T.moment clock.now) overlap input
+    ensures asks { (input : Input) (sent : List ℕ) → AsksFrom G.rules (T.moment clock.now) sent overlap input
         (connection_at gateway.old connection.old calls.old.list 0 None (sent ++ outbox.old))
         (connection_at gateway.new connection.new calls.new.list calls.new.unwanted (end_by result) (sent ++ outbox.new)) }
     ensures apart { KeepsApart G.rules calls.old.list calls.new.list gateway.old gateway.new }
@@ -121,6 +123,7 @@ fn order<G: Gateway>(
     keep: u32,
 ) -> Result<Step, ConnectionFault>
     requires due { OrderIsDue connection.old.waiting }
+    requires short { length outbox.old ≤ most_unsent }
     ensures comes { (overlap : Overlap) (told : Option ℕ) (input input_now : Input) (first : G) (before sent : List ℕ)
         (calls : List (OpenCall G.Call)) → IsDue told connection.old.waiting (due.Fail at keep)
         → Comes G.rules overlap told input input_now first before
@@ -129,7 +132,7 @@ fn order<G: Gateway>(
         gateway.new (sent ++ outbox.new) connection.new calls 0 (end_by result) }
     ensures asks { (overlap : Overlap) (told : Option ℕ) (input : Input) (sent : List ℕ) (calls : List (OpenCall G.Call))
         → IsDue told connection.old.waiting (due.Fail at keep)
-        → AsksFrom G.rules told overlap input (connection_at gateway.old connection.old calls 0 None (sent ++ outbox.old))
+        → AsksFrom G.rules told sent overlap input (connection_at gateway.old connection.old calls 0 None (sent ++ outbox.old))
         (connection_at gateway.new connection.new calls 0 (end_by result) (sent ++ outbox.new)) }
     ensures open { KeepsOpen G.rules gateway.old gateway.new }
     ensures lends { LendsNone G.rules gateway.old gateway.new }
@@ -152,13 +155,14 @@ fn tell<G: Gateway>(
     outbox: &mut Outbox,
 ) -> Result<Step, ConnectionFault>
     requires due { TextIsDue connection.old.waiting }
+    requires short { length outbox.old ≤ most_unsent }
     ensures comes { (overlap : Overlap) (told : Option ℕ) (input input_now : Input) (first now : G) (before sent : List ℕ)
         (calls : List (OpenCall G.Call)) → IsDue told connection.old.waiting due.Text
         → Comes G.rules overlap told input input_now first before now (sent ++ outbox.old) connection.old calls 0 None
         → Comes G.rules overlap told input input_now first before now (sent ++ outbox.new) connection.new calls 0 (end_by result) }
     ensures asks { (overlap : Overlap) (told : Option ℕ) (input : Input) (now : G) (sent : List ℕ) (calls : List (OpenCall G.Call))
         → IsDue told connection.old.waiting due.Text
-        → AsksFrom G.rules told overlap input (connection_at now connection.old calls 0 None (sent ++ outbox.old))
+        → AsksFrom G.rules told sent overlap input (connection_at now connection.old calls 0 None (sent ++ outbox.old))
         (connection_at now connection.new calls 0 (end_by result) (sent ++ outbox.new)) }
     ensures count { connection.new.count ≡ connection.old.count }
 {

@@ -7,7 +7,7 @@ ghost use Rattle.ready_client.specs.Calling.{KeepsApart, LendsApart};
 ghost use Rattle.ready_client.specs.Coming.{end_by, Comes, HasTakenLess};
 
 use crate::calls::Calls;
-use crate::step::{MOST_WAITING, Step, advance};
+use crate::step::{MOST_UNSENT, Step, advance};
 use edge_io::{Clock, Failed};
 use front_end::{Connection, ConnectionFault, End, Gateway, Overlap};
 use outbox::{Outbox, Sending, TryStream};
@@ -87,7 +87,7 @@ impl<S: TryStream, K: Drop> Client<S, K> {
             (S.held self.old.stream ++ self.old.outbox) self.old.connection self.old.calls.list self.old.calls.unwanted self.old.end
             → Comes G.rules overlap (T.moment clock.now) input (S.input self.new.stream) first before gateway.new
             (S.held self.new.stream ++ self.new.outbox) self.new.connection self.new.calls.list self.new.calls.unwanted self.new.end }
-        ensures asks { AsksFrom G.rules (T.moment clock.now) overlap (S.input self.old.stream)
+        ensures asks { AsksFrom G.rules (T.moment clock.now) (S.held self.old.stream) overlap (S.input self.old.stream)
             (connection_at gateway.old self.old.connection self.old.calls.list self.old.calls.unwanted self.old.end
             (S.held self.old.stream ++ self.old.outbox))
             (connection_at gateway.new self.new.connection self.new.calls.list self.new.calls.unwanted self.new.end
@@ -126,7 +126,7 @@ impl<S: TryStream, K: Drop> Client<S, K> {
             (S.held self.old.stream ++ self.old.outbox) self.old.connection self.old.calls.list self.old.calls.unwanted self.old.end
             → Comes G.rules overlap (T.moment clock.now) input (S.input self.new.stream) first before gateway.new
             (S.held self.new.stream ++ self.new.outbox) self.new.connection self.new.calls.list self.new.calls.unwanted self.new.end }
-        ensures asks { AsksFrom G.rules (T.moment clock.now) overlap (S.input self.old.stream)
+        ensures asks { AsksFrom G.rules (T.moment clock.now) (S.held self.old.stream) overlap (S.input self.old.stream)
             (connection_at gateway.old self.old.connection self.old.calls.list self.old.calls.unwanted self.old.end
             (S.held self.old.stream ++ self.old.outbox))
             (connection_at gateway.new self.new.connection self.new.calls.list self.new.calls.unwanted self.new.end
@@ -185,7 +185,7 @@ impl<S: TryStream, K: Drop> Client<S, K> {
         ensures caller { result ≡ Turn.AwaitsCaller → (self.now.calls.list ≡ []) × (self.now.connection.waiting ≢ []) }
         ensures over { result ≢ Turn.Over }
     {
-        if self.outbox.len() > MOST_WAITING {
+        if self.outbox.len() > MOST_UNSENT {
             Turn::More
         } else if !self.calls.list.is_empty() {
             Turn::AwaitsCall
@@ -212,7 +212,7 @@ impl<S: TryStream, K: Drop> Client<S, K> {
             (S.held self.old.stream ++ self.old.outbox) self.old.connection self.old.calls.list self.old.calls.unwanted self.old.end
             → Comes G.rules overlap (T.moment clock.now) input (S.input self.new.stream) first before gateway.new
             (S.held self.new.stream ++ self.new.outbox) self.new.connection self.new.calls.list self.new.calls.unwanted self.new.end }
-        ensures asks { AsksFrom G.rules (T.moment clock.now) overlap (S.input self.old.stream)
+        ensures asks { AsksFrom G.rules (T.moment clock.now) (S.held self.old.stream) overlap (S.input self.old.stream)
             (connection_at gateway.old self.old.connection self.old.calls.list self.old.calls.unwanted self.old.end
             (S.held self.old.stream ++ self.old.outbox))
             (connection_at gateway.new self.new.connection self.new.calls.list self.new.calls.unwanted self.new.end

@@ -1,8 +1,8 @@
-ghost use Rattle.std.specs.Prelude.{◌≡◌, ◌≢◌, ◌++◌, ◌∷◌, ℕ, List, Option, [], None};
+ghost use Rattle.std.specs.Prelude.{◌≡◌, ◌≢◌, ◌++◌, ◌∷◌, ◌≤◌, ℕ, List, Option, [], None, length};
 ghost use Rattle.edge_io.specs.Moving.{Input};
 ghost use Rattle.front_end.specs.Settling.{CallIsDue};
 ghost use Rattle.front_end.specs.declared.overlap.Overlap.{Overlap};
-ghost use Rattle.ready_client.specs.Asking.{connection_at, AsksFrom};
+ghost use Rattle.ready_client.specs.Asking.{connection_at, most_unsent, AsksFrom};
 ghost use Rattle.ready_client.specs.Calling.{StandOnce, HasEndOf, KeepsApart, KeepsCalls, LendsApart};
 ghost use Rattle.ready_client.specs.Coming.{end_by, Comes};
 ghost use Rattle.ready_client.specs.declared.open_call.OpenCall.{OpenCall};
@@ -30,12 +30,13 @@ pub(crate) fn finish<G: Gateway, T: Clock>(
     requires due { CallIsDue connection.old.waiting }
     requires some { calls.old.list ≢ [] }
     requires wanted { calls.old.unwanted ≡ 0 }
+    requires short { length outbox.old ≤ most_unsent }
     ensures comes { (input input_now : Input) (first : G) (before sent : List ℕ)
         → Comes G.rules overlap (T.moment clock.now) input input_now first before
         gateway.old (sent ++ outbox.old) connection.old calls.old.list 0 None
         → Comes G.rules overlap (T.moment clock.now) input input_now first before
         gateway.new (sent ++ outbox.new) connection.new calls.new.list calls.new.unwanted (end_by result) }
-    ensures asks { (input : Input) (sent : List ℕ) → AsksFrom G.rules (T.moment clock.now) overlap input
+    ensures asks { (input : Input) (sent : List ℕ) → AsksFrom G.rules (T.moment clock.now) sent overlap input
         (connection_at gateway.old connection.old calls.old.list 0 None (sent ++ outbox.old))
         (connection_at gateway.new connection.new calls.new.list calls.new.unwanted (end_by result) (sent ++ outbox.new)) }
     ensures apart { KeepsApart G.rules calls.old.list calls.new.list gateway.old gateway.new }
@@ -63,7 +64,7 @@ pub(crate) fn take_begun<G: Gateway>(
         gateway.old (sent ++ outbox.old) connection.old calls.old.list 0 None
         → Comes G.rules overlap told input input_now first before
         gateway.new (sent ++ outbox.new) connection.new calls.new.list calls.new.unwanted (end_by result) }
-    ensures asks { (overlap : Overlap) (told : Option ℕ) (input : Input) (sent : List ℕ) → AsksFrom G.rules told overlap input
+    ensures asks { (overlap : Overlap) (told : Option ℕ) (input : Input) (sent : List ℕ) → AsksFrom G.rules told sent overlap input
         (connection_at gateway.old connection.old calls.old.list 0 None (sent ++ outbox.old))
         (connection_at gateway.new connection.new calls.new.list calls.new.unwanted (end_by result) (sent ++ outbox.new)) }
     ensures apart { KeepsApart G.rules calls.old.list calls.new.list gateway.old gateway.new }
@@ -96,7 +97,7 @@ fn settle<G: Gateway>(
         calls.new.unwanted (end_by result) }
     ensures asks { (overlap : Overlap) (told : Option ℕ) (input : Input) (earlier now : G) (sent : List ℕ) (call : OpenCall G.Call)
         → HasEndOf G.rules earlier call end now
-        → AsksFrom G.rules told overlap input (connection_at earlier connection.old (call ∷ calls.old.list) 0 None (sent ++ outbox.old))
+        → AsksFrom G.rules told sent overlap input (connection_at earlier connection.old (call ∷ calls.old.list) 0 None (sent ++ outbox.old))
         (connection_at now connection.new calls.new.list calls.new.unwanted (end_by result) (sent ++ outbox.new)) }
     ensures list { calls.new.list ≡ calls.old.list }
     ensures count { connection.new.count ≡ connection.old.count }

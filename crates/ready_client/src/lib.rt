@@ -3,7 +3,8 @@
 //! the order of the requests, each call begun where the last one of its sequence ended or later, and that it is over only once
 //! all of that was sent or the stream counted a fault. Its clause `asks` says that a turn is a list of steps, one behind the other
 //! with nothing between them, each of which begins a call that is due, answers with the end of the first call, lets go of one
-//! that is wanted no more, gives the order that is due, or asks nothing of the gateway. When it has its turns is left to a worker.
+//! that is wanted no more, gives the order that is due, or asks nothing of the gateway, and that nothing is begun or read while
+//! more than 256 KiB wait to be sent. When it has its turns is left to a worker.
 #![tactic(auto)]
 
 mod ahead;

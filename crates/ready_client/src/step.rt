@@ -21,7 +21,7 @@ const PIECE: usize = 4_608;
 
 /// The most bytes that may wait to be sent while calls are begun and pieces read: where more wait the ends of those that are
 /// under way are taken, and nothing else, so that no client holds callers by reading slowly, or by going away.
-pub(crate) const MOST_WAITING: usize = 262_144;
+pub(crate) const MOST_UNSENT: usize = 262_144;
 
 /// What one step of a connection came to.
 #[derive(Clone, Copy, Debug, PartialEq, Eq)]
@@ -57,7 +57,7 @@ pub(crate) fn advance<G: Gateway, S: TryStream, T: Clock>(
         (S.held stream.old ++ outbox.old) connection.old calls.old.list 0 None
         → Comes G.rules overlap (T.moment clock.now) input (S.input stream.new) first before gateway.new
         (S.held stream.new ++ outbox.new) connection.new calls.new.list calls.new.unwanted (end_by result) }
-    ensures asks { AsksFrom G.rules (T.moment clock.now) overlap (S.input stream.old)
+    ensures asks { AsksFrom G.rules (T.moment clock.now) (S.held stream.old) overlap (S.input stream.old)
         (connection_at gateway.old connection.old calls.old.list 0 None (S.held stream.old ++ outbox.old))
         (connection_at gateway.new connection.new calls.new.list calls.new.unwanted (end_by result) (S.held stream.new ++ outbox.new)) }
     ensures apart { KeepsApart G.rules calls.old.list calls.new.list gateway.old gateway.new }
@@ -68,7 +68,7 @@ pub(crate) fn advance<G: Gateway, S: TryStream, T: Clock>(
     ensures later { S.faults stream.old ≤ S.faults stream.new }
     ensures room { length room.new ≡ 65536 }
 {
-    if outbox.len() > MOST_WAITING {
+    if outbox.len() > MOST_UNSENT {
         return take_begun(alloc, gateway, connection, calls, outbox);
     }
     if connection.has_waiting() {

@@ -29,16 +29,16 @@ returns-in-Err-clause-comes g c = λ told input input_now first before held prog
     come.opened) come.distinct come)
 
 pub returns-in-Ok-true-clause-asks : goal.returns-in-Ok-true-clause-asks
-returns-in-Ok-true-clause-asks g c = λ told progress held is. let begun = c.begin.ensures.begun (cc) in
-    begins-one g.G.Gateway.rules told c.args.gateway.now c.begin.new.gateway progress c.args.calls.now c.begin.new.self
-    held c.args.op begun.0 is begun.1 begun.2
+returns-in-Ok-true-clause-asks g c = λ told progress sent held short is. let begun = c.begin.ensures.begun (cc) in
+    begins-one g.G.Gateway.rules told sent c.args.gateway.now c.begin.new.gateway progress c.args.calls.now c.begin.new.self
+    held c.args.op begun.0 short is begun.1 begun.2
 
 pub returns-in-Ok-false-clause-asks : goal.returns-in-Ok-false-clause-asks
-returns-in-Ok-false-clause-asks g c = λ told progress held is. let same = c.begin.ensures.full (cc) in
+returns-in-Ok-false-clause-asks g c = λ told progress sent held short is. let same = c.begin.ensures.full (cc) in
     rw same.0 (rw same.1
-    (asks-none g.G.Gateway.rules told (connection_at c.args.gateway.now progress c.args.calls.now 0 None held)))
+    (asks-none g.G.Gateway.rules told sent (connection_at c.args.gateway.now progress c.args.calls.now 0 None held)))
 
 pub returns-in-Err-clause-asks : goal.returns-in-Err-clause-asks
-returns-in-Err-clause-asks g c = λ told progress held is. wants-begin g.G.Gateway.rules told c.args.gateway.now
-    c.begin.new.gateway progress c.args.calls.now c.begin.new.self held c.args.op is c.in-Err.ensures.unasked
+returns-in-Err-clause-asks g c = λ told progress sent held short is. wants-begin g.G.Gateway.rules told sent c.args.gateway.now
+    c.begin.new.gateway progress c.args.calls.now c.begin.new.self held c.args.op short is c.in-Err.ensures.unasked
     c.in-Err.ensures.want

@@ -20,13 +20,14 @@ returns-in-Err-clause-comes g c = λ input input_now first before held come. wan
     c.requires.waiting (g.G.Gateway.order.same c.args.gateway.now) come.opened come.distinct come
 
 pub returns-in-Ok-Some-clause-asks : goal.returns-in-Ok-Some-clause-asks
-returns-in-Ok-Some-clause-asks g c = λ held. c.begin_behind.ensures.asks _ c.args.connection.now held
+returns-in-Ok-Some-clause-asks g c = λ sent held short. c.begin_behind.ensures.asks _ c.args.connection.now sent held short
     (rw (← c.len-begun.ensures)
     (some-of (IsDueAhead (g.T.Clock.moment c.args.clock.now) c.args.connection.now.waiting c.len-begun.result)
     c.in-Ok-Some.field-0 c.in-Ok-Some.op c.in-Ok-Some.field-0-is c.in-Ok-Some.ensures.due))
 
 pub returns-in-Ok-None-clause-asks : goal.returns-in-Ok-None-clause-asks
-returns-in-Ok-None-clause-asks g c = λ held. asks-none g.G.Gateway.rules _ (connection_at c.args.gateway.now c.args.connection.now c.args.calls.now 0 None held)
+returns-in-Ok-None-clause-asks g c = λ sent held short. asks-none g.G.Gateway.rules _ sent
+    (connection_at c.args.gateway.now c.args.connection.now c.args.calls.now 0 None held)
 
 pub returns-in-Err-clause-asks : goal.returns-in-Err-clause-asks
-returns-in-Err-clause-asks g c = λ held. wants-none g.G.Gateway.rules _ c.args.gateway.now c.args.connection.now c.args.calls.now held
+returns-in-Err-clause-asks g c = λ sent held short. wants-none g.G.Gateway.rules _ sent c.args.gateway.now c.args.connection.now c.args.calls.now held short

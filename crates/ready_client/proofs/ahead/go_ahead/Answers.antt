@@ -8,4 +8,5 @@ returns-in-OtherKeys-clause-comes g c = λ input input_now first before held com
     (c.begin_further.ensures.comes input input_now first before held (rw c.in-OtherKeys.is at come))
 
 pub returns-in-Never-clause-asks : goal.returns-in-Never-clause-asks
-returns-in-Never-clause-asks g c = λ held. asks-none g.G.Gateway.rules _ (connection_at c.args.gateway.now c.args.connection.now c.args.calls.now 0 None held)
+returns-in-Never-clause-asks g c = λ sent held short. asks-none g.G.Gateway.rules _ sent
+    (connection_at c.args.gateway.now c.args.connection.now c.args.calls.now 0 None held)

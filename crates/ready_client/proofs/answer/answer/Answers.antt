@@ -3,7 +3,7 @@ use Rattle.front_end.specs.Settling.{IsDue}
 use Rattle.front_end.specs.declared.due.Due.{Due}
 use Rattle.ready_client.proofs.Calling.{wants-first}
 use Rattle.ready_client.proofs.answer.answer.Goals as goal
-use Rattle.ready_client.proofs.Asking.{wants-none}
+use Rattle.ready_client.proofs.Asking.{soon, wants-none}
 
 pub returns-in-Ok-Fail-clause-comes : goal.returns-in-Ok-Fail-clause-comes
 returns-in-Ok-Fail-clause-comes g c = λ input input_now first before sent come. rw c.requires.wanted
@@ -38,5 +38,5 @@ returns-in-Ok-Text-clause-asks g c = λ input_now sent input first before come. 
 
 pub returns-in-Err-clause-asks : goal.returns-in-Err-clause-asks
 returns-in-Err-clause-asks g c = λ input_now sent input first before come. rw c.requires.wanted
-    (wants-none g.G.Gateway.rules (g.T.Clock.moment c.args.clock.now) c.args.gateway.now c.args.connection.now
-    c.args.calls.now.list (sent ++ c.args.outbox.now))
+    (wants-none g.G.Gateway.rules (g.T.Clock.moment c.args.clock.now) sent c.args.gateway.now c.args.connection.now
+    c.args.calls.now.list (sent ++ c.args.outbox.now) (soon sent c.args.outbox.now c.requires.short))

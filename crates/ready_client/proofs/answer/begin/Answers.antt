@@ -8,7 +8,7 @@ use Rattle.front_end.specs.Ahead.{IsDueAhead}
 use Rattle.front_end.specs.Gateway.{IsFree}
 use Rattle.ready_client.specs.Asking.{connection_at}
 use Rattle.ready_client.specs.declared.open_call.OpenCall.TheVariants.{Open}
-use Rattle.ready_client.proofs.Asking.{asks-none, asks-then, begins-one, due-first, wants-begin}
+use Rattle.ready_client.proofs.Asking.{asks-none, asks-then, begins-one, due-first, soon, wants-begin}
 
 pub returns-in-Ok-Some-clause-comes : goal.returns-in-Ok-Some-clause-comes
 returns-in-Ok-Some-clause-comes g c = λ input input_now first before sent come. c.finish.ensures.comes input input_now first before sent (rw c.put_only.ensures
@@ -34,12 +34,12 @@ returns-in-Err-clause-comes g c = λ input input_now first before sent come. rw 
     c.begin.ensures.others) come.opened) come.distinct come)
 
 pub returns-in-Ok-Some-clause-asks : goal.returns-in-Ok-Some-clause-asks
-returns-in-Ok-Some-clause-asks g c = λ input_now sent input first before come. asks-then g.G.Gateway.rules (g.T.Clock.moment c.args.clock.now)
+returns-in-Ok-Some-clause-asks g c = λ input_now sent input first before come. asks-then g.G.Gateway.rules (g.T.Clock.moment c.args.clock.now) sent
     (connection_at c.args.gateway.now c.args.connection.now c.args.calls.now.list 0 None (sent ++ c.args.outbox.now))
     (connection_at c.begin.new.self c.args.connection.now c.put_only.new.self 0 None (sent ++ c.args.outbox.now)) _
-    (begins-one g.G.Gateway.rules (g.T.Clock.moment c.args.clock.now) c.args.gateway.now c.begin.new.self
+    (begins-one g.G.Gateway.rules (g.T.Clock.moment c.args.clock.now) sent c.args.gateway.now c.begin.new.self
     c.args.connection.now c.args.calls.now.list c.put_only.new.self (sent ++ c.args.outbox.now) c.args.op
-    (Open c.in-Ok-Some.call)
+    (Open c.in-Ok-Some.call) (soon sent c.args.outbox.now c.requires.short)
     (subst (λ (cs : List (OpenCall _)). IsDueAhead (g.T.Clock.moment c.args.clock.now) c.args.connection.now.waiting
     (length cs) c.args.op) (sym c.requires.none)
     (due-first (g.T.Clock.moment c.args.clock.now) c.args.connection.now.waiting c.args.op c.requires.due)) (
@@ -59,14 +59,14 @@ returns-in-Ok-Some-clause-asks g c = λ input_now sent input first before come. 
 
 pub returns-in-Ok-None-clause-asks : goal.returns-in-Ok-None-clause-asks
 returns-in-Ok-None-clause-asks g c = λ input_now sent input first before come. rw (c.begin.ensures.full (cc)) (rw c.requires.wanted
-    (asks-none g.G.Gateway.rules (g.T.Clock.moment c.args.clock.now)
+    (asks-none g.G.Gateway.rules (g.T.Clock.moment c.args.clock.now) sent
     (connection_at c.args.gateway.now c.args.connection.now c.args.calls.now.list 0 None
     (sent ++ c.args.outbox.now))))
 
 pub returns-in-Err-clause-asks : goal.returns-in-Err-clause-asks
 returns-in-Err-clause-asks g c = λ input_now sent input first before come. rw c.requires.wanted
-    (wants-begin g.G.Gateway.rules (g.T.Clock.moment c.args.clock.now) c.args.gateway.now c.begin.new.self
-    c.args.connection.now c.args.calls.now.list c.args.calls.now.list (sent ++ c.args.outbox.now) c.args.op
+    (wants-begin g.G.Gateway.rules (g.T.Clock.moment c.args.clock.now) sent c.args.gateway.now c.begin.new.self
+    c.args.connection.now c.args.calls.now.list c.args.calls.now.list (sent ++ c.args.outbox.now) c.args.op (soon sent c.args.outbox.now c.requires.short)
     (subst (λ (cs : List (OpenCall _)). IsDueAhead (g.T.Clock.moment c.args.clock.now) c.args.connection.now.waiting
     (length cs) c.args.op) (sym c.requires.none)
     (due-first (g.T.Clock.moment c.args.clock.now) c.args.connection.now.waiting c.args.op c.requires.due))

@@ -3,7 +3,7 @@ use Rattle.ready_client.proofs.Calling.{comes-so, due-some, orders, orders-broke
 use Rattle.ready_client.proofs.Listing.{kept-all, still-open}
 use Rattle.ready_client.proofs.answer.order.Goals as goal
 use Rattle.front_end.specs.declared.due.Due.TheVariants as due
-use Rattle.ready_client.proofs.Asking.{order-none, orders-one, orders-part, read-as, read-so, wants-fail}
+use Rattle.ready_client.proofs.Asking.{order-none, orders-one, orders-part, read-as, read-so, soon, wants-fail}
 
 pub returns-in-Err-clause-comes : goal.returns-in-Err-clause-comes
 returns-in-Err-clause-comes g c = λ overlap told input input_now first before sent calls is come.
@@ -37,16 +37,16 @@ returns-in-Err-settle_fail-clause-comes g c = λ overlap told input input_now fi
 
 pub returns-in-Err-clause-asks : goal.returns-in-Err-clause-asks
 returns-in-Err-clause-asks g c = λ overlap told input_now sent calls is input first before come.
-    wants-fail g.G.Gateway.rules told c.args.gateway.now c.fail.new.self c.args.connection.now calls
-    (sent ++ c.args.outbox.now) c.args.at c.args.keep is
+    wants-fail g.G.Gateway.rules told sent c.args.gateway.now c.fail.new.self c.args.connection.now calls
+    (sent ++ c.args.outbox.now) c.args.at c.args.keep (soon sent c.args.outbox.now c.requires.short) is
     (order-none g.G.Gateway.rules g.G.Gateway.order overlap told input input_now first c.args.gateway.now before
     (sent ++ c.args.outbox.now) c.args.connection.now calls c.args.at c.args.keep is come) c.in-Err.ensures.want
 
 pub returns-in-Ok-settle_fail-clause-asks : goal.returns-in-Ok-settle_fail-clause-asks
 returns-in-Ok-settle_fail-clause-asks g c = λ overlap told input_now sent calls is input first before come.
-    orders-one g.G.Gateway.rules told c.args.gateway.now c.fail.new.self c.args.connection.now c.settle_fail.new.self
-    calls _ sent c.args.outbox.now c.settle_fail.new.sink c.go_on.new.outbox
-    c.args.at c.args.keep c.in-Ok.end is (order-none g.G.Gateway.rules g.G.Gateway.order overlap told input input_now
+    orders-one g.G.Gateway.rules told sent c.args.gateway.now c.fail.new.self c.args.connection.now c.settle_fail.new.self
+    calls _ c.args.outbox.now c.settle_fail.new.sink c.go_on.new.outbox
+    c.args.at c.args.keep c.in-Ok.end c.requires.short is (order-none g.G.Gateway.rules g.G.Gateway.order overlap told input input_now
     first c.args.gateway.now before (sent ++ c.args.outbox.now) c.args.connection.now calls c.args.at c.args.keep is
     come) c.in-Ok.ensures.failed c.in-Ok-settle_fail.ensures.told
     (c.go_on.ensures.closes (read-as _ _ _ _ c.in-Ok-settle_fail.ensures.kept c.in-Ok-settle_fail.ensures.quits
@@ -56,9 +56,9 @@ returns-in-Ok-settle_fail-clause-asks g c = λ overlap told input_now sent calls
 
 pub returns-in-Err-settle_fail-clause-asks : goal.returns-in-Err-settle_fail-clause-asks
 returns-in-Err-settle_fail-clause-asks g c = λ overlap told input_now sent calls is input first before come.
-    orders-part g.G.Gateway.rules told c.args.gateway.now c.fail.new.self c.args.connection.now c.settle_fail.new.self
-    calls _ sent c.args.outbox.now c.settle_fail.new.sink
-    c.args.at c.args.keep c.in-Ok.end is (order-none g.G.Gateway.rules g.G.Gateway.order overlap told input input_now
+    orders-part g.G.Gateway.rules told sent c.args.gateway.now c.fail.new.self c.args.connection.now c.settle_fail.new.self
+    calls _ c.args.outbox.now c.settle_fail.new.sink
+    c.args.at c.args.keep c.in-Ok.end c.requires.short is (order-none g.G.Gateway.rules g.G.Gateway.order overlap told input input_now
     first c.args.gateway.now before (sent ++ c.args.outbox.now) c.args.connection.now calls c.args.at c.args.keep is
     come) c.in-Ok.ensures.failed
     c.in-Err-settle_fail.ensures.stays c.in-Err-settle_fail.ensures.part

@@ -21,8 +21,8 @@ returns-in-Err-clause-comes g c = λ overlap told input input_now first now befo
 
 pub returns-in-Ok-clause-asks : goal.returns-in-Ok-clause-asks
 returns-in-Ok-clause-asks g c = λ overlap told input_now now sent calls is input first before come.
-    tells-one g.G.Gateway.rules told now c.args.connection.now c.settle_text.new.self calls _ sent c.args.outbox.now
-    c.settle_text.new.sink c.go_on.new.outbox is c.in-Ok.ensures.told
+    tells-one g.G.Gateway.rules told sent now c.args.connection.now c.settle_text.new.self calls _ c.args.outbox.now
+    c.settle_text.new.sink c.go_on.new.outbox c.requires.short is c.in-Ok.ensures.told
     (c.go_on.ensures.closes (read-as _ _ _ _ c.in-Ok.ensures.kept c.in-Ok.ensures.quits
     (read-so g.G.Gateway.rules g.G.Gateway.order overlap told input input_now first now before
     (sent ++ c.args.outbox.now) c.args.connection.now calls (due-some told c.args.connection.now.waiting due.Text is)
@@ -30,5 +30,5 @@ returns-in-Ok-clause-asks g c = λ overlap told input_now now sent calls is inpu
 
 pub returns-in-Err-clause-asks : goal.returns-in-Err-clause-asks
 returns-in-Err-clause-asks g c = λ overlap told input_now now sent calls is input first before come.
-    tells-part g.G.Gateway.rules told now c.args.connection.now c.settle_text.new.self calls _ sent c.args.outbox.now
-    c.settle_text.new.sink is c.in-Err.ensures.stays c.in-Err.ensures.part
+    tells-part g.G.Gateway.rules told sent now c.args.connection.now c.settle_text.new.self calls _ c.args.outbox.now
+    c.settle_text.new.sink c.requires.short is c.in-Err.ensures.stays c.in-Err.ensures.part

@@ -2,7 +2,7 @@ use Rattle.std.proofs.Common.{◌++◌, List, subst, None}
 use Rattle.ready_client.specs.Coming.{Comes}
 use Rattle.ready_client.specs.declared.open_call.OpenCall.{OpenCall}
 use Rattle.ready_client.proofs.ending.finish.Goals as goal
-use Rattle.ready_client.proofs.Asking.{asks-still}
+use Rattle.ready_client.proofs.Asking.{asks-still, soon}
 
 pub returns-in-Some-clause-comes : goal.returns-in-Some-clause-comes
 returns-in-Some-clause-comes g c = λ input input_now first before sent come. let ended = c.in-Some.ensures.ended in
@@ -28,6 +28,6 @@ returns-in-Some-clause-asks g c = λ input_now sent input first before come. let
 
 pub returns-in-None-clause-asks : goal.returns-in-None-clause-asks
 returns-in-None-clause-asks g c = λ input_now sent input first before come. let same = c.take_end.ensures.still (cc) in rw c.requires.wanted
-    (asks-still g.G.Gateway.rules (g.T.Clock.moment c.args.clock.now) c.args.gateway.now c.take_end.new.gateway
+    (asks-still g.G.Gateway.rules (g.T.Clock.moment c.args.clock.now) sent c.args.gateway.now c.take_end.new.gateway
     c.args.connection.now c.args.calls.now.list c.take_end.new.self (sent ++ c.args.outbox.now) _ same.0 same.1
-    (c.go_ahead.ensures.asks (sent ++ c.args.outbox.now)))
+    (c.go_ahead.ensures.asks sent (sent ++ c.args.outbox.now) (soon sent c.args.outbox.now c.requires.short)))

@@ -26,8 +26,8 @@ returns-in-Err-clause-comes g c = λ overlap told input input_now first earlier 
 
 pub returns-in-Ok-clause-asks : goal.returns-in-Ok-clause-asks
 returns-in-Ok-clause-asks g c = λ overlap told input_now earlier now sent call has input first before come.
-    takes-one g.G.Gateway.rules told earlier now c.args.connection.now c.settle.new.self c.args.calls.now.list
-    c.leave.new.self.list c.leave.new.self.unwanted _ sent c.args.outbox.now c.settle.new.sink c.go_on.new.outbox
+    takes-one g.G.Gateway.rules told sent earlier now c.args.connection.now c.settle.new.self c.args.calls.now.list
+    c.leave.new.self.list c.leave.new.self.unwanted _ c.args.outbox.now c.settle.new.sink c.go_on.new.outbox
     call c.args.end has c.leave.ensures.list (subst (λ (n : ℕ). c.leave.new.self.unwanted ≤ n) c.unneeded.ensures c.leave.ensures.most) c.in-Ok.ensures.settled
     (c.go_on.ensures.closes (read-as _ _ _ _ c.in-Ok.ensures.kept c.in-Ok.ensures.quits
     (read-so g.G.Gateway.rules g.G.Gateway.order overlap told input input_now first earlier before
@@ -36,7 +36,7 @@ returns-in-Ok-clause-asks g c = λ overlap told input_now earlier now sent call 
 
 pub returns-in-Err-clause-asks : goal.returns-in-Err-clause-asks
 returns-in-Err-clause-asks g c = λ overlap told input_now earlier now sent call has input first before come.
-    takes-part g.G.Gateway.rules told earlier now c.args.connection.now c.settle.new.self c.args.calls.now.list
-    c.leave.new.self.list c.leave.new.self.unwanted _ sent c.args.outbox.now c.settle.new.sink
+    takes-part g.G.Gateway.rules told sent earlier now c.args.connection.now c.settle.new.self c.args.calls.now.list
+    c.leave.new.self.list c.leave.new.self.unwanted _ c.args.outbox.now c.settle.new.sink
     call c.args.end has c.leave.ensures.list (subst (λ (n : ℕ). c.leave.new.self.unwanted ≤ n) c.unneeded.ensures
     c.leave.ensures.most) c.in-Err.ensures.stays c.in-Err.ensures.part

@@ -24,8 +24,8 @@ returns-in-Some-clause-asks g c = λ overlap told input_now sent input first bef
 
 pub returns-in-None-clause-asks : goal.returns-in-None-clause-asks
 returns-in-None-clause-asks g c = λ overlap told input_now sent input first before come. let same = c.take_end.ensures.still (cc) in
-    asks-still g.G.Gateway.rules told c.args.gateway.now c.take_end.new.gateway c.args.connection.now
+    asks-still g.G.Gateway.rules told sent c.args.gateway.now c.take_end.new.gateway c.args.connection.now
     c.args.calls.now.list c.take_end.new.self (sent ++ c.args.outbox.now) _ same.0 same.1
     (rw c.requires.wanted
-    (asks-none g.G.Gateway.rules told (connection_at c.take_end.new.gateway c.args.connection.now c.take_end.new.self
+    (asks-none g.G.Gateway.rules told sent (connection_at c.take_end.new.gateway c.args.connection.now c.take_end.new.self
     0 None (sent ++ c.args.outbox.now))))

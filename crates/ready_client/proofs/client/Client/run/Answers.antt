@@ -1,6 +1,6 @@
 use Rattle.std.proofs.Common.{◌++◌, ◌∙◌, arith, refl}
 use Rattle.ready_client.specs.Asking.{connection_at}
-use Rattle.ready_client.proofs.Asking.{asks-as, asks-none, asks-then}
+use Rattle.ready_client.proofs.Asking.{asks-as, asks-none, asks-sent, asks-then}
 use Rattle.ready_client.proofs.Calling.{sends}
 use Rattle.ready_client.proofs.Keeping.{apart-then, lends-then}
 use Rattle.ready_client.proofs.client.Client.run.Goals as goal
@@ -8,7 +8,7 @@ use Rattle.ready_client.proofs.client.Client.run.Goals as goal
 pub steps-init : goal.steps-init
 steps-init g c = record {
   comes = λ input first before come. come;
-  asks = λ input first before come. asks-none g.G.Gateway.rules (g.T.Clock.moment c.args.clock.now)
+  asks = λ input first before come. asks-none g.G.Gateway.rules (g.T.Clock.moment c.args.clock.now) (g.S.TryStream.held c.args.self.now.stream)
       (connection_at c.args.gateway.now c.args.self.now.connection c.args.self.now.calls.list
       c.args.self.now.calls.unwanted c.args.self.now.end (g.S.TryStream.held c.args.self.now.stream
       ++ c.args.self.now.outbox));
@@ -23,7 +23,7 @@ steps-init g c = record {
 pub steps-preserved : goal.steps-preserved
 steps-preserved g c = record {
   comes = λ input first before come. c.step.ensures.comes input first before (c.steps.invariant.comes input first before come);
-  asks = λ input first before come. asks-then g.G.Gateway.rules (g.T.Clock.moment c.args.clock.now)
+  asks = λ input first before come. asks-then g.G.Gateway.rules (g.T.Clock.moment c.args.clock.now) (g.S.TryStream.held c.args.self.now.stream)
       (connection_at c.args.gateway.now c.args.self.now.connection c.args.self.now.calls.list
       c.args.self.now.calls.unwanted c.args.self.now.end (g.S.TryStream.held c.args.self.now.stream
       ++ c.args.self.now.outbox))
@@ -32,7 +32,9 @@ steps-preserved g c = record {
       (connection_at c.step.new.gateway c.step.new.self.connection c.step.new.self.calls.list
       c.step.new.self.calls.unwanted c.step.new.self.end (g.S.TryStream.held c.step.new.self.stream
       ++ c.step.new.self.outbox))
-      (c.steps.invariant.asks input first before come) (c.step.ensures.asks input first before (c.steps.invariant.comes input first before come));
+      (c.steps.invariant.asks input first before come) (asks-sent g.G.Gateway.rules (g.T.Clock.moment c.args.clock.now)
+      (g.S.TryStream.held c.args.self.now.stream) _ _ _ c.steps.invariant.held
+      (c.step.ensures.asks input first before (c.steps.invariant.comes input first before come)));
   apart = apart-then g.G.Gateway.rules c.args.self.now.calls.list c.steps.self.calls.list c.step.new.self.calls.list
       c.args.gateway.now c.steps.gateway c.step.new.gateway c.steps.invariant.apart c.step.ensures.apart;
   lends = lends-then g.G.Gateway.rules c.args.self.now.calls.list c.steps.self.calls.list c.step.new.self.calls.list
@@ -75,7 +77,7 @@ returns-then-step-clause-comes g c = λ input first before come. sends g.G.Gatew
     (c.step.ensures.comes input first before (c.steps.invariant.comes input first before come))
 
 pub returns-clause-asks : goal.returns-clause-asks
-returns-clause-asks g c = λ input first before come. asks-as g.G.Gateway.rules (g.T.Clock.moment c.args.clock.now)
+returns-clause-asks g c = λ input first before come. asks-as g.G.Gateway.rules (g.T.Clock.moment c.args.clock.now) (g.S.TryStream.held c.args.self.now.stream)
     (connection_at c.args.gateway.now c.args.self.now.connection c.args.self.now.calls.list
     c.args.self.now.calls.unwanted c.args.self.now.end (g.S.TryStream.held c.args.self.now.stream
     ++ c.args.self.now.outbox)) c.steps.gateway c.steps.self.connection c.send-2.new.self.connection c.steps.self.calls
@@ -87,7 +89,7 @@ returns-clause-asks g c = λ input first before come. asks-as g.G.Gateway.rules 
 
 pub returns-then-is_empty-clause-asks : goal.returns-then-is_empty-clause-asks
 returns-then-is_empty-clause-asks g c = λ input first before come. asks-as g.G.Gateway.rules
-    (g.T.Clock.moment c.args.clock.now)
+    (g.T.Clock.moment c.args.clock.now) (g.S.TryStream.held c.args.self.now.stream)
     (connection_at c.args.gateway.now c.args.self.now.connection c.args.self.now.calls.list
     c.args.self.now.calls.unwanted c.args.self.now.end (g.S.TryStream.held c.args.self.now.stream
     ++ c.args.self.now.outbox)) c.steps.gateway c.steps.self.connection c.send.new.self.connection c.steps.self.calls
@@ -98,7 +100,7 @@ returns-then-is_empty-clause-asks g c = λ input first before come. asks-as g.G.
 
 pub returns-then-step-clause-asks : goal.returns-then-step-clause-asks
 returns-then-step-clause-asks g c = λ input first before come. asks-as g.G.Gateway.rules
-    (g.T.Clock.moment c.args.clock.now)
+    (g.T.Clock.moment c.args.clock.now) (g.S.TryStream.held c.args.self.now.stream)
     (connection_at c.args.gateway.now c.args.self.now.connection c.args.self.now.calls.list
     c.args.self.now.calls.unwanted c.args.self.now.end (g.S.TryStream.held c.args.self.now.stream
     ++ c.args.self.now.outbox)) c.step.new.gateway c.step.new.self.connection c.send-then-step.new.self.connection
@@ -107,7 +109,7 @@ returns-then-step-clause-asks g c = λ input first before come. asks-as g.G.Gate
     (g.S.TryStream.held c.send-then-step.new.self.stream ++ c.send-then-step.new.self.outbox)
     c.send-then-step.ensures.text c.send-then-step.ensures.connection c.send-then-step.ensures.calls
     c.send-then-step.ensures.end
-    (asks-then g.G.Gateway.rules (g.T.Clock.moment c.args.clock.now)
+    (asks-then g.G.Gateway.rules (g.T.Clock.moment c.args.clock.now) (g.S.TryStream.held c.args.self.now.stream)
     (connection_at c.args.gateway.now c.args.self.now.connection c.args.self.now.calls.list
     c.args.self.now.calls.unwanted c.args.self.now.end (g.S.TryStream.held c.args.self.now.stream
     ++ c.args.self.now.outbox))
@@ -116,4 +118,6 @@ returns-then-step-clause-asks g c = λ input first before come. asks-as g.G.Gate
     (connection_at c.step.new.gateway c.step.new.self.connection c.step.new.self.calls.list
     c.step.new.self.calls.unwanted c.step.new.self.end (g.S.TryStream.held c.step.new.self.stream
     ++ c.step.new.self.outbox))
-    (c.steps.invariant.asks input first before come) (c.step.ensures.asks input first before (c.steps.invariant.comes input first before come)))
+    (c.steps.invariant.asks input first before come) (asks-sent g.G.Gateway.rules (g.T.Clock.moment c.args.clock.now)
+    (g.S.TryStream.held c.args.self.now.stream) _ _ _ c.steps.invariant.held
+    (c.step.ensures.asks input first before (c.steps.invariant.comes input first before come))))

@@ -14,7 +14,7 @@ invariant-steps g l = record {
       l.initial.self.calls.list l.initial.self.calls.unwanted l.initial.self.end
       → Comes g.G.Gateway.rules l.overlap (g.T.Clock.moment l.clock) input (g.S.TryStream.input l.self.stream) first before l.gateway
       (g.S.TryStream.held l.self.stream ++ l.self.outbox) l.self.connection l.self.calls.list l.self.calls.unwanted l.self.end;
-  asks : AsksFrom g.G.Gateway.rules (g.T.Clock.moment l.clock) l.overlap (g.S.TryStream.input l.initial.self.stream)
+  asks : AsksFrom g.G.Gateway.rules (g.T.Clock.moment l.clock) (g.S.TryStream.held l.initial.self.stream) l.overlap (g.S.TryStream.input l.initial.self.stream)
       (connection_at l.initial.gateway l.initial.self.connection l.initial.self.calls.list l.initial.self.calls.unwanted
       l.initial.self.end (g.S.TryStream.held l.initial.self.stream ++ l.initial.self.outbox))
       (connection_at l.gateway l.self.connection l.self.calls.list l.self.calls.unwanted l.self.end (g.S.TryStream.held l.self.stream ++ l.self.outbox));

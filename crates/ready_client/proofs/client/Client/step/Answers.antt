@@ -37,7 +37,7 @@ returns-in_default g c = record {
       (c.has_unwanted.ensures.none c.if-has_unwanted.false) (no-end c.args.self.now.end (sym c.is_some.ensures ∙ c.if-is_some.false)) come));
   asks = λ input first before come. let unwanted = c.has_unwanted.ensures.none c.if-has_unwanted.false in let goes =
       no-end c.args.self.now.end (sym c.is_some.ensures ∙ c.if-is_some.false) in rw c.end_by-self.ensures
-      (asks-on g.G.Gateway.rules (g.T.Clock.moment c.args.clock.now) c.args.gateway.now c.args.self.now.connection
+      (asks-on g.G.Gateway.rules (g.T.Clock.moment c.args.clock.now) (g.S.TryStream.held c.args.self.now.stream) c.args.gateway.now c.args.self.now.connection
       c.args.self.now.calls.list c.args.self.now.calls.unwanted c.args.self.now.end
       (g.S.TryStream.held c.args.self.now.stream ++ c.args.self.now.outbox) _ unwanted goes
       (c.advance-result.ensures.asks input first before
@@ -64,7 +64,7 @@ returns-in_default-2-clause-comes g c = λ input first before come. rw c.end_by-
 
 pub returns-then-is_some-clause-asks : goal.returns-then-is_some-clause-asks
 returns-then-is_some-clause-asks g c = λ input first before come. goes-or-waits g.G.Gateway.rules
-    (g.T.Clock.moment c.args.clock.now) c.args.gateway.now c.let_go.new.gateway c.args.self.now.connection
+    (g.T.Clock.moment c.args.clock.now) (g.S.TryStream.held c.args.self.now.stream) c.args.gateway.now c.let_go.new.gateway c.args.self.now.connection
     c.args.self.now.calls c.let_go.new.self c.args.self.now.end
     (g.S.TryStream.held c.args.self.now.stream ++ c.args.self.now.outbox) c.let_go.result may c.let_go.ensures.gone c.let_go.ensures.still
   where
@@ -78,7 +78,7 @@ pub returns-in-Ok-Waits-clause-asks : goal.returns-in-Ok-Waits-clause-asks
 returns-in-Ok-Waits-clause-asks g c = λ input first before come. let unwanted =
     c.has_unwanted.ensures.none c.if-has_unwanted.false in let goes =
     no-end c.args.self.now.end (sym c.is_some.ensures ∙ c.if-is_some.false) in rw c.end_by-self.ensures
-    (asks-on g.G.Gateway.rules (g.T.Clock.moment c.args.clock.now) c.args.gateway.now c.args.self.now.connection
+    (asks-on g.G.Gateway.rules (g.T.Clock.moment c.args.clock.now) (g.S.TryStream.held c.args.self.now.stream) c.args.gateway.now c.args.self.now.connection
     c.args.self.now.calls.list c.args.self.now.calls.unwanted c.args.self.now.end
     (g.S.TryStream.held c.args.self.now.stream ++ c.args.self.now.outbox) _ unwanted goes
     (c.advance-result.ensures.asks input first before
@@ -92,7 +92,7 @@ pub returns-in_default-2-clause-asks : goal.returns-in_default-2-clause-asks
 returns-in_default-2-clause-asks g c = λ input first before come. let unwanted =
     c.has_unwanted.ensures.none c.if-has_unwanted.false in let goes =
     no-end c.args.self.now.end (sym c.is_some.ensures ∙ c.if-is_some.false) in rw c.end_by-self.ensures
-    (asks-on g.G.Gateway.rules (g.T.Clock.moment c.args.clock.now) c.args.gateway.now c.args.self.now.connection
+    (asks-on g.G.Gateway.rules (g.T.Clock.moment c.args.clock.now) (g.S.TryStream.held c.args.self.now.stream) c.args.gateway.now c.args.self.now.connection
     c.args.self.now.calls.list c.args.self.now.calls.unwanted c.args.self.now.end
     (g.S.TryStream.held c.args.self.now.stream ++ c.args.self.now.outbox) _ unwanted goes
     (c.advance-result.ensures.asks input first before
