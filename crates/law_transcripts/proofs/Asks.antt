@@ -21,7 +21,7 @@ use Rattle.run_verify.proofs.ExactFits.{FitsAct}
 use Rattle.run_verify.proofs.ExactLimits.{act-fits, read-limits}
 use Rattle.run_verify.specs.Told.{IsDelivery}
 use Rattle.law_transcripts.proofs.Deliveries.{draining-delivers}
-use Rattle.law_transcripts.proofs.KeyLines.{read-key}
+use Rattle.law_transcripts.proofs.Keys.{read-key}
 use Rattle.law_transcripts.proofs.Plain.{Plain}
 
 -- the act of an ask is within its limits, on a key without a line end

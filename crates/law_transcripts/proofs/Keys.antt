@@ -1,21 +1,21 @@
 -- The key of an act that is read holds no line end.
-use Rattle.std.proofs.Common.{◌≡◌, ◌≢◌, ◌==◌, ◌&&◌, ℕ, Bool, true, false, not, nat_le, nat_lt, List, [], ◌∷◌, length, Some, refl, subst, arith}
+use Rattle.std.proofs.Common.{◌≡◌, ◌≢◌, ◌==◌, ◌&&◌, ℕ, Bool, true, false, not, nat_le, nat_lt, List, [], ◌∷◌, length}
+use Rattle.std.proofs.Common.{Some, Ok, refl, subst, arith}
 use Rattle.std.proofs.lemmas.Bool.Decides.{nat_tests}
 use Rattle.std.proofs.lemmas.List.Elements.{All-cons, All-nil}
 use Rattle.std.specs.List.{list_all}
+use Rattle.std.specs.Prelude.{⊤}
+use Rattle.group_types.specs.Dimensions.{Dimensions}
 use Rattle.memc_proto.specs.Words.{is_key_word}
 use Rattle.memc_table.specs.Act.{key_of}
-use Rattle.memc_table.specs.Numeral.{number_of}
 use Rattle.memc_table.specs.declared.act.Act.{Act}
-use Rattle.memc_table.specs.declared.act.Act.TheVariants as act
-use Rattle.scenario_text.proofs.Read.{bound, mapped, passed}
-use Rattle.scenario_text.specs.Acts.{act_by, act_of, exptime_of, store_of, stored, verb_of}
-use Rattle.scenario_text.specs.Words.{key_of_word, value_of_word}
-use Rattle.scenario_text.specs.declared.read_act.Store.{Store}
-use Rattle.scenario_text.specs.declared.verb.StoreMode.{StoreMode}
-use Rattle.scenario_text.specs.declared.verb.StoreMode.TheVariants.{Set, Add, Replace}
-use Rattle.scenario_text.specs.declared.verb.Verb.{Verb}
-use Rattle.scenario_text.specs.declared.verb.Verb.TheVariants as verb
+use Rattle.scenario_text.proofs.ActWords.{key-words}
+use Rattle.scenario_text.proofs.LineWords.{ReadsLine, line_of-words}
+use Rattle.scenario_text.proofs.Read.{passed}
+use Rattle.scenario_text.specs.Meaning.{line_of}
+use Rattle.scenario_text.specs.Words.{key_of_word}
+use Rattle.scenario_text.specs.declared.line.Line.{Line}
+use Rattle.scenario_text.specs.declared.line.Line.TheVariants.{Ask}
 use Rattle.law_transcripts.proofs.Plain.{Plain}
 
 both : (a b : Bool) → (a && b) ≡ true → (a ≡ true) × (b ≡ true)
@@ -41,64 +41,14 @@ key-plain text key is =
 abbrev pub KeyOf : Act → Type 0
 KeyOf a = Plain (key_of a)
 
-as-act : (a b : Act) → a ≡ b → KeyOf a → KeyOf b
-as-act a b same h = subst KeyOf same h
+-- the key of a line's act
+abbrev pub KeyIn : Line → Type 0
+KeyIn (Ask caller p a) = KeyOf a
+KeyIn _ = ⊤
 
-stored-key : (mode : StoreMode) (key : List ℕ) (s : Store) → Plain key → KeyOf (stored mode key s)
-stored-key Set key s plain = plain
-stored-key Add key s plain = plain
-stored-key Replace key s plain = plain
+line-key : (s : Dimensions) (l : Line) → ReadsLine s l → KeyIn l
+line-key s (Ask caller p a) read = let word = key-words a read.2 in key-plain word.0 (key_of a) word.1
+line-key s l read = tt
 
-act_by-key : (v : Verb) (key : List ℕ) (words : List (List ℕ)) (a : Act) → act_by v key words ≡ Some a → KeyOf a
-unfolding act_by
-act_by-key verb.Get key [] a is = let k = mapped act.Get (key_of_word key) a is in as-act (act.Get k.0) a k.2 (key-plain key k.0 k.1)
-act_by-key verb.Get key (w ∷ ws) a is = cc is
-act_by-key (verb.Store mode) key [] a is = cc is
-act_by-key (verb.Store mode) key (flags ∷ words) a is =
-    let k = bound (key_of_word key) _ a is in
-    let s = bound (store_of flags words) _ a k.2 in
-    as-act (stored mode k.0 s.0) a (cc s.2) (stored-key mode k.0 s.0 (key-plain key k.0 k.1))
-act_by-key verb.Cas key [] a is = cc is
-act_by-key verb.Cas key (flags ∷ []) a is = cc is
-act_by-key verb.Cas key (flags ∷ cas ∷ words) a is =
-    let k = bound (key_of_word key) _ a is in
-    let n = bound (number_of cas) _ a k.2 in
-    let s = bound (store_of flags words) _ a n.2 in
-    as-act (act.Cas k.0 s.0.flags s.0.expiry n.0 s.0.value) a (cc s.2) (key-plain key k.0 k.1)
-act_by-key verb.Delete key [] a is = let k = mapped act.Delete (key_of_word key) a is in as-act (act.Delete k.0) a k.2 (key-plain key k.0 k.1)
-act_by-key verb.Delete key (w ∷ ws) a is = cc is
-act_by-key verb.Touch key [] a is = cc is
-act_by-key verb.Touch key (w ∷ []) a is =
-    let k = bound (key_of_word key) _ a is in
-    let e = bound (exptime_of (w ∷ [])) _ a k.2 in
-    as-act (act.Touch k.0 e.0) a (cc e.2) (key-plain key k.0 k.1)
-act_by-key verb.Touch key (w ∷ x ∷ ws) a is = cc is
-act_by-key verb.Append key [] a is = cc is
-act_by-key verb.Append key (w ∷ []) a is =
-    let k = bound (key_of_word key) _ a is in
-    let v = bound (value_of_word w) _ a k.2 in
-    as-act (act.Append k.0 v.0) a (cc v.2) (key-plain key k.0 k.1)
-act_by-key verb.Append key (w ∷ x ∷ ws) a is = cc is
-act_by-key verb.Prepend key [] a is = cc is
-act_by-key verb.Prepend key (w ∷ []) a is =
-    let k = bound (key_of_word key) _ a is in
-    let v = bound (value_of_word w) _ a k.2 in
-    as-act (act.Prepend k.0 v.0) a (cc v.2) (key-plain key k.0 k.1)
-act_by-key verb.Prepend key (w ∷ x ∷ ws) a is = cc is
-act_by-key verb.Incr key [] a is = cc is
-act_by-key verb.Incr key (w ∷ []) a is =
-    let k = bound (key_of_word key) _ a is in
-    let n = bound (number_of w) _ a k.2 in
-    as-act (act.Incr k.0 n.0) a (cc n.2) (key-plain key k.0 k.1)
-act_by-key verb.Incr key (w ∷ x ∷ ws) a is = cc is
-act_by-key verb.Decr key [] a is = cc is
-act_by-key verb.Decr key (w ∷ []) a is =
-    let k = bound (key_of_word key) _ a is in
-    let n = bound (number_of w) _ a k.2 in
-    as-act (act.Decr k.0 n.0) a (cc n.2) (key-plain key k.0 k.1)
-act_by-key verb.Decr key (w ∷ x ∷ ws) a is = cc is
-
-pub act-key : (words : List (List ℕ)) (a : Act) → act_of words ≡ Some a → KeyOf a
-act-key [] a is = cc is
-act-key (name ∷ []) a is = cc is
-act-key (name ∷ key ∷ words) a is = let v = bound (verb_of name) _ a is in act_by-key v.0 key words a v.2
+pub read-key : (s : Dimensions) (line : List ℕ) (l : Line) → line_of (Some s) line ≡ Ok l → KeyIn l
+read-key s line l is = line-key s l (line_of-words s line l is)

@@ -7,7 +7,6 @@ pub mod Deliveries
 pub mod Few
 pub mod Half
 pub mod Joining
-pub mod KeyLines
 pub mod Keys
 pub mod Latest
 pub mod Lines

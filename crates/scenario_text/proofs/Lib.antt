@@ -1,3 +1,5 @@
+pub mod ActWords
+pub mod LineWords
 pub mod Limits
 pub mod Lines
 mod Placing

@@ -1,26 +1,19 @@
 -- The value of an op that is read consists of bytes.
-use Rattle.std.proofs.Common.{◌≡◌, inl, inr, ◌+◌, ◌^◌, ◌<◌, ◌==◌, ℕ, zero, suc, nat_lt, nat_le, List, [], ◌∷◌, All}
-use Rattle.std.proofs.Common.{length, replicate, codes, Option, Some, None, Result, Ok, Err, subst, ap}
+use Rattle.std.proofs.Common.{◌≡◌, inl, inr, ◌+◌, ◌<◌, ◌==◌, ℕ, zero, suc, nat_lt, nat_le, List, [], ◌∷◌, All}
+use Rattle.std.proofs.Common.{length, replicate, codes, Option, Some, None, Result, Ok, Err, subst}
 use Rattle.std.proofs.lemmas.List.Elements.{All-nil, All-cons}
 use Rattle.std.specs.List.{slice_split}
 use Rattle.std.specs.Result.{result_ok}
 use Rattle.std.specs.Str.{bytes_eq}
 use Rattle.hex.proofs.HexLemmas.{decode_of-ok}
 use Rattle.hex.specs.Hex.{IsBytes, decode_of}
-use Rattle.memc_proto.specs.Words.{signed_of}
 use Rattle.memc_table.specs.Act.{value_of}
-use Rattle.memc_table.specs.Numeral.{number_of}
 use Rattle.memc_table.specs.Ruling.{longest_value}
 use Rattle.memc_table.specs.declared.act.Act.{Act}
 use Rattle.memc_table.specs.declared.act.Act.TheVariants as act
-use Rattle.scenario_text.proofs.Read.{bound, mapped, chosen, passed}
-use Rattle.scenario_text.specs.Acts.{act_of, act_by, stored, store_of, exptime_of, verb_of}
-use Rattle.scenario_text.specs.Words.{number_below, hex_value, if_short, bytes_of, repeated, key_of_word, value_of_word}
-use Rattle.scenario_text.specs.declared.read_act.Store.{Store}
-use Rattle.scenario_text.specs.declared.verb.StoreMode.{StoreMode}
-use Rattle.scenario_text.specs.declared.verb.StoreMode.TheVariants.{Set, Add, Replace}
-use Rattle.scenario_text.specs.declared.verb.Verb.{Verb}
-use Rattle.scenario_text.specs.declared.verb.Verb.TheVariants as verb
+use Rattle.scenario_text.proofs.ActWords.{ReadsAct, ReadsValue}
+use Rattle.scenario_text.proofs.Read.{bound, chosen, passed}
+use Rattle.scenario_text.specs.Words.{number_below, hex_value, if_short, bytes_of, repeated, value_of_word}
 
 abbrev pub AreBytes : List ℕ → Type 0
 AreBytes bytes = All (λ b. b < 256) bytes
@@ -74,76 +67,15 @@ value_of_word-bytes (b ∷ bs) value is = elim (chosen (bytes_eq (b ∷ bs) (cod
   ]
 ]
 
-store_of-bytes : (flags : List ℕ) (words : List (List ℕ)) (s : Store) → store_of flags words ≡ Some s → AreBytes s.value
-unfolding store_of
-store_of-bytes flags [] s is = cc is
-store_of-bytes flags (value ∷ exptime) s is =
-    let f = bound (number_below (2 ^ 32) flags) _ s is in
-    let v = bound (value_of_word value) _ s f.2 in
-    let e = bound (exptime_of exptime) _ s v.2 in
-    let same : record { flags = f.0; expiry = e.0; value = v.0 } ≡ s = cc e.2 in
-    subst AreBytes (ap (λ (x : Store). x.value) same) (value_of_word-bytes value v.0 v.1)
-
--- the value of an act that is another
-moved : (a b : Act) → a ≡ b → AreBytes (value_of a) → AreBytes (value_of b)
-moved a b same h = subst (λ (x : Act). AreBytes (value_of x)) same h
-
-stored-bytes : (mode : StoreMode) (key : List ℕ) (s : Store) → AreBytes s.value → AreBytes (value_of (stored mode key s))
-stored-bytes Set key s h = h
-stored-bytes Add key s h = h
-stored-bytes Replace key s h = h
-
-act_by-bytes : (v : Verb) (key : List ℕ) (words : List (List ℕ)) (a : Act) → act_by v key words ≡ Some a → AreBytes (value_of a)
-unfolding act_by
-act_by-bytes verb.Get key [] a is = let k = mapped act.Get (key_of_word key) a is in moved (act.Get k.0) a k.2 none
-act_by-bytes verb.Get key (w ∷ ws) a is = cc is
-act_by-bytes (verb.Store mode) key [] a is = cc is
-act_by-bytes (verb.Store mode) key (flags ∷ words) a is =
-    let k = bound (key_of_word key) _ a is in
-    let s = bound (store_of flags words) _ a k.2 in
-    moved (stored mode k.0 s.0) a (cc s.2) (stored-bytes mode k.0 s.0 (store_of-bytes flags words s.0 s.1))
-act_by-bytes verb.Cas key [] a is = cc is
-act_by-bytes verb.Cas key (flags ∷ []) a is = cc is
-act_by-bytes verb.Cas key (flags ∷ cas ∷ words) a is =
-    let k = bound (key_of_word key) _ a is in
-    let n = bound (number_of cas) _ a k.2 in
-    let s = bound (store_of flags words) _ a n.2 in
-    moved (act.Cas k.0 s.0.flags s.0.expiry n.0 s.0.value) a (cc s.2) (store_of-bytes flags words s.0 s.1)
-act_by-bytes verb.Delete key [] a is = let k = mapped act.Delete (key_of_word key) a is in moved (act.Delete k.0) a k.2 none
-act_by-bytes verb.Delete key (w ∷ ws) a is = cc is
-act_by-bytes verb.Touch key [] a is = cc is
-act_by-bytes verb.Touch key (w ∷ []) a is =
-    let k = bound (key_of_word key) _ a is in
-    let e = bound (signed_of w) _ a k.2 in
-    moved (act.Touch k.0 e.0) a (cc e.2) none
-act_by-bytes verb.Touch key (w ∷ x ∷ ws) a is = cc is
-act_by-bytes verb.Append key [] a is = cc is
-act_by-bytes verb.Append key (w ∷ []) a is =
-    let k = bound (key_of_word key) _ a is in
-    let v = bound (value_of_word w) _ a k.2 in
-    moved (act.Append k.0 v.0) a (cc v.2) (value_of_word-bytes w v.0 v.1)
-act_by-bytes verb.Append key (w ∷ x ∷ ws) a is = cc is
-act_by-bytes verb.Prepend key [] a is = cc is
-act_by-bytes verb.Prepend key (w ∷ []) a is =
-    let k = bound (key_of_word key) _ a is in
-    let v = bound (value_of_word w) _ a k.2 in
-    moved (act.Prepend k.0 v.0) a (cc v.2) (value_of_word-bytes w v.0 v.1)
-act_by-bytes verb.Prepend key (w ∷ x ∷ ws) a is = cc is
-act_by-bytes verb.Incr key [] a is = cc is
-act_by-bytes verb.Incr key (w ∷ []) a is =
-    let k = bound (key_of_word key) _ a is in
-    let n = bound (number_of w) _ a k.2 in
-    moved (act.Incr k.0 n.0) a (cc n.2) none
-act_by-bytes verb.Incr key (w ∷ x ∷ ws) a is = cc is
-act_by-bytes verb.Decr key [] a is = cc is
-act_by-bytes verb.Decr key (w ∷ []) a is =
-    let k = bound (key_of_word key) _ a is in
-    let n = bound (number_of w) _ a k.2 in
-    moved (act.Decr k.0 n.0) a (cc n.2) none
-act_by-bytes verb.Decr key (w ∷ x ∷ ws) a is = cc is
+value-bytes : (value : List ℕ) → ReadsValue value → AreBytes value
+value-bytes value read = value_of_word-bytes read.0 value read.1
 
 -- the value of an op that is read consists of bytes
-pub act_of-bytes : (words : List (List ℕ)) (a : Act) → act_of words ≡ Some a → AreBytes (value_of a)
-act_of-bytes [] a is = cc is
-act_of-bytes (name ∷ []) a is = cc is
-act_of-bytes (name ∷ key ∷ words) a is = let v = bound (verb_of name) _ a is in act_by-bytes v.0 key words a v.2
+pub act-bytes : (a : Act) → ReadsAct a → AreBytes (value_of a)
+act-bytes (act.Set key flags expiry value) read = value-bytes value read.1.valued
+act-bytes (act.Add key flags expiry value) read = value-bytes value read.1.valued
+act-bytes (act.Replace key flags expiry value) read = value-bytes value read.1.valued
+act-bytes (act.Cas key flags expiry cas value) read = value-bytes value read.1.valued
+act-bytes (act.Append key value) read = value-bytes value read.1
+act-bytes (act.Prepend key value) read = value-bytes value read.1
+act-bytes a read = none
