@@ -8,8 +8,9 @@ trap 'rm -rf "$work"' EXIT
 sh "$top/bench/stand" "$work" gateway_times
 sh "$top/bench/optimised" "$work/kit"
 (cd "$work/crates/gateway_times" && "$work/kit/bin/rt" try --steps 1 --seconds 1800 -- "${RUNS:-101}" "${CALLS:-160}" > "$work/times.txt" 2> "$work/log.txt") || { tail -20 "$work/log.txt"; exit 1; }
-echo "ns a call of 16 under way together, the least and the median of all runs: a set of 100 bytes, with the turns of all six gateways that it"
-echo "takes, its frames alone, written, carried and read, and the same by members; a get likewise; and what a gateway adds, by the least"
+echo "ns a call of 16 under way together, the least and the median of all runs: a set of 100 bytes, with the turns that it takes of all gateways"
+echo "to which something comes, the frames of these turns alone, written, carried and read, and the same by members; a get likewise; and what a"
+echo "gateway adds, by the least"
 awk 'BEGIN { split("set,its frames,by members,get,its frames,by members", name, ",") }
     NF == 2 { printf "%15s %6d %6d\n", name[NR], $1, $2; least[NR] = $1 }
     END { printf "a set %d more, a get %d\n", least[1] - least[2] - least[3], least[4] - least[5] - least[6] }' "$work/times.txt"
