@@ -22,6 +22,7 @@ ROOTS = [
     ("What `run_words` says, beside these", [("group_program", "Run", "HasExited"), ("group_program", "Arguments", "words_behind"), ("group_program", "Arguments", "lacks_memory")]),
     ("What a client is written at a port, beside these", [("ready_client", "Coming", "Comes"), ("ready_client", "Asking", "Asks")]),
     ("What a member shows its clients, beside these", [("member_runs", "Laws", "MembersShowLogged"), ("member_gateway", "Laws", "EndsAreLogged")]),
+    ("What a connection at a member is written, beside these", [("law_clients", "Laws", "WrittenInOrder")]),
 ]
 HEAD = re.compile(r"^(?:abbrev |unfoldable )?pub (?:record |data )?(\S+)|^(?:abbrev|unfoldable|record|data) (\S+)")
 WORD = re.compile(r"[A-Za-z_◌][\w◌'≟-]*")

@@ -1,0 +1,4 @@
+pub mod Growing
+pub mod Walking
+pub mod Standing
+pub mod Connecting
