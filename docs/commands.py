@@ -15,7 +15,7 @@ import tempfile
 from pathlib import Path
 
 TOP = Path(__file__).resolve().parent.parent
-RUN = r"\ntwo dead: 300 values are right at each of 4 members\n.*\nset anew with two dead: 300 values are right at each of 4 members\n.*\ball right\n"
+RUN = r"\ntwo dead: 300 values are right at each of 4 members\n.*\nset anew with two dead: 300 values are right at each of 4 members\n.*\nall right, after [0-9.]+ s\n"
 README = [
     ("README.md", "sh examples/machines/unproved.sh ~/cocytus", ""),
     ("README.md", "sh examples/machines/run.sh ~/cocytus/cocytus_main", RUN),
