@@ -22,16 +22,16 @@ use Rattle.group_run.specs.Leaders.{blocks_met}
 use Rattle.group_message.specs.declared.update.Body.TheVariants.{Put, Remove, Touch}
 use Rattle.group_message.specs.declared.update.Update.{Update}
 use Rattle.group_run.specs.Applying.{area_added, block_added, block_after, rebuilt_after}
-use Rattle.page_map.specs.Pages.{Contents, HasPage, PlacesOnly, SameDimensions, byte_in, byte_of, page_in}
+use Rattle.page_map.specs.Pages.{HasPage, PageContents, PlacesOnly, SameDimensions, byte_in, byte_of, page_in}
 use Rattle.erasure_code.specs.Spaces.{bytes_at}
-use Rattle.page_map.specs.Spaces.{LiesIn, bytes_of}
+use Rattle.page_map.specs.Spaces.{LiesIn, page_bytes}
 use Rattle.page_map.proofs.Spaces.{get_or-bytes_of, length-bytes_of}
 use Rattle.page_map.specs.Loans.{with_page}
 use Rattle.page_map.proofs.Places.{look_up-rewritten}
 use Rattle.page_map.proofs.Unions.{block_within, none_unless, same_or_earlier}
 use Rattle.block_sessions.specs.Rebuilt.{HoldsBlocks, byte_in_blocks, kept_unless, rebuilt_in}
 
-pub rebuilt_at : (c : Contents) (b : ℕ) → b < c.blocks → at None (rebuilt_in c) b ≡ page_in c b
+pub rebuilt_at : (c : PageContents) (b : ℕ) → b < c.blocks → at None (rebuilt_in c) b ≡ page_in c b
 rebuilt_at c b below = at-map-range None (page_in c) c.blocks 0 b below ∙ ap (page_in c) (omega arith)
 
 pub same_range : {X : Type 0} (f g : ℕ → X) (a n : ℕ) → ((b : ℕ) → a ≤ b → b < a + n → f b ≡ g b) → map f (range_with_len a n) ≡ map g (range_with_len a n)
@@ -51,7 +51,7 @@ put_range d f g a (suc n) (suc i) y below here others =
     (put_range d f g (a + 1) n i y (omega arith) (subst (λ b. g b ≡ y) place here) (λ b apart. others b (λ same. apart (same ∙ place))))
 
 -- a block that wasn't there is kept
-pub kept : (s : Dimensions) (most b : ℕ) (bytes : List ℕ) (old new : Contents) → HoldsBlocks s most old → b < s.blocks
+pub kept : (s : Dimensions) (most b : ℕ) (bytes : List ℕ) (old new : PageContents) → HoldsBlocks s most old → b < s.blocks
     → page_in old b ≡ None → PlacesOnly old new b bytes → SameDimensions old new
     → rebuilt_in new ≡ kept_unless (is_some (at None (rebuilt_in old) b)) b bytes (rebuilt_in old)
 kept s most b bytes old new holds below none placed same =
@@ -69,7 +69,7 @@ all_after s d us f g a (suc n) each =
     ap₂ (λ x xs. x ∷ xs) (each a) (all_after s d us f g (a + 1) n each ∙ ap (λ b. rebuilt_after s d us b (map f (range_with_len (a + 1) n))) (add-one a))
 
 -- what of the blocks of a range isn't there
-abbrev pub unmade : Contents → ℕ → Bool
+abbrev pub unmade : PageContents → ℕ → Bool
 unmade c b = not (is_some (at None (rebuilt_in c) b))
 
 -- a block that a run meets is one of the space
@@ -89,7 +89,7 @@ run_blocks s run first end long some is_first is_end =
     sym (ap (λ t. if t then [] else range_with_len (run.at / s.block) ((run.at + run.len - 1) / s.block - run.at / s.block + 1)) some_test
     ∙ ap₂ (λ a n. range_with_len a n) (sym is_first) (sym count))
 
-module _ (c : Contents) (b end : ℕ) where
+module _ (c : PageContents) (b end : ℕ) where
   -- the first block of the rest is there
   pub skipped : b < end → b < c.blocks → HasPage c b → find (unmade c) (range_with_len (b + 1) (end - (b + 1))) ≡ find (unmade c) (range_with_len b (end - b))
   skipped more below there =
@@ -116,7 +116,7 @@ read_at bytes i = elim (cases_lt i (length bytes)) [
 ]
 
 -- a byte of the pages is that of the rebuilt blocks
-pub byte_rebuilt : (c : Contents) (a : ℕ) → 0 < c.block → a < c.blocks * c.block → byte_in c a ≡ byte_in_blocks c.block (rebuilt_in c) a
+pub byte_rebuilt : (c : PageContents) (a : ℕ) → 0 < c.block → a < c.blocks * c.block → byte_in c a ≡ byte_in_blocks c.block (rebuilt_in c) a
 byte_rebuilt c a long below = by (page_in c (a / c.block)) ∙ ap (λ o. at 0 (unwrap_or o []) (a % c.block))
     (sym (rebuilt_at c (a / c.block) (block_within a c.blocks c.block long below)))
   where
@@ -125,22 +125,22 @@ byte_rebuilt c a long below = by (page_in c (a / c.block)) ∙ ap (λ o. at 0 (u
     by (Some bytes) = read_at bytes (a % c.block)
 
 -- the bytes of a run are those of the rebuilt blocks
-pub bytes_rebuilt : (c : Contents) (from len : ℕ) → 0 < c.block → from + len ≤ c.blocks * c.block
-    → bytes_at from len (bytes_of c) ≡ map (byte_in_blocks c.block (rebuilt_in c)) (range_with_len from len)
+pub bytes_rebuilt : (c : PageContents) (from len : ℕ) → 0 < c.block → from + len ≤ c.blocks * c.block
+    → bytes_at from len (page_bytes c) ≡ map (byte_in_blocks c.block (rebuilt_in c)) (range_with_len from len)
 bytes_rebuilt c from len long within =
     let byte : ℕ → ℕ = byte_in_blocks c.block (rebuilt_in c) in
     let all = length-bytes_of c in
-    let part = length-take len (drop from (bytes_of c)) in
-    let rest = length-drop from (bytes_of c) in
+    let part = length-take len (drop from (page_bytes c)) in
+    let rest = length-drop from (page_bytes c) in
     same_number_lists _ _ (omega (arith, length-map-range_with_len byte from len)) (λ k below.
     let inside : k < len = omega arith in
-    get_or-take len (drop from (bytes_of c)) k 0 inside
-    ∙ (get_or-drop from (bytes_of c) k 0
+    get_or-take len (drop from (page_bytes c)) k 0 inside
+    ∙ (get_or-drop from (page_bytes c) k 0
     ∙ (get_or-bytes_of c (from + k) (omega arith)
     ∙ (byte_rebuilt c (from + k) long (omega arith) ∙ sym (get_or-map-range_with_len byte from len k (from + k) 0 inside refl)))))
 
 -- a page more leaves room for one less
-pub kept_holds : (s : Dimensions) (most b : ℕ) (bytes : List ℕ) (old new : Contents) → HoldsBlocks s most old
+pub kept_holds : (s : Dimensions) (most b : ℕ) (bytes : List ℕ) (old new : PageContents) → HoldsBlocks s most old
     → length bytes ≡ s.block → PlacesOnly old new b bytes → SameDimensions old new → new.room ≡ old.room - 1
     → HoldsBlocks s (most - 1) new
 kept_holds s most b bytes old new holds whole placed same room = record {
@@ -154,22 +154,22 @@ kept_holds s most b bytes old new holds whole placed same room = record {
   ];
 }
 
-pub less_room : (s : Dimensions) (most : ℕ) (c : Contents) → HoldsBlocks s most c → HoldsBlocks s (most - 1) c
+pub less_room : (s : Dimensions) (most : ℕ) (c : PageContents) → HoldsBlocks s most c → HoldsBlocks s (most - 1) c
 less_room s most c holds = record { long = holds.long; blocks = holds.blocks; block = holds.block; room = omega (arith, holds.room); whole = holds.whole }
 
 -- a block that was there stays
-pub kept_there : (c : Contents) (b : ℕ) (bytes : List ℕ) → b < c.blocks → HasPage c b
+pub kept_there : (c : PageContents) (b : ℕ) (bytes : List ℕ) → b < c.blocks → HasPage c b
     → rebuilt_in c ≡ kept_unless (is_some (at None (rebuilt_in c) b)) b bytes (rebuilt_in c)
 kept_there c b bytes below there = sym (ap (λ t. kept_unless t b bytes (rebuilt_in c)) (ap is_some (rebuilt_at c b below) ∙ there))
 
 -- a difference is added to the pages from `first` to below `next`
-pub record AddsTo (s : Dimensions) (at : ℕ) (delta : List ℕ) (old new : Contents) (first next : ℕ) : Type 0 where
+pub record AddsTo (s : Dimensions) (at : ℕ) (delta : List ℕ) (old new : PageContents) (first next : ℕ) : Type 0 where
   pub added : (q : ℕ) → first ≤ q → q < next → page_in new q ≡ option_map (area_added (q * s.block) at delta) (page_in old q)
   pub others : (q : ℕ) → (q < first) ⊎ (next ≤ q) → page_in new q ≡ page_in old q
   pub holds : (most : ℕ) → HoldsBlocks s most old → HoldsBlocks s most new
 
 -- a page that isn't there
-pub adds_none : (s : Dimensions) (at : ℕ) (delta : List ℕ) (old now : Contents) (first next : ℕ) → first ≤ next
+pub adds_none : (s : Dimensions) (at : ℕ) (delta : List ℕ) (old now : PageContents) (first next : ℕ) → first ≤ next
     → AddsTo s at delta old now first next → page_in now next ≡ None → AddsTo s at delta old now first (next + 1)
 adds_none s at delta old now first next order is none = record {
   added = λ q from below. elim (cases_eq q next) [
@@ -181,7 +181,7 @@ adds_none s at delta old now first next order is none = record {
 }
 
 -- a page that is
-pub adds_page : (s : Dimensions) (at : ℕ) (delta page bytes : List ℕ) (old now : Contents) (first next : ℕ)
+pub adds_page : (s : Dimensions) (at : ℕ) (delta page bytes : List ℕ) (old now : PageContents) (first next : ℕ)
     → first ≤ next → AddsTo s at delta old now first next → page_in now next ≡ Some page → length page ≡ s.block
     → length bytes ≡ length page → bytes ≡ area_added (next * s.block) at delta page → AddsTo s at delta old (with_page now next bytes) first (next + 1)
 adds_page s at delta page bytes old now first next order is there whole long sum = record {
@@ -221,7 +221,7 @@ empty_added from at delta None none = refl
 empty_added from at delta (Some bytes) none = ap Some (sym (area_empty from at delta bytes none))
 
 -- all the pages that it meets are changed
-pub added_all : (s : Dimensions) (at : ℕ) (delta : List ℕ) (old new : Contents) (first next : ℕ) → HoldsBlocks s 0 old
+pub added_all : (s : Dimensions) (at : ℕ) (delta : List ℕ) (old new : PageContents) (first next : ℕ) → HoldsBlocks s 0 old
     → AddsTo s at delta old new first next → 1 ≤ length delta → first ≡ at / s.block
     → (at + length delta - 1) / s.block + 1 ≤ next
     → (q : ℕ) → page_in new q ≡ option_map (area_added (q * s.block) at delta) (page_in old q)
@@ -241,8 +241,8 @@ added_all s at delta old new first next holds is some is_first is_last q =
       ]
     ]
 
-pub run_rebuilt : (s : Dimensions) (c : Contents) (run : Run) → HoldsBlocks s 0 c → LiesIn run s
-    → bytes_at run.at run.len (bytes_of c) ≡ map (byte_in_blocks s.block (rebuilt_in c)) (range_with_len run.at run.len)
+pub run_rebuilt : (s : Dimensions) (c : PageContents) (run : Run) → HoldsBlocks s 0 c → LiesIn run s
+    → bytes_at run.at run.len (page_bytes c) ≡ map (byte_in_blocks s.block (rebuilt_in c)) (range_with_len run.at run.len)
 run_rebuilt s c run holds within =
     let area : c.blocks * c.block ≡ s.blocks * s.block = ap₂ (λ x y. x * y) holds.blocks holds.block in
     bytes_rebuilt c run.at run.len (omega (arith, holds.long, holds.block)) (omega (arith, area, within))
@@ -250,7 +250,7 @@ run_rebuilt s c run holds within =
 
 -- the blocks after an update that puts, and after others
 pub put_blocks : (s : Dimensions) (d : ℕ) (u : Update) (flags : ℕ) (until : Option ℕ) (run : Run) (delta : List ℕ)
-    (old new : Contents) → u.body ≡ Put flags until run delta → new.blocks ≡ old.blocks
+    (old new : PageContents) → u.body ≡ Put flags until run delta → new.blocks ≡ old.blocks
     → ((b : ℕ) → page_in new b ≡ option_map (area_added (b * s.block) run.at delta) (page_in old b))
     → rebuilt_in new ≡ rebuilt_after s d (u ∷ []) 0 (rebuilt_in old)
 put_blocks s d u flags until run delta old new is same each =
@@ -262,11 +262,11 @@ unchanged : (o : Option (List ℕ)) → o ≡ option_map (λ bytes. bytes) o
 unchanged None = refl
 unchanged (Some bytes) = refl
 
-pub remove_blocks : (s : Dimensions) (d : ℕ) (u : Update) (c : Contents) → u.body ≡ Remove → rebuilt_in c ≡ rebuilt_after s d (u ∷ []) 0 (rebuilt_in c)
+pub remove_blocks : (s : Dimensions) (d : ℕ) (u : Update) (c : PageContents) → u.body ≡ Remove → rebuilt_in c ≡ rebuilt_after s d (u ∷ []) 0 (rebuilt_in c)
 remove_blocks s d u c is = all_after s d (u ∷ []) (page_in c) (page_in c) 0 c.blocks (λ b. unchanged (page_in c b)
     ∙ ap (λ body. option_map (block_added s (DataNode d) d b body) (page_in c b)) (sym is))
 
-pub touch_blocks : (s : Dimensions) (d : ℕ) (u : Update) (until : Option ℕ) (c : Contents) → u.body ≡ Touch until
+pub touch_blocks : (s : Dimensions) (d : ℕ) (u : Update) (until : Option ℕ) (c : PageContents) → u.body ≡ Touch until
     → rebuilt_in c ≡ rebuilt_after s d (u ∷ []) 0 (rebuilt_in c)
 touch_blocks s d u until c is = all_after s d (u ∷ []) (page_in c) (page_in c) 0 c.blocks (λ b. unchanged (page_in c b)
     ∙ ap (λ body. option_map (block_added s (DataNode d) d b body) (page_in c b)) (sym is))

@@ -11,12 +11,12 @@ use Rattle.std.proofs.lemmas.List.Edits.{length-remove}
 use Rattle.std.proofs.lemmas.List.Elements.{All-append, All-drop, All-set, All-take}
 use Rattle.std.proofs.lemmas.List.Quantifiers.{all_pairs_remove}
 use Rattle.group_types.specs.Dimensions.{Dimensions}
-use Rattle.page_map.specs.Pages.{Contents}
+use Rattle.page_map.specs.Pages.{PageContents}
 use Rattle.group_run.specs.Leaders.{gathered, gathered_when, is_complete, with_decoded, with_session, without_session}
 use Rattle.group_run.specs.Process.{Gathering, LeaderState}
 use Rattle.block_sessions.specs.declared.session.OpenSession.{OpenSession}
-use Rattle.block_sessions.specs.Leading.{AreParts, AreSessions, Leading, holding, state_of}
-use Rattle.block_sessions.specs.Opened.{IsOpen, gathering_of}
+use Rattle.block_sessions.specs.Leading.{AreParts, AreSessions, Leading, holding, leader_state_of}
+use Rattle.block_sessions.specs.Opened.{IsSessionOf, gathering_of}
 use Rattle.block_sessions.specs.Rebuilt.{AreRebuilt, rebuilt_in}
 use Rattle.block_sessions.proofs.Places.{only_removed, only_replaced}
 
@@ -24,8 +24,8 @@ abbrev number_of : Gathering → ℕ
 number_of g = g.number
 
 -- a place of what the machine has
-pub inside : {l : Leading} {s : Dimensions} {sessions : List OpenSession} {last place : ℕ} {pages : List Contents}
-    → record { shape = s; state = state_of sessions last pages } ≡ l
+pub inside : {l : Leading} {s : Dimensions} {sessions : List OpenSession} {last place : ℕ} {pages : List PageContents}
+    → record { shape = s; state = leader_state_of sessions last pages } ≡ l
     → AreParts s sessions last pages → place < length l.state.sessions → place < length sessions
 inside {l} {s} {sessions} view parts within = omega (arith, within, length-map sessions gathering_of, ap (λ (m : Leading). length m.state.sessions) view)
 
@@ -63,44 +63,44 @@ module _ (sessions : List OpenSession) (place : ℕ) (x : OpenSession) (below : 
       ∙ (ap₂ (λ xs ys. xs ++ ys) (sym (take-map gathering_of place sessions)) (sym (drop-map gathering_of (suc place) sessions))
       ∙ only_removed number_of x.number (gathering_of x) (map gathering_of sessions) place below_map same_there others_differ)
 
-  module _ (s : Dimensions) (last : ℕ) (pages : List Contents) (g : Gathering) where
+  module _ (s : Dimensions) (last : ℕ) (pages : List PageContents) (g : Gathering) where
     there_is : gathering_of x ≡ get_or (map gathering_of sessions) place g
     there_is = ap gathering_of is ∙ sym (get_or-map gathering_of sessions place x g below)
 
     -- a session that is as it was, and waits on
-    pub waits_on : is_complete s (gathering_of x) ≡ false → state_of sessions last pages
-        ≡ gathered s (get_or (map gathering_of sessions) place g) (state_of sessions last pages)
+    pub waits_on : is_complete s (gathering_of x) ≡ false → leader_state_of sessions last pages
+        ≡ gathered s (get_or (map gathering_of sessions) place g) (leader_state_of sessions last pages)
     waits_on waits =
-        sym (ap (λ t. gathered_when t s (gathering_of x) (state_of sessions last pages)) waits
+        sym (ap (λ t. gathered_when t s (gathering_of x) (leader_state_of sessions last pages)) waits
         ∙ ap (λ (gs : List Gathering). record { sessions = gs; last_session = last; rebuilt = map rebuilt_in pages })
         (sym (session_set x refl) ∙ ap (map gathering_of) (ap (set sessions place) is ∙ set-get_or sessions place x)))
-        ∙ ap (λ (y : Gathering). gathered s y (state_of sessions last pages)) there_is
+        ∙ ap (λ (y : Gathering). gathered s y (leader_state_of sessions last pages)) there_is
 
     -- one that is closed
-    pub closes : (new : List Contents) → is_complete s (gathering_of x) ≡ true
+    pub closes : (new : List PageContents) → is_complete s (gathering_of x) ≡ true
         → ((state : LeaderState) → holding new state ≡ with_decoded s (gathering_of x) x.lost.items
         (holding pages state))
-        → state_of (remove sessions place) last new ≡ gathered s (get_or (map gathering_of sessions) place g) (state_of sessions last pages)
+        → leader_state_of (remove sessions place) last new ≡ gathered s (get_or (map gathering_of sessions) place g) (leader_state_of sessions last pages)
     closes new complete kept =
-        kept (state_of (remove sessions place) last pages)
+        kept (leader_state_of (remove sessions place) last pages)
         ∙ (ap (λ (gs : List Gathering). with_decoded s (gathering_of x) x.lost.items
         (record { sessions = gs; last_session = last; rebuilt = map rebuilt_in pages })) session_removed
-        ∙ (sym (ap (λ t. gathered_when t s (gathering_of x) (state_of sessions last pages)) complete)
-        ∙ ap (λ (y : Gathering). gathered s y (state_of sessions last pages)) there_is))
+        ∙ (sym (ap (λ t. gathered_when t s (gathering_of x) (leader_state_of sessions last pages)) complete)
+        ∙ ap (λ (y : Gathering). gathered s y (leader_state_of sessions last pages)) there_is))
 
 -- the sessions without one
 pub sessions_without : (s : Dimensions) (last : ℕ) (sessions : List OpenSession) (place : ℕ) → place < length sessions
     → AreSessions s last sessions → AreSessions s last (remove sessions place)
 sessions_without s last sessions place below is = record {
-  each = All-append (IsOpen s) (take place sessions) (drop (suc place) sessions)
-      (All-take (IsOpen s) place sessions is.each) (All-drop (IsOpen s) (suc place) sessions is.each);
+  each = All-append (IsSessionOf s) (take place sessions) (drop (suc place) sessions)
+      (All-take (IsSessionOf s) place sessions is.each) (All-drop (IsSessionOf s) (suc place) sessions is.each);
   rising = all_pairs_remove (λ (g h : OpenSession). g.number < h.number) sessions place below is.rising;
   numbered = All-append (λ (g : OpenSession). g.number ≤ last) (take place sessions) (drop (suc place) sessions)
       (All-take (λ (g : OpenSession). g.number ≤ last) place sessions is.numbered)
       (All-drop (λ (g : OpenSession). g.number ≤ last) (suc place) sessions is.numbered);
 }
 
-pub parts_without : (s : Dimensions) (last : ℕ) (sessions : List OpenSession) (pages new : List Contents) (place : ℕ)
+pub parts_without : (s : Dimensions) (last : ℕ) (sessions : List OpenSession) (pages new : List PageContents) (place : ℕ)
     → place < length sessions → AreParts s sessions last pages
     → ((most : ℕ) → AreRebuilt s most pages → AreRebuilt s (most - 1) new) → AreParts s (remove sessions place) last new
 parts_without s last sessions pages new place below is rebuilt = record {
@@ -110,10 +110,10 @@ parts_without s last sessions pages new place below is rebuilt = record {
 
 -- a session with more in
 module _ (s : Dimensions) (sessions : List OpenSession) (place : ℕ) (g : OpenSession) (d : OpenSession) (below : place < length sessions) where
-  pub sessions_with : (last : ℕ) → AreSessions s last sessions → IsOpen s g
+  pub sessions_with : (last : ℕ) → AreSessions s last sessions → IsSessionOf s g
       → g.number ≡ (get_or sessions place d).number → AreSessions s last (set sessions place g)
   sessions_with last is sound same = record {
-    each = All-set (IsOpen s) sessions place g sound is.each;
+    each = All-set (IsSessionOf s) sessions place g sound is.each;
     rising = λ i j e lt under. rises i j e lt (omega (arith, length-set sessions place g));
     numbered = All-set (λ (x : OpenSession). x.number ≤ last) sessions place g (omega (arith, same, is.numbered place d below)) is.numbered;
   }

@@ -9,12 +9,12 @@ use Rattle.std.proofs.lemmas.List.{get_or-map, get_or-set_same, length-map, leng
 use Rattle.std.proofs.lemmas.List.Folds.{find_at}
 use Rattle.std.proofs.lemmas.Option.{slice_get-get_or, slice_get_past}
 use Rattle.group_types.specs.Dimensions.{Dimensions}
-use Rattle.page_map.specs.Pages.{Contents}
+use Rattle.page_map.specs.Pages.{PageContents}
 use Rattle.group_run.specs.Leaders.{gathered}
 use Rattle.group_run.specs.Process.{Gathering}
 use Rattle.block_sessions.specs.declared.session.OpenSession.{OpenSession}
-use Rattle.block_sessions.specs.Leading.{AreParts, Leading, state_of}
-use Rattle.block_sessions.specs.Opened.{IsOpen, gathering_of}
+use Rattle.block_sessions.specs.Leading.{AreParts, Leading, leader_state_of}
+use Rattle.block_sessions.specs.Opened.{IsSessionOf, gathering_of}
 use Rattle.block_sessions.specs.Rebuilt.{AreRebuilt, rebuilt_in}
 use Rattle.block_sessions.proofs.Closing.{gathered_twice, inside, session_set, sessions_with}
 
@@ -40,14 +40,14 @@ found_at number sessions =
     ])
 
 -- an open session, which stands at a place of what a leader keeps
-module _ {l : Leading} {s : Dimensions} {last place : ℕ} {sessions : List OpenSession} {pages : List Contents} {x : OpenSession}
-    (view : record { shape = s; state = state_of sessions last pages } ≡ l) (parts : AreParts s sessions last pages)
+module _ {l : Leading} {s : Dimensions} {last place : ℕ} {sessions : List OpenSession} {pages : List PageContents} {x : OpenSession}
+    (view : record { shape = s; state = leader_state_of sessions last pages } ≡ l) (parts : AreParts s sessions last pages)
     (within : place < length l.state.sessions) (is : x ≡ get_or sessions place x) where
   below : place < length sessions
   below = inside view parts within
 
-  pub sound_there : IsOpen s x
-  sound_there = subst (IsOpen s) (sym is) (parts.opened.each place x below)
+  pub sound_there : IsSessionOf s x
+  sound_there = subst (IsSessionOf s) (sym is) (parts.opened.each place x below)
 
   pub open_is : slice_get l.state.sessions place ≡ Some (gathering_of x)
   open_is =
@@ -61,19 +61,19 @@ module _ {l : Leading} {s : Dimensions} {last place : ℕ} {sessions : List Open
     alike : g.number ≡ x.number
     alike = ap (λ (y : Gathering). y.number) becomes ∙ same
 
-    pub parts_more : ((t : Dimensions) → IsOpen t x → IsOpen t g) → AreParts s (set sessions place g) last pages
+    pub parts_more : ((t : Dimensions) → IsSessionOf t x → IsSessionOf t g) → AreParts s (set sessions place g) last pages
     parts_more sound = record {
       opened = sessions_with s sessions place g x below last parts.opened (sound s sound_there) (alike ∙ ap (λ (y : OpenSession). y.number) is);
       rebuilt = subst (λ n. AreRebuilt s n pages) (sym (length-set sessions place g)) parts.rebuilt;
     }
 
     pub gathered_more : gathered s (get_or (map gathering_of (set sessions place g)) place (gathering_of x))
-        (state_of (set sessions place g) last pages) ≡ gathered l.shape more l.state
+        (leader_state_of (set sessions place g) last pages) ≡ gathered l.shape more l.state
     gathered_more =
         ap₂ (λ (y : Gathering) (gs : List Gathering). gathered s y (record { sessions = gs; last_session = last; rebuilt = map rebuilt_in pages }))
         (get_or-map gathering_of (set sessions place g) place x (gathering_of x)
         (omega (arith, below, length-set sessions place g))
         ∙ ap gathering_of (get_or-set_same sessions place g x below))
         (session_set sessions place x below is parts.opened.rising g alike)
-        ∙ (gathered_twice s (gathering_of g) (state_of sessions last pages)
+        ∙ (gathered_twice s (gathering_of g) (leader_state_of sessions last pages)
         ∙ ap₂ (λ (m : Leading) (y : Gathering). gathered m.shape y m.state) view becomes)

@@ -12,7 +12,7 @@ use Rattle.group_types.specs.Lists.{at, put}
 use Rattle.group_types.specs.Pieces.{bytes_of, numbers_of, place_of, without}
 use Rattle.group_types.specs.declared.piece_list.Piece.{Piece}
 use Rattle.group_types.proofs.Lists.{put-at}
-use Rattle.page_map.specs.Pages.{Contents}
+use Rattle.page_map.specs.Pages.{PageContents}
 use Rattle.group_run.specs.Leaders.{decoded_of, rebuilt_block, rebuilt_unless, with_decoded}
 use Rattle.group_run.specs.Process.{Gathering, LeaderState}
 use Rattle.block_sessions.specs.declared.session.OpenSession.{OpenSession}
@@ -22,7 +22,7 @@ use Rattle.block_sessions.specs.Rebuilt.{AreRebuilt, HoldsBlocks, kept_unless, r
 use Rattle.block_sessions.proofs.Rooms.{any_rooms, one_changed, one_of_all, rebuilt_set}
 
 -- one block kept is the machine's
-kept_one : (t : Bool) (s : Dimensions) (g : Gathering) (l : ℕ) (pages : List Contents) (old new : Contents)
+kept_one : (t : Bool) (s : Dimensions) (g : Gathering) (l : ℕ) (pages : List PageContents) (old new : PageContents)
     (state : LeaderState) → l < length pages → old ≡ get_or pages l old
     → rebuilt_in new ≡ kept_unless t g.block (decoded_of s g l) (rebuilt_in old) → holding (set pages l new) state
     ≡ rebuilt_unless t s g l (holding pages state)
@@ -36,16 +36,16 @@ kept_one false s g l pages old new state below is kept = ap (λ (blocks : List (
     (sym (one_of_all pages l old below is))))
 
 -- a loop's fact: the blocks of the first `done` lost partitions are kept, and those of the others are there
-pub record AreKept (s : Dimensions) (g : Gathering) (start now : List Contents) (out : List Piece) (done : ℕ) : Type 0 where
+pub record AreKept (s : Dimensions) (g : Gathering) (start now : List PageContents) (out : List Piece) (done : ℕ) : Type 0 where
   pub numbers : numbers_of out ≡ drop done g.lost
   pub long : (j : ℕ) → done ≤ j → j < length g.lost → length (bytes_of out (get_or g.lost j 0)) ≡ s.block
   pub decoded : (j : ℕ) → done ≤ j → j < length g.lost → bytes_of out (get_or g.lost j 0) ≡ decoded_of s g (get_or g.lost j 0)
   pub rest : (state : LeaderState) → with_decoded s g (drop done g.lost) (holding now state) ≡ with_decoded s g g.lost (holding start state)
   pub all : (most : ℕ) → AreRebuilt s most start → AreRebuilt s (most - 1) now
-  pub left : (most : ℕ) → AreRebuilt s most start → (j : ℕ) (d : Contents) → done ≤ j → j < length g.lost
+  pub left : (most : ℕ) → AreRebuilt s most start → (j : ℕ) (d : PageContents) → done ≤ j → j < length g.lost
       → HoldsBlocks s most (get_or now (get_or g.lost j 0) d)
 
-pub kept_at_first : (s : Dimensions) (g : Gathering) (start : List Contents) (out : List Piece)
+pub kept_at_first : (s : Dimensions) (g : Gathering) (start : List PageContents) (out : List Piece)
     → All (λ l. l < s.k) g.lost → IsDecoded s g out → AreKept s g start start out 0
 kept_at_first s g start out below is = record {
   numbers = is.numbers;
@@ -86,8 +86,8 @@ without_first (p ∷ ps) l ls is = record {
         ap (λ i. (get_or (p ∷ ps) i (record { number = q; bytes = [] })).bytes) place
 
 -- one more is kept
-pub kept_more : (s : Dimensions) (g : Gathering) (start now : List Contents) (out : List Piece) (done l : ℕ)
-    (old new : Contents) (bytes : List ℕ) → IsStrictlyIncreasing g.lost → done < length g.lost
+pub kept_more : (s : Dimensions) (g : Gathering) (start now : List PageContents) (out : List Piece) (done l : ℕ)
+    (old new : PageContents) (bytes : List ℕ) → IsStrictlyIncreasing g.lost → done < length g.lost
     → l ≡ get_or g.lost done 0
     → AreKept s g start now out done → l < length now → old ≡ get_or now l old → bytes ≡ bytes_of out l
     → rebuilt_in new ≡ kept_unless (is_some (at None (rebuilt_in old) g.block)) g.block bytes (rebuilt_in old)
@@ -108,7 +108,7 @@ kept_more s g start now out done l old new bytes rising less is_l is below is_ol
       ∙ (ap (λ (x : ℕ). with_decoded s g (x ∷ drop (done + 1) g.lost) (holding now state)) is_l
       ∙ (sym (at_drop_more (λ (ls : List ℕ). with_decoded s g ls (holding now state)) g.lost done 0 less) ∙ is.rest state));
   all = λ most rebuilt. rebuilt_set now l new below s (most - 1) (is.all most rebuilt) (holds most (held most rebuilt));
-  left = λ most rebuilt j d from under. subst (λ (c : Contents). HoldsBlocks s most c)
+  left = λ most rebuilt j d from under. subst (λ (c : PageContents). HoldsBlocks s most c)
       (sym (get_or-set_other now l (get_or g.lost j 0) new d (apart j from under)))
       (is.left most rebuilt j d (omega arith) under);
 }
@@ -125,11 +125,11 @@ kept_more s g start now out done l old new bytes rising less is_l is below is_ol
     decoded = is_bytes ∙ (ap (bytes_of out) is_l ∙ (is.decoded done (omega arith) less ∙ ap (decoded_of s g) (sym is_l)))
 
     held : (most : ℕ) → AreRebuilt s most start → HoldsBlocks s most old
-    held most rebuilt = subst (λ (c : Contents). HoldsBlocks s most c) (sym (is_old ∙ ap (λ i. get_or now i old) is_l))
+    held most rebuilt = subst (λ (c : PageContents). HoldsBlocks s most c) (sym (is_old ∙ ap (λ i. get_or now i old) is_l))
         (is.left most rebuilt done old (omega arith) less)
 
 -- all are kept
-pub all_kept : (s : Dimensions) (g : Gathering) (start now : List Contents) (out : List Piece) (done : ℕ)
+pub all_kept : (s : Dimensions) (g : Gathering) (start now : List PageContents) (out : List Piece) (done : ℕ)
     → length g.lost ≤ done → AreKept s g start now out done → (state : LeaderState)
     → holding now state ≡ with_decoded s g g.lost (holding start state)
 all_kept s g start now out done past is state = sym (ap (λ (ls : List ℕ). with_decoded s g ls (holding now state)) (drop_all done g.lost past)) ∙ is.rest state

@@ -19,7 +19,7 @@ use Rattle.cauchy_code.proofs.Parts.{bytes_of_back}
 use Rattle.group_types.specs.Lists.{at}
 use Rattle.group_run.specs.Leaders.{is_complete}
 use Rattle.block_sessions.specs.declared.session.OpenSession.{OpenSession}
-use Rattle.block_sessions.specs.Opened.{AreLost, IsOpen, gathering_of, known_of}
+use Rattle.block_sessions.specs.Opened.{AreLost, IsSessionOf, gathering_of, known_of}
 
 -- what is tested of those that don't pass another test
 pub all_filtered : (p q : ℕ → Bool) (xs : List ℕ) → list_all p (filter (λ x. not (q x)) xs) ≡ list_all (λ x. q x || p x) xs
@@ -169,7 +169,7 @@ decoded_long k m n lost rows known pieces out below numbers out_numbers agree i 
     ∙ agree.long l [] (omega (arith, length-map-range_with_len (bytes_of (pieces ++ out)) 0 k))
 
 -- whether all is in, by what is awaited
-pub complete_is : (s : Dimensions) (g : OpenSession) → IsOpen s g
+pub complete_is : (s : Dimensions) (g : OpenSession) → IsSessionOf s g
     → (list_all (λ n. is_some (at None g.known.parts n)) g.known.numbers && list_all
     (λ n. is_some (at None g.coded.parts n)) g.coded.numbers) ≡ is_complete s (gathering_of g)
 complete_is s g sound = ap (λ t. t && list_all (λ n. is_some (at None g.coded.parts n)) g.coded.numbers)

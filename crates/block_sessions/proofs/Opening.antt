@@ -4,22 +4,22 @@ use Rattle.std.proofs.lemmas.List.{length_push, map_push}
 use Rattle.std.proofs.lemmas.List.Elements.{All-push, All-weaker}
 use Rattle.std.proofs.lemmas.List.Quantifiers.{all_pairs_push}
 use Rattle.group_types.specs.Dimensions.{Dimensions}
-use Rattle.page_map.specs.Pages.{Contents}
+use Rattle.page_map.specs.Pages.{PageContents}
 use Rattle.group_run.specs.Process.{Gathering}
 use Rattle.block_sessions.specs.declared.session.OpenSession.{OpenSession}
-use Rattle.block_sessions.specs.Leading.{AreParts, started, state_of}
-use Rattle.block_sessions.specs.Opened.{IsOpen, gathering_of, new_session}
+use Rattle.block_sessions.specs.Leading.{AreParts, leader_state_of, started}
+use Rattle.block_sessions.specs.Opened.{IsSessionOf, blank_session, gathering_of}
 use Rattle.block_sessions.specs.Rebuilt.{AreRebuilt, rebuilt_in}
 
-module _ (s : Dimensions) (last : ℕ) (sessions : List OpenSession) (pages new : List Contents) (g : OpenSession)
-    (block : ℕ) (lost rows : List ℕ) (is : gathering_of g ≡ new_session s (last + 1) block lost rows) where
+module _ (s : Dimensions) (last : ℕ) (sessions : List OpenSession) (pages new : List PageContents) (g : OpenSession)
+    (block : ℕ) (lost rows : List ℕ) (is : gathering_of g ≡ blank_session s (last + 1) block lost rows) where
   numbered : g.number ≡ last + 1
   numbered = ap (λ (x : Gathering). x.number) is
 
-  pub parts_with : AreParts s sessions last pages → IsOpen s g → AreRebuilt s (length sessions + 1) new → AreParts s (sessions ++ g ∷ []) (last + 1) new
+  pub parts_with : AreParts s sessions last pages → IsSessionOf s g → AreRebuilt s (length sessions + 1) new → AreParts s (sessions ++ g ∷ []) (last + 1) new
   parts_with parts sound rebuilt = record {
     opened = record {
-      each = All-push (IsOpen s) sessions g parts.opened.each sound;
+      each = All-push (IsSessionOf s) sessions g parts.opened.each sound;
       rising = all_pairs_push (λ (x y : OpenSession). x.number < y.number) sessions g parts.opened.rising
           (λ k d less. omega (arith, parts.opened.numbered k d less, numbered));
       numbered = All-push (λ (x : OpenSession). x.number ≤ last + 1) sessions g
@@ -29,13 +29,13 @@ module _ (s : Dimensions) (last : ℕ) (sessions : List OpenSession) (pages new 
     rebuilt = subst (λ n. AreRebuilt s n new) (sym (length_push sessions g)) rebuilt;
   }
 
-  pub state_with : map rebuilt_in new ≡ map rebuilt_in pages → state_of (sessions ++ g ∷ []) (last + 1) new
-      ≡ started s block lost rows (state_of sessions last pages)
+  pub state_with : map rebuilt_in new ≡ map rebuilt_in pages → leader_state_of (sessions ++ g ∷ []) (last + 1) new
+      ≡ started s block lost rows (leader_state_of sessions last pages)
   state_with same =
       ap₂ (λ gs blocks. record { sessions = gs; last_session = last + 1; rebuilt = blocks })
       (map_push gathering_of sessions g ∙ ap (λ x. map gathering_of sessions ++ x ∷ []) is) same
       ∙ ap (λ n. record {
-        sessions = map gathering_of sessions ++ new_session s n block lost rows ∷ [];
+        sessions = map gathering_of sessions ++ blank_session s n block lost rows ∷ [];
         last_session = n;
         rebuilt = map rebuilt_in pages;
       }) (add-one last)

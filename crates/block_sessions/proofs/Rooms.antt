@@ -9,17 +9,17 @@ use Rattle.std.proofs.lemmas.List.Elements.{All-append, All-drop, All-map, All-r
 use Rattle.group_types.specs.Dimensions.{Dimensions}
 use Rattle.group_types.specs.Lists.{at, put}
 use Rattle.group_types.proofs.Lists.{at-map, at_index, set_put}
-use Rattle.page_map.specs.Pages.{Contents, no_pages, page_in}
+use Rattle.page_map.specs.Pages.{PageContents, no_pages, page_in}
 use Rattle.block_sessions.specs.declared.session.OpenSession.{OpenSession}
 use Rattle.block_sessions.specs.Opened.{gathering_of}
 use Rattle.block_sessions.specs.Rebuilt.{AreRebuilt, HoldsBlocks, rebuilt_in}
 use Rattle.block_sessions.proofs.Arrived.{all_none}
 
 -- pages with room for at least so many more
-abbrev pub with_room : ℕ → Contents → Contents
+abbrev pub with_room : ℕ → PageContents → PageContents
 with_room count c = record c { room = max c.room count }
 
-pub any_room : (s : Dimensions) (most less : ℕ) (c : Contents) → less ≤ most → HoldsBlocks s most c → HoldsBlocks s less c
+pub any_room : (s : Dimensions) (most less : ℕ) (c : PageContents) → less ≤ most → HoldsBlocks s most c → HoldsBlocks s less c
 any_room s most less c le holds = record {
   long = holds.long;
   blocks = holds.blocks;
@@ -28,7 +28,7 @@ any_room s most less c le holds = record {
   whole = holds.whole;
 }
 
-pub any_rooms : (s : Dimensions) (most less : ℕ) (pages : List Contents) → less ≤ most → AreRebuilt s most pages → AreRebuilt s less pages
+pub any_rooms : (s : Dimensions) (most less : ℕ) (pages : List PageContents) → less ≤ most → AreRebuilt s most pages → AreRebuilt s less pages
 any_rooms s most less pages le is =
     record {
       all = is.all;
@@ -36,7 +36,7 @@ any_rooms s most less pages le is =
           (λ c holds. any_room s most less c le holds) pages is.each;
     }
 
-roomy_holds : (s : Dimensions) (most count : ℕ) (c : Contents) → HoldsBlocks s most c → HoldsBlocks s most (with_room count c)
+roomy_holds : (s : Dimensions) (most count : ℕ) (c : PageContents) → HoldsBlocks s most c → HoldsBlocks s most (with_room count c)
 roomy_holds s most count c holds = record {
   long = holds.long;
   blocks = holds.blocks;
@@ -45,17 +45,17 @@ roomy_holds s most count c holds = record {
   whole = holds.whole;
 }
 
-room_made : (s : Dimensions) (most count : ℕ) (c : Contents) → most ≤ count → HoldsBlocks s 0 c → HoldsBlocks s most (with_room count c)
+room_made : (s : Dimensions) (most count : ℕ) (c : PageContents) → most ≤ count → HoldsBlocks s 0 c → HoldsBlocks s most (with_room count c)
 room_made s most count c le holds = record { long = holds.long; blocks = holds.blocks; block = holds.block; room = omega (arith, le); whole = holds.whole }
 
-same_blocks : (count : ℕ) (pages : List Contents) → map rebuilt_in (map (with_room count) pages) ≡ map rebuilt_in pages
+same_blocks : (count : ℕ) (pages : List PageContents) → map rebuilt_in (map (with_room count) pages) ≡ map rebuilt_in pages
 same_blocks count [] = refl
 same_blocks count (c ∷ cs) = ap (λ l. rebuilt_in c ∷ l) (same_blocks count cs)
 
-abbrev pub roomy_to : ℕ → ℕ → List Contents → List Contents
+abbrev pub roomy_to : ℕ → ℕ → List PageContents → List PageContents
 roomy_to count i pages = map (with_room count) (take i pages) ++ drop i pages
 
-module _ (count i : ℕ) (pages : List Contents) where
+module _ (count i : ℕ) (pages : List PageContents) where
   pub same_blocks_to : map rebuilt_in (roomy_to count i pages) ≡ map rebuilt_in pages
   same_blocks_to =
       map-append rebuilt_in (map (with_room count) (take i pages)) (drop i pages)
@@ -109,7 +109,7 @@ rebuilt_at_first s long = record {
 }
 
 -- the blocks of one partition among all
-module _ (pages : List Contents) (d : ℕ) (c : Contents) (below : d < length pages) where
+module _ (pages : List PageContents) (d : ℕ) (c : PageContents) (below : d < length pages) where
   pub one_of_all : c ≡ get_or pages d c → at [] (map rebuilt_in pages) d ≡ rebuilt_in c
   one_of_all is = at-map c [] rebuilt_in pages d below ∙ ap rebuilt_in (at_index c c pages d below ∙ sym is)
 
@@ -128,7 +128,7 @@ any_open block (g ∷ gs) = ap (λ t. g.block == block || t) (any_open block gs)
 pub set_same : {X : Type 0} (xs : List X) (i : ℕ) (d y : X) → y ≡ get_or xs i d → set xs i y ≡ xs
 set_same xs i d y same = ap (set xs i) same ∙ set-get_or xs i d
 
-pub roomy_more : (count i : ℕ) (pages now : List Contents) (d : Contents) → i < length pages
+pub roomy_more : (count i : ℕ) (pages now : List PageContents) (d : PageContents) → i < length pages
     → now ≡ roomy_to count i pages → set now i (with_room count (get_or now i d)) ≡ roomy_to count (i + 1) pages
 roomy_more count i pages now d below is =
     let long : length now ≡ length pages = ap length is ∙ as_many count i pages in

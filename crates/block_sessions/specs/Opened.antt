@@ -14,8 +14,8 @@ abbrev pub gathering_of : OpenSession → Gathering
 gathering_of g = record { number = g.number; block = g.block; lost = g.lost.items; rows = g.coded.numbers; blocks_in = g.known.parts; rows_in = g.coded.parts }
 
 -- a session with nothing in
-abbrev pub new_session : Dimensions → ℕ → ℕ → List ℕ → List ℕ → Gathering
-new_session s number block lost rows = record {
+abbrev pub blank_session : Dimensions → ℕ → ℕ → List ℕ → List ℕ → Gathering
+blank_session s number block lost rows = record {
   number = number;
   block = block;
   lost = lost;
@@ -43,7 +43,7 @@ pub record AreOut (block : ℕ) (lost : List ℕ) (out : List Piece) : Type 0 wh
   pub long : All (λ p. length p.bytes ≡ block) out
 
 -- a session of a group of this shape
-pub record IsOpen (s : Dimensions) (g : OpenSession) : Type 0 where
+pub record IsSessionOf (s : Dimensions) (g : OpenSession) : Type 0 where
   pub block : g.block < s.blocks
   pub lost : AreLost s g.lost.items g.coded.numbers
   pub known : g.known.numbers ≡ known_of s.k g.lost.items

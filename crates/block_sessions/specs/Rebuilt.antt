@@ -3,10 +3,10 @@ use Rattle.std.specs.Prelude.{◌≡◌, ℕ, ◌/◌, ◌%◌, ◌<◌, ◌≤�
 use Rattle.std.specs.List.{range_with_len}
 use Rattle.group_types.specs.Dimensions.{Dimensions}
 use Rattle.group_types.specs.Lists.{at, put}
-use Rattle.page_map.specs.Pages.{Contents, page_in}
+use Rattle.page_map.specs.Pages.{PageContents, page_in}
 
 -- block by block, the page, if there is one
-abbrev pub rebuilt_in : Contents → List (Option (List ℕ))
+abbrev pub rebuilt_in : PageContents → List (Option (List ℕ))
 rebuilt_in c = map (page_in c) (range_with_len 0 c.blocks)
 
 -- the byte at an address, where a block has `block` bytes
@@ -19,7 +19,7 @@ kept_unless true b bytes blocks = blocks
 kept_unless false b bytes blocks = put None blocks b (Some bytes)
 
 -- pages for the blocks of a space, with room for `most` more
-pub record HoldsBlocks (s : Dimensions) (most : ℕ) (c : Contents) : Type 0 where
+pub record HoldsBlocks (s : Dimensions) (most : ℕ) (c : PageContents) : Type 0 where
   pub long : 0 < s.block
   pub blocks : c.blocks ≡ s.blocks
   pub block : c.block ≡ s.block
@@ -27,6 +27,6 @@ pub record HoldsBlocks (s : Dimensions) (most : ℕ) (c : Contents) : Type 0 whe
   pub whole : (b : ℕ) → IfSome (page_in c b) (λ bytes. length bytes ≡ s.block)
 
 -- such pages for each partition
-pub record AreRebuilt (s : Dimensions) (most : ℕ) (pages : List Contents) : Type 0 where
+pub record AreRebuilt (s : Dimensions) (most : ℕ) (pages : List PageContents) : Type 0 where
   pub all : length pages ≡ s.k
   pub each : All (HoldsBlocks s most) pages

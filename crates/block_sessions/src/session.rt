@@ -2,7 +2,7 @@ ghost use Rattle.std.specs.Prelude.{◌≡◌, ◌<◌, true, Contains, IfOk, So
 ghost use Rattle.group_types.specs.Dimensions.{Dimensions};
 ghost use Rattle.group_types.specs.Lists.{put};
 ghost use Rattle.group_run.specs.Leaders.{is_complete};
-ghost use Rattle.block_sessions.specs.Opened.{AreLost, IsDecoded, IsOpen, gathering_of, known_of, new_session};
+ghost use Rattle.block_sessions.specs.Opened.{AreLost, IsDecoded, IsSessionOf, blank_session, gathering_of, known_of};
 
 use crate::arrivals::Arrivals;
 use cauchy_code::decode;
@@ -33,8 +33,8 @@ impl OpenSession {
     ) -> Result<OpenSession, AllocError>
         requires block { block < shape.blocks }
         requires lost { AreLost shape lost.items rows.now }
-        ensures gathering { IfOk result (λ g. gathering_of g ≡ new_session shape number block lost.items rows.now) }
-        ensures sound { IfOk result (IsOpen shape) }
+        ensures gathering { IfOk result (λ g. gathering_of g ≡ blank_session shape number block lost.items rows.now) }
+        ensures sound { IfOk result (IsSessionOf shape) }
     {
         let known = known_of(alloc, shape, &lost)?;
         Ok(OpenSession {
@@ -53,7 +53,7 @@ impl OpenSession {
         requires whole { length bytes.now ≡ self.old.known.block }
         ensures gathering { gathering_of self.new
             ≡ record (gathering_of self.old) { blocks_in = put None self.old.known.parts d (Some bytes.now) } }
-        ensures sound { (s : Dimensions) → IsOpen s self.old → IsOpen s self.new }
+        ensures sound { (s : Dimensions) → IsSessionOf s self.old → IsSessionOf s self.new }
     {
         self.known.put(d, bytes.bytes());
     }
@@ -64,14 +64,14 @@ impl OpenSession {
         requires whole { length bytes.now ≡ self.old.coded.block }
         ensures gathering { gathering_of self.new
             ≡ record (gathering_of self.old) { rows_in = put None self.old.coded.parts i (Some bytes.now) } }
-        ensures sound { (s : Dimensions) → IsOpen s self.old → IsOpen s self.new }
+        ensures sound { (s : Dimensions) → IsSessionOf s self.old → IsSessionOf s self.new }
     {
         self.coded.put(i, bytes);
     }
 
     /// Whether all is in.
     pub(crate) fn is_complete(&self, shape: Shape) -> bool
-        requires { IsOpen shape self.now }
+        requires { IsSessionOf shape self.now }
         ensures { result ≡ is_complete shape (gathering_of self.now) }
     {
         self.known.is_complete() && self.coded.is_complete()
@@ -79,7 +79,7 @@ impl OpenSession {
 
     /// Decodes the blocks of the lost partitions. It takes no memory.
     pub(crate) fn decode(&mut self, shape: Shape)
-        requires sound { IsOpen shape self.old }
+        requires sound { IsSessionOf shape self.old }
         requires complete { is_complete shape (gathering_of self.old) ≡ true }
         ensures same { self.new ≡ record self.old { out = self.new.out } }
         ensures decoded { IsDecoded shape (gathering_of self.old) self.new.out }

@@ -29,11 +29,11 @@ pub struct Sessions {
 }
 
 impl Model for Sessions {
-    ghost use Rattle.block_sessions.specs.Leading.{AreParts, Leading, state_of};
+    ghost use Rattle.block_sessions.specs.Leading.{AreParts, Leading, leader_state_of};
 
     ghost Value = { Leading };
 
-    ghost view = { λ s. record { shape = s.shape; state = state_of s.sessions.items s.last s.rebuilt.items } };
+    ghost view = { λ s. record { shape = s.shape; state = leader_state_of s.sessions.items s.last s.rebuilt.items } };
 
     ghost invariant = { λ s. AreParts s.shape s.sessions.items s.last s.rebuilt.items };
 }

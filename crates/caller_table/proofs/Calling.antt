@@ -9,7 +9,7 @@ use Rattle.memc_table.specs.Asked.{Asked}
 use Rattle.memc_table.specs.declared.reply.Reply.{Reply}
 use Rattle.memc_proto.specs.declared.end.CallEnd.{CallEnd}
 use Rattle.memc_proto.specs.declared.end.CallEnd.TheVariants as ends
-use Rattle.group_calls.specs.Turns.{CallName, entry_of, name_of}
+use Rattle.group_calls.specs.Turns.{CallName, call_entry, name_of}
 use Rattle.group_calls.specs.declared.entry.Entry.{Entry}
 use Rattle.group_calls.specs.declared.event.Answer.{Answer}
 use Rattle.group_calls.specs.declared.event.Answer.TheVariants as says
@@ -27,7 +27,7 @@ use Rattle.group_types.proofs.Eaches.{each-append}
 use Rattle.law_log.proofs.Ties.{NamesDiffer}
 use Rattle.law_progress.specs.Ends.{IsDelivery}
 use Rattle.law_progress.proofs.Whole.{next-comes}
-use Rattle.world_caller.specs.Calling.{Brings, IsDone, IsEvent, IsOwn, asked_to, collected_to, due}
+use Rattle.world_caller.specs.Calling.{EventsBring, IsEvent, IsFirstOrOwn, IsOwnStep, due, next_of_ask, next_of_collect}
 use Rattle.world_caller.proofs.Delivering.{due-first}
 use Rattle.world_caller.specs.declared.stage.Next.{Next}
 use Rattle.world_caller.specs.declared.stage.Next.TheVariants.{Goes, Ends}
@@ -90,7 +90,7 @@ Came caller op log w (Goes Asks) = Idle log w
 Came caller op log w (Goes (Collects call p)) =
     Under (record { caller = caller; call = call }) op log w × Each (λ e. name_of e ≢ record { caller = caller; call = call }) log
 Came caller op log w (Ends (ends.Reply reply)) =
-    (call : ℕ) × (w.log ≡ log ++ entry_of (record { caller = caller; call = call }) op reply ∷ []) × NoneWaits w.tickets
+    (call : ℕ) × (w.log ≡ log ++ call_entry (record { caller = caller; call = call }) op reply ∷ []) × NoneWaits w.tickets
 Came caller op log w (Ends ends.NoSpace) = Idle log w
 Came caller op log w (Ends ends.Down) = Idle log w
 Came caller op log w (Ends ends.Worn) = ⊥
@@ -127,23 +127,23 @@ never is = cc is
 -- an ask
 asked-came : (s : Dimensions) (w : World) → IsLed s w → (caller : ℕ) (op : Asked) (log : List Entry) (p : ProcessId)
     (next : Next) → MayCome w (Ask caller op p) → Idle log w
-    → (a : Answer) → (group_step w (Ask caller op p)).answer ≡ a → asked_to (at 0 w.asked caller) p a ≡ Some next
+    → (a : Answer) → (group_step w (Ask caller op p)).answer ≡ a → next_of_ask (at 0 w.asked caller) p a ≡ Some next
     → Came caller op log (step w (Ask caller op p)).world next
 asked-came s w led caller op log p next may idle (says.Reply reply) answered leads =
     subst (Came caller op log (step w (Ask caller op p)).world) (sym (same-next leads)) (
       at 0 w.asked caller,
       grown-is w.log (step w (Ask caller op p)).turn.logged ∙ ap (λ (es : List Entry). w.log ++ es) alone
-          ∙ ap (λ (es : List Entry). es ++ entry_of (next_name w caller) op reply ∷ []) idle.0,
-      ask-done w caller op p idle.1 (entry_of (next_name w caller) op reply) [] alone,
+          ∙ ap (λ (es : List Entry). es ++ call_entry (next_name w caller) op reply ∷ []) idle.0,
+      ask-done w caller op p idle.1 (call_entry (next_name w caller) op reply) [] alone,
     )
   where
     two : EachTwo NamesDiffer (w.log ++ (step w (Ask caller op p)).turn.logged)
     two = subst (EachTwo NamesDiffer) (grown-is w.log (step w (Ask caller op p)).turn.logged)
         (led-once s (step w (Ask caller op p)).world (led-step s w (Ask caller op p) led may))
 
-    alone : (step w (Ask caller op p)).turn.logged ≡ entry_of (next_name w caller) op reply ∷ []
+    alone : (step w (Ask caller op p)).turn.logged ≡ call_entry (next_name w caller) op reply ∷ []
     alone = single w.log (next_name w caller) op (step w (Ask caller op p)).turn.logged
-        (entry_of (next_name w caller) op reply) two (ask-of w caller op p idle.1)
+        (call_entry (next_name w caller) op reply) two (ask-of w caller op p idle.1)
         (at-once s w led caller op p may reply answered)
 asked-came s w led caller op log p next may idle (says.Ticket number) answered leads =
     subst (Came caller op log (step w (Ask caller op p)).world) (sym (same-next leads)) (
@@ -173,7 +173,7 @@ asked-came s w led caller op log p next may idle (says.Stale call) answered lead
 collected-came : (s : Dimensions) (w : World) → IsLed s w → (caller call : ℕ) (op : Asked) (log : List Entry)
     (p : ProcessId) (next : Next) → MayCome w (Collect caller call p)
     → Came caller op log w (Goes (Collects call p)) → (a : Answer) → (group_step w (Collect caller call p)).answer ≡ a
-    → collected_to a ≡ Some next → Came caller op log (step w (Collect caller call p)).world next
+    → next_of_collect a ≡ Some next → Came caller op log (step w (Collect caller call p)).world next
 collected-came s w led caller call op log p next may came (says.Reply reply) answered leads =
     subst (Came caller op log v) (sym (same-next leads)) (call, logged, none) where
       v : World
@@ -185,21 +185,21 @@ collected-came s w led caller call op log p next may came (says.Reply reply) ans
       u : Under n op log v
       u = under-quiet n op log w (Collect caller call p) refl came.0
 
-      found : (o : Asked) × Contains v.log (entry_of n o reply)
+      found : (o : Asked) × Contains v.log (call_entry n o reply)
       found = collected s w led caller call p may reply answered
 
       two : EachTwo NamesDiffer (log ++ u.more)
       two = subst (EachTwo NamesDiffer) u.whole (led-once s v (led-step s w (Collect caller call p) led may))
 
-      alone : u.more ≡ entry_of n found.0 reply ∷ []
-      alone = single-behind log n op u.more (entry_of n found.0 reply) two u.mine came.1 refl
-          (subst (λ (es : List Entry). Contains es (entry_of n found.0 reply)) u.whole found.1)
+      alone : u.more ≡ call_entry n found.0 reply ∷ []
+      alone = single-behind log n op u.more (call_entry n found.0 reply) two u.mine came.1 refl
+          (subst (λ (es : List Entry). Contains es (call_entry n found.0 reply)) u.whole found.1)
 
       same : found.0 ≡ op
       same = (subst (Each (IsOf n op)) alone u.mine).0.1
 
-      logged : v.log ≡ log ++ entry_of n op reply ∷ []
-      logged = u.whole ∙ ap (λ (es : List Entry). log ++ es) alone ∙ ap (λ (o : Asked). log ++ entry_of n o reply ∷ []) same
+      logged : v.log ≡ log ++ call_entry n op reply ∷ []
+      logged = u.whole ∙ ap (λ (es : List Entry). log ++ es) alone ∙ ap (λ (o : Asked). log ++ call_entry n o reply ∷ []) same
 
       none : NoneWaits v.tickets
       none = subst (λ (es : List Entry). DoneIf es v.tickets) alone u.done
@@ -230,15 +230,15 @@ event-came s w led caller op log stage e next came event = by (due w) refl event
   quiet-came Asks d quiet came = idle-quiet log w d quiet came
   quiet-came (Collects call p) d quiet came = (under-quiet (record { caller = caller; call = call }) op log w d quiet came.0, came.1)
 
-  own : (stage : Stage) → Came caller op log w (Goes stage) → IsOwn caller op w stage e next → Came caller op log (step w e).world next
+  own : (stage : Stage) → Came caller op log w (Goes stage) → IsOwnStep caller op w stage e next → Came caller op log (step w e).world next
   own Asks came (p, serves, is, leads) = subst (λ (x : Event). Came caller op log (step w x).world next) (sym is)
       (asked-came s w led caller op log p next (subst (MayCome w) is event.may) came (group_step w (Ask caller op p)).answer refl
-      (ap (λ (x : Event). asked_to (at 0 w.asked caller) p (step w x).turn.answer) (sym is) ∙ leads))
+      (ap (λ (x : Event). next_of_ask (at 0 w.asked caller) p (step w x).turn.answer) (sym is) ∙ leads))
   own (Collects call p) came (is, leads) = subst (λ (x : Event). Came caller op log (step w x).world next) (sym is)
       (collected-came s w led caller call op log p next (subst (MayCome w) is event.may) came (group_step w (Collect caller call p)).answer refl
-      (ap (λ (x : Event). collected_to (step w x).turn.answer) (sym is) ∙ leads))
+      (ap (λ (x : Event). next_of_collect (step w x).turn.answer) (sym is) ∙ leads))
 
-  by : (o : Option Event) → due w ≡ o → IsDone o caller op w stage e next → Came caller op log (step w e).world next
+  by : (o : Option Event) → due w ≡ o → IsFirstOrOwn o caller op w stage e next → Came caller op log (step w e).world next
   by (Some d) first done = subst (Came caller op log (step w e).world) (sym done.1)
       (subst (λ (x : Event). Came caller op log (step w x).world (Goes stage)) (sym done.0)
       (quiet-came stage d (first-quiet s w led d first) came))
@@ -246,7 +246,7 @@ event-came s w led caller op log stage e next came event = by (due w) refl event
 
 -- the events of a call
 pub events-came : (s : Dimensions) (es : List Event) (w : World) → IsLed s w → (caller : ℕ) (op : Asked) (log : List Entry) (next last : Next)
-    → Came caller op log w next → Brings caller op w next es last → Came caller op log (world_after w es) last × IsLed s (world_after w es)
+    → Came caller op log w next → EventsBring caller op w next es last → Came caller op log (world_after w es) last × IsLed s (world_after w es)
 events-came s [] w led caller op log next last came is = (subst (Came caller op log w) (sym is) came, led)
 events-came s (e ∷ es) w led caller op log (Goes stage) last came (next, event, brings) =
     events-came s es (step w e).world (led-step s w e led event.may) caller op log next last (event-came s w led caller op log stage e next came event) brings

@@ -5,7 +5,7 @@ use Rattle.std.specs.List.{list_any, range_with_len}
 use Rattle.memc_table.specs.Asked.{Asked}
 use Rattle.memc_table.specs.declared.reply.Reply.{Reply}
 use Rattle.group_message.specs.declared.update.Update.{Update}
-use Rattle.group_calls.specs.Turns.{CallName, accepts, entry_of, name_of}
+use Rattle.group_calls.specs.Turns.{CallName, accepts, call_entry, name_of}
 use Rattle.group_calls.specs.declared.entry.Entry.{Entry}
 use Rattle.group_calls.specs.declared.event.Answer.{Answer}
 use Rattle.group_calls.specs.declared.event.Answer.TheVariants as says
@@ -13,7 +13,7 @@ use Rattle.group_calls.specs.declared.event.Event.{Event}
 use Rattle.group_calls.specs.declared.event.Event.TheVariants.{Ask}
 use Rattle.group_run.specs.Applying.{Settlement}
 use Rattle.group_run.specs.Asking.{reply_from}
-use Rattle.group_run.specs.World.{Call, Ledger, Ticket, World, call_of, entries_for, entry_then, group_step}
+use Rattle.group_run.specs.World.{AskedCall, Ledger, Ticket, World, call_of, entries_for, entry_then, group_step}
 use Rattle.group_run.specs.World.{ledger_after, ledger_with, logged_at_once, new_ones, next_name, op_in, op_moved}
 use Rattle.group_run.specs.World.{ops_moved, refusal_logged, same_call, settled_in, step, ticket_if, tickets_after}
 use Rattle.group_run.specs.World.{update_name, is_issued}
@@ -52,7 +52,7 @@ IsOf n asked e = (name_of e ≡ n) × (e.op ≡ asked)
 
 -- entries that all have what each op that waits gives them
 module _ (tickets : List Ticket) (P : Entry → Type 0) (of : (u : Update) (op : Asked) → op_in (update_name u) tickets
-    ≡ Some op → P (entry_of (update_name u) op (reply_from u.outcome))) where
+    ≡ Some op → P (call_entry (update_name u) op (reply_from u.outcome))) where
   entries-each : (us : List Update) → Each P (entries_for tickets us)
   entries-each [] = tt
   entries-each (u ∷ us) = by (op_in (update_name u) tickets) refl (entries-each us) where
@@ -74,7 +74,7 @@ tickets_in w e = tickets_after (length w.log) (call_of w e) (group_step w e).ans
 
 step-each : (w : World) (e : Event) (P : Entry → Type 0)
     → ((u : Update) (op : Asked) → op_in (update_name u) (tickets_in w e) ≡ Some op
-    → P (entry_of (update_name u) op (reply_from u.outcome)))
+    → P (call_entry (update_name u) op (reply_from u.outcome)))
     → Each P (logged_at_once (call_of w e) (group_step w e).answer) → Each P (step w e).turn.logged
 step-each w e P of all = ledger-each (tickets_in w e) P of (group_step w e).settled (range_with_len 0 w.shape.k) _ all
 
@@ -148,13 +148,13 @@ pushed name op n asked since (x ∷ xs) none is = at (same_call x.name name) ref
 -- an event that asks nothing
 module _ (w : World) (e : Event) (quiet : call_of w e ≡ None) where
   same-tickets : tickets_in w e ≡ w.tickets
-  same-tickets = ap (λ (c : Option Call). tickets_after (length w.log) c (group_step w e).answer w.tickets) quiet
+  same-tickets = ap (λ (c : Option AskedCall). tickets_after (length w.log) c (group_step w e).answer w.tickets) quiet
 
   quiet-each : (P : Entry → Type 0)
       → ((u : Update) (op : Asked) → op_in (update_name u) w.tickets ≡ Some op
-      → P (entry_of (update_name u) op (reply_from u.outcome))) → Each P (step w e).turn.logged
+      → P (call_entry (update_name u) op (reply_from u.outcome))) → Each P (step w e).turn.logged
   quiet-each P of = step-each w e P (λ u op is. of u op (ap (op_in (update_name u)) (sym same-tickets) ∙ is))
-      (subst (λ (c : Option Call). Each P (logged_at_once c (group_step w e).answer)) (sym quiet) tt)
+      (subst (λ (c : Option AskedCall). Each P (logged_at_once c (group_step w e).answer)) (sym quiet) tt)
 
   -- logs nothing where no op waits
   pub quiet-none : NoneWaits w.tickets → (step w e).turn.logged ≡ []

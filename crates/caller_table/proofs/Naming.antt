@@ -10,7 +10,7 @@ use Rattle.memc_table.specs.Asked.{Asked}
 use Rattle.memc_table.specs.Contents.{Contents, empty_table, reply_of, table_after}
 use Rattle.memc_table.specs.declared.reply.Reply.{Reply}
 use Rattle.group_calls.specs.Log.{IsLegal, IsLegalFrom, table_of}
-use Rattle.group_calls.specs.Turns.{CallName, Turn, asks_of, entry_of, log_of, name_of}
+use Rattle.group_calls.specs.Turns.{CallName, Turn, asks_of, call_entry, log_of, name_of}
 use Rattle.group_calls.specs.Within.{AnswersWithin, IsAsk, IsLoggedSince}
 use Rattle.group_calls.specs.declared.entry.Entry.{Entry}
 use Rattle.group_calls.specs.declared.event.Answer.TheVariants as says
@@ -100,7 +100,7 @@ module _ (s : Dimensions) (es : List Event) (run : IsRun s es) (e : Event) (may 
 at-once-after : (s : Dimensions) (es : List Event) → IsRun s es → (caller : ℕ) (op : Asked) (p : ProcessId)
     → MayCome (after s es) (Ask caller op p) → (reply : Reply)
     → (step (after s es) (Ask caller op p)).turn.answer ≡ says.Reply reply
-    → Contains (step (after s es) (Ask caller op p)).turn.logged (entry_of (next_name (after s es) caller) op reply)
+    → Contains (step (after s es) (Ask caller op p)).turn.logged (call_entry (next_name (after s es) caller) op reply)
 unfolding turn
 at-once-after s es run caller op p may reply answered =
     (within s es run (Ask caller op p) may).at_once (length (turns_of s es)) (step (after s es) (Ask caller op p)).turn
@@ -115,15 +115,15 @@ at-once-after s es run caller op p may reply answered =
     counted = ap (asks_of caller) (sym (book-turns (no_book s) es)) ∙ asks_counted s es run caller ∙ ap (λ (w : World). at 0 w.asked caller) (book-world s es)
 
 pub at-once : (s : Dimensions) (w : World) → IsLed s w → (caller : ℕ) (op : Asked) (p : ProcessId) → MayCome w (Ask caller op p) → (reply : Reply)
-    → (step w (Ask caller op p)).turn.answer ≡ says.Reply reply → Contains (step w (Ask caller op p)).turn.logged (entry_of (next_name w caller) op reply)
+    → (step w (Ask caller op p)).turn.answer ≡ says.Reply reply → Contains (step w (Ask caller op p)).turn.logged (call_entry (next_name w caller) op reply)
 at-once s w led caller op p = subst (λ (x : World). MayCome x (Ask caller op p) → (reply : Reply) → (step x (Ask caller op p)).turn.answer ≡ says.Reply reply
-    → Contains (step x (Ask caller op p)).turn.logged (entry_of (next_name x caller) op reply)) (sym led.is) (at-once-after s led.events led.run caller op p)
+    → Contains (step x (Ask caller op p)).turn.logged (call_entry (next_name x caller) op reply)) (sym led.is) (at-once-after s led.events led.run caller op p)
 
 -- a call that is collected with a reply has its entry in the log
 collected-after : (s : Dimensions) (es : List Event) → IsRun s es → (caller call : ℕ) (p : ProcessId)
     → MayCome (after s es) (Collect caller call p) → (reply : Reply)
     → (step (after s es) (Collect caller call p)).turn.answer ≡ says.Reply reply
-    → (op : Asked) × Contains (step (after s es) (Collect caller call p)).world.log (entry_of (record { caller = caller; call = call }) op reply)
+    → (op : Asked) × Contains (step (after s es) (Collect caller call p)).world.log (call_entry (record { caller = caller; call = call }) op reply)
 unfolding turn
 collected-after s es run caller call p may reply answered = (since.op, there) where
   turns : List Turn
@@ -134,10 +134,10 @@ collected-after s es run caller call p may reply answered = (since.op, there) wh
       (step (after s es) (Collect caller call p)).turn (record { caller = caller; call = call }) reply
       (get-last (turns_of s es) (step (after s es) (Collect caller call p)).turn) (refl, refl) answered
 
-  there : Contains (step (after s es) (Collect caller call p)).world.log (entry_of (record { caller = caller; call = call }) since.op reply)
-  there = subst (λ (log : List Entry). Contains log (entry_of (record { caller = caller; call = call }) since.op reply))
+  there : Contains (step (after s es) (Collect caller call p)).world.log (call_entry (record { caller = caller; call = call }) since.op reply)
+  there = subst (λ (log : List Entry). Contains log (call_entry (record { caller = caller; call = call }) since.op reply))
       (sym (kept s es run (Collect caller call p) may))
-      (get-contained (log_of turns) since.place (entry_of (record { caller = caller; call = call }) since.op reply)
+      (get-contained (log_of turns) since.place (call_entry (record { caller = caller; call = call }) since.op reply)
       (ap (λ (ts : List Turn). slice_get (log_of ts) since.place) (sym whole) ∙ since.entry)) where
         whole : take (length (turns_of s es) + 1) turns ≡ turns
         whole = take_all (length (turns_of s es) + 1) turns
@@ -147,12 +147,12 @@ collected-after s es run caller call p may reply answered = (since.op, there) wh
 pub collected : (s : Dimensions) (w : World) → IsLed s w → (caller call : ℕ) (p : ProcessId)
     → MayCome w (Collect caller call p) → (reply : Reply) → (step w (Collect caller call p)).turn.answer
     ≡ says.Reply reply
-    → (op : Asked) × Contains (step w (Collect caller call p)).world.log (entry_of (record { caller = caller; call = call }) op reply)
+    → (op : Asked) × Contains (step w (Collect caller call p)).world.log (call_entry (record { caller = caller; call = call }) op reply)
 collected s w led caller call p =
     subst (λ (x : World). MayCome x (Collect caller call p) → (reply : Reply)
     → (step x (Collect caller call p)).turn.answer ≡ says.Reply reply
     → (op : Asked) × Contains (step x (Collect caller call p)).world.log
-    (entry_of (record { caller = caller; call = call }) op reply)) (sym led.is)
+    (call_entry (record { caller = caller; call = call }) op reply)) (sym led.is)
     (collected-after s led.events led.run caller call p)
 
 -- entries of one call, where no two are of one

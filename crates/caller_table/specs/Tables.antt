@@ -8,11 +8,11 @@ use Rattle.memc_table.specs.declared.reply.Reply.{Reply}
 use Rattle.memc_proto.specs.declared.end.CallEnd.{CallEnd}
 use Rattle.memc_proto.specs.declared.end.CallEnd.TheVariants as ends
 use Rattle.group_calls.specs.Log.{table_of}
-use Rattle.group_calls.specs.Turns.{CallName, entry_of}
+use Rattle.group_calls.specs.Turns.{CallName, call_entry}
 use Rattle.group_run.specs.World.{World, opening}
 use Rattle.front_end.specs.Calls.{Call, Made, Failed, Ways, Leads}
 use Rattle.world_caller.specs.Behind.{world_ways}
-use Rattle.world_caller.specs.Callers.{GroupCaller, HasCalled}
+use Rattle.world_caller.specs.Callers.{GroupCaller, HasCalledGroup}
 
 -- the caller of a connection: its group, whose calls it makes, and whether it takes orders that a process fail
 abbrev pub Caller : Type 0
@@ -34,7 +34,7 @@ table_in w = table_of (empty_table w.shape.k) w.log
 pub record IsReplied (caller : ℕ) (w : World) (op : Asked) (reply : Reply) (v : World) : Type 0 where
   pub is : reply ≡ reply_of (table_in w) op
   pub call : ℕ
-  pub logged : v.log ≡ w.log ++ entry_of (record { caller = caller; call = call }) op reply ∷ []
+  pub logged : v.log ≡ w.log ++ call_entry (record { caller = caller; call = call }) op reply ∷ []
 
 -- the log and the places are as they were
 pub record IsLeft (w v : World) : Type 0 where
@@ -43,12 +43,12 @@ pub record IsLeft (w v : World) : Type 0 where
 
 -- the end of a call beside the table: a reply is the table's; a call for which there was no space, or that met a group
 -- that is down, leaves the table; of a group that is worn out nothing is said; no call ends as that of a moved group
-abbrev pub IsOfTable : ℕ → World → Asked → CallEnd → World → Type 0
-IsOfTable caller w op (ends.Reply reply) v = IsReplied caller w op reply v
-IsOfTable caller w op ends.NoSpace v = IsLeft w v
-IsOfTable caller w op ends.Down v = IsLeft w v
-IsOfTable caller w op ends.Worn v = Unit {0}
-IsOfTable caller w op ends.Moves v = ⊥
+abbrev pub IsEndByTable : ℕ → World → Asked → CallEnd → World → Type 0
+IsEndByTable caller w op (ends.Reply reply) v = IsReplied caller w op reply v
+IsEndByTable caller w op ends.NoSpace v = IsLeft w v
+IsEndByTable caller w op ends.Down v = IsLeft w v
+IsEndByTable caller w op ends.Worn v = Unit {0}
+IsEndByTable caller w op ends.Moves v = ⊥
 
 -- the ends of calls are those of one table, in order
 abbrev pub AreOfTable : Contents → List Call → Type 0
@@ -59,7 +59,7 @@ AreOfTable t (Failed _ _ _ ∷ calls) = AreOfTable t calls
 
 -- whatever call comes next, its end is of the table
 abbrev pub NextIsOfTable : GroupCaller → Type 0
-NextIsOfTable c = (op : Asked) (end : CallEnd) (after : GroupCaller) → HasCalled c op end after → IsOfTable c.caller c.world op end after.world
+NextIsOfTable c = (op : Asked) (end : CallEnd) (after : GroupCaller) → HasCalledGroup c op end after → IsEndByTable c.caller c.world op end after.world
 
 -- whatever calls lead from a fresh group on, their ends are of one table, which begins empty; and so is that of the next,
 -- with what it leaves of the log and the places

@@ -10,7 +10,7 @@ use Rattle.std.specs.Str.{bytes_eq}
 use Rattle.group_types.specs.Each.{Each}
 use Rattle.carry_words.specs.Carrying.{Carrying, are_free, failed, heard_at, is_done, is_free, listed_at, met, place_at, settled, with_place}
 use Rattle.carry_words.specs.Courses.{by_stage, course_of, goes, has_ended, most_behind}
-use Rattle.carry_words.specs.Done.{DoneMeansCarried, Event, Ends, Hears, IsCarried, IsGone, Leaves, Lists, Nothing, Then, after, step}
+use Rattle.carry_words.specs.Done.{DoneMeansCarried, Event, Ends, Hears, IsCarried, IsGone, LeavesPlace, Lists, Nothing, Then, after, step}
 use Rattle.carry_words.specs.declared.course.CarryFault.{CarryFault}
 use Rattle.carry_words.specs.declared.course.CarryFault.TheVariants as fault
 use Rattle.carry_words.specs.declared.course.Course.{Course}
@@ -65,7 +65,7 @@ Owes at item Unread es = IsCarried at es ⊎ IsGone at item es
 Owes at item (Read value) es = Then at heard.Stored (λ _. Then at (heard.Found value) Nothing) es ⊎ IsGone at item es
 Owes at item (Stored value) es = Then at (heard.Found value) Nothing es ⊎ IsGone at item es
 
-then-more : (at : ℕ) (h : Heard) (Rest : ℕ → List Event → Type 0) (e : Event) (es : List Event) → Leaves at e → Then at h Rest es → Then at h Rest (e ∷ es)
+then-more : (at : ℕ) (h : Heard) (Rest : ℕ → List Event → Type 0) (e : Event) (es : List Event) → LeavesPlace at e → Then at h Rest es → Then at h Rest (e ∷ es)
 then-more at h Rest e es leaves told = record {
   before = e ∷ told.before;
   later = told.later;
@@ -78,7 +78,7 @@ then-more at h Rest e es leaves told = record {
 then-first : (at now : ℕ) (h : Heard) (Rest : ℕ → List Event → Type 0) (es : List Event) → Rest now es → Then at h Rest (Hears now at h ∷ es)
 then-first at now h Rest es rest = record { before = []; later = es; now = now; is = refl; own = tt; rest = rest }
 
-owes-more : (at : ℕ) (item : Listed) (stage : Stage) (e : Event) (es : List Event) → Leaves at e → Owes at item stage es → Owes at item stage (e ∷ es)
+owes-more : (at : ℕ) (item : Listed) (stage : Stage) (e : Event) (es : List Event) → LeavesPlace at e → Owes at item stage es → Owes at item stage (e ∷ es)
 owes-more at item Unread e es leaves (inl carried) =
     inl (record { value = carried.value; read = then-more at (heard.Found carried.value) _ e es leaves carried.read })
 owes-more at item Unread e es leaves (inr gone) = inr (then-more at heard.Missing _ e es leaves gone)
@@ -87,13 +87,13 @@ owes-more at item (Read value) e es leaves (inr gone) = inr (then-more at heard.
 owes-more at item (Stored value) e es leaves (inl told) = inl (then-more at (heard.Found value) _ e es leaves told)
 owes-more at item (Stored value) e es leaves (inr gone) = inr (then-more at heard.Missing _ e es leaves gone)
 
-ends-leaves : (at : ℕ) → Leaves at Ends
+ends-leaves : (at : ℕ) → LeavesPlace at Ends
 ends-leaves at item is = absurd (cc is)
 
-hears-leaves : (at now other : ℕ) (h : Heard) → Leaves at (Hears now other h)
+hears-leaves : (at now other : ℕ) (h : Heard) → LeavesPlace at (Hears now other h)
 hears-leaves at now other h item is = absurd (cc is)
 
-lists-leaves : (at other : ℕ) (i : Listed) → at ≢ other → Leaves at (Lists other i)
+lists-leaves : (at other : ℕ) (i : Listed) → at ≢ other → LeavesPlace at (Lists other i)
 lists-leaves at other i apart item is = apart (sym (cc is))
 
 -- an item at another place stays

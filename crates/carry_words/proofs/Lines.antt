@@ -5,7 +5,7 @@ use Rattle.std.proofs.lemmas.List.{get_or-map, length-map}
 use Rattle.std.specs.List.{list_any, list_all}
 use Rattle.std.specs.Str.{bytes_eq}
 use Rattle.memc_table.specs.Numeral.{number_of}
-use Rattle.carry_words.specs.Standing.{has_line, is_at_rest, is_settled, lines_of, HasNumber}
+use Rattle.carry_words.specs.Standing.{HasNumberLine, has_line, is_at_rest, is_settled, lines_of}
 
 pub any_lines : (text : List ℕ) (lines : List (Bor (List ℕ))) → list_any (λ line. bytes_eq line.now text) lines ≡ has_line (map (λ line. line.now) lines) text
 any_lines text [] = refl
@@ -46,7 +46,7 @@ still status lines settled are closed is_still for_settled = at_rest status line
 pub number_in : (lines : List (Bor (List ℕ))) (front : List ℕ) (k : ℕ) (other : Bor (List ℕ)) → k < length lines
     → (result : Option (Bor (List ℕ))) (digits : Bor (List ℕ))
     → result ≡ Some digits → IfSome result (λ rest. (get_or lines k other).now ≡ front ++ rest.now) → (found : Option ℕ) → found ≡ number_of digits.now
-    → IfSome found (HasNumber (map (λ line. line.now) lines) front)
+    → IfSome found (HasNumberLine (map (λ line. line.now) lines) front)
 number_in lines front k other below result digits is begins None number = tt
 number_in lines front k other below result digits is begins (Some n) number =
     let line : (get_or lines k other).now ≡ front ++ digits.now = subst (λ r. IfSome r (λ rest. (get_or lines k other).now ≡ front ++ rest.now)) is begins in

@@ -23,8 +23,8 @@ after c [] = c
 after c (e ∷ es) = after (step c e) es
 
 -- another item is listed at this place
-abbrev pub Leaves : ℕ → Event → Type 0
-Leaves at e = (item : Listed) → e ≢ Lists at item
+abbrev pub LeavesPlace : ℕ → Event → Type 0
+LeavesPlace at e = (item : Listed) → e ≢ Lists at item
 
 -- before another item has the place this is heard of it, and then the rest holds of what follows
 pub record Then (at : ℕ) (h : Heard) (Rest : ℕ → List Event → Type 0) (es : List Event) : Type 0 where
@@ -32,7 +32,7 @@ pub record Then (at : ℕ) (h : Heard) (Rest : ℕ → List Event → Type 0) (e
   pub later : List Event
   pub now : ℕ
   pub is : es ≡ before ++ Hears now at h ∷ later
-  pub own : Each (Leaves at) before
+  pub own : Each (LeavesPlace at) before
   pub rest : Rest now later
 
 abbrev pub Nothing : ℕ → List Event → Type 0

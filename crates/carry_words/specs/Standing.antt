@@ -25,11 +25,11 @@ abbrev pub base_front : ℕ → List ℕ
 base_front partition = codes "base " ++ (decimal partition ++ codes " ")
 
 -- a line has this number behind this front
-pub record HasNumber (lines : List (List ℕ)) (front : List ℕ) (n : ℕ) : Type 0 where
+pub record HasNumberLine (lines : List (List ℕ)) (front : List ℕ) (n : ℕ) : Type 0 where
   pub digits : List ℕ
   pub line : Contains lines (front ++ digits)
   pub is : number_of digits ≡ Some n
 
 -- the status tells this base of a partition
 abbrev pub TellsBase : List ℕ → ℕ → ℕ → Type 0
-TellsBase status partition base = HasNumber (lines_of status) (base_front partition) base
+TellsBase status partition base = HasNumberLine (lines_of status) (base_front partition) base

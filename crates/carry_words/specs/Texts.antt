@@ -12,8 +12,8 @@ abbrev pub exptime_text : Option ℕ → List ℕ
 exptime_text None = codes "0"
 exptime_text (Some until) = if nat_le until longest_offset then codes "-1" else decimal until
 
-abbrev pub get_text : Listed → List ℕ
-get_text item = codes "get " ++ item.key ++ codes "\r\n"
+abbrev pub get_request : Listed → List ℕ
+get_request item = codes "get " ++ item.key ++ codes "\r\n"
 
 -- what stands behind the key: flags, exptime and how many bytes
 abbrev pub numbers_text : ℕ → List ℕ → ℕ → List ℕ
@@ -24,9 +24,9 @@ set_text item value = codes "set " ++ item.key ++ numbers_text item.flags (expti
 
 -- an item is asked for, set, and asked for again
 abbrev pub text_at : Listed → Stage → List ℕ
-text_at item Unread = get_text item
+text_at item Unread = get_request item
 text_at item (Read value) = set_text item value
-text_at item (Stored value) = get_text item
+text_at item (Stored value) = get_request item
 
-abbrev pub request_text : Transfer → List ℕ
-request_text t = text_at t.item t.stage
+abbrev pub transfer_text : Transfer → List ℕ
+transfer_text t = text_at t.item t.stage

@@ -1,6 +1,6 @@
 ghost use Rattle.std.specs.Prelude.{◌≡◌, ◌++◌, codes, OnOk, IfOk};
 ghost use Rattle.std.specs.String.{string_bytes};
-ghost use Rattle.carry_words.specs.Texts.{exptime_text, get_text, numbers_text, request_text, set_text};
+ghost use Rattle.carry_words.specs.Texts.{exptime_text, get_request, numbers_text, set_text, transfer_text};
 
 use crate::listed::Listed;
 use crate::stage::Stage;
@@ -13,7 +13,7 @@ const LONGEST_OFFSET: u64 = 2_592_000;
 
 /// What is asked next for an item.
 pub fn request_of(alloc: Global, transfer: &Transfer) -> Result<Vec<u8>, AllocError>
-    ensures { IfOk result (λ text. text.items ≡ request_text transfer.now) }
+    ensures { IfOk result (λ text. text.items ≡ transfer_text transfer.now) }
 {
     match &transfer.stage {
         Stage::Unread | Stage::Stored { .. } => get(alloc, &transfer.item),
@@ -23,7 +23,7 @@ pub fn request_of(alloc: Global, transfer: &Transfer) -> Result<Vec<u8>, AllocEr
 
 /// The request that gets an item.
 fn get(alloc: Global, item: &Listed) -> Result<Vec<u8>, AllocError>
-    ensures { IfOk result (λ text. text.items ≡ get_text item.now) }
+    ensures { IfOk result (λ text. text.items ≡ get_request item.now) }
 {
     let mut text = Vec::with_capacity(alloc, 256)?;
     text.extend_from_slice(b"get ")?;

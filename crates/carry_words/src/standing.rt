@@ -1,7 +1,7 @@
 ghost use Rattle.std.specs.Prelude.{◌≡◌, map, IfOk, IfSome};
 ghost use Rattle.std.specs.List.{list_all, list_any};
 ghost use Rattle.std.specs.Str.{bytes_eq};
-ghost use Rattle.carry_words.specs.Standing.{is_at_rest, is_settled, lines_of, HasNumber, TellsBase};
+ghost use Rattle.carry_words.specs.Standing.{is_at_rest, is_settled, lines_of, HasNumberLine, TellsBase};
 
 use memc_table::numeral::number;
 use std::alloc::{AllocError, Global};
@@ -60,7 +60,7 @@ fn is_settled(line: &[u8]) -> bool
 
 /// The number behind this front of the first line that begins with it.
 fn number_behind(lines: &[&[u8]], front: &[u8]) -> Option<u64>
-    ensures { IfSome result (HasNumber (map (λ line. line.now) lines.now) front.now) }
+    ensures { IfSome result (HasNumberLine (map (λ line. line.now) lines.now) front.now) }
 {
     'lines: for line in lines {
         if let Some(digits) = line.strip_prefix(front) {

@@ -18,11 +18,11 @@ use Rattle.group_cluster.specs.Plan.{Plan}
 use Rattle.scenario_run.proofs.Draining.{Lightens, burden, lightens, next-delivers}
 use Rattle.scenario_play.proofs.Delivering.{draining-down, draining-up, none-left, one-left}
 use Rattle.cluster_run.specs.Led.{IsLedTo}
-use Rattle.cluster_run.specs.Playing.{ClusterTurn, all_deliveries, deliveries, deliveries_in, drained_text, log_of, turns_from}
+use Rattle.cluster_run.specs.Playing.{ClusterTurn, all_deliveries, cluster_log_of, deliveries, deliveries_in, drained_text, turns_from}
 use Rattle.cluster_run.specs.Texts.{cluster_entries_text, cluster_entry_text}
 use Rattle.cluster_run.proofs.Draining.{Delivered, delivered, group-drains}
 use Rattle.cluster_run.proofs.Leading.{after-append, led-even, led-group, led-on, one-leads, turns-append}
-use Rattle.cluster_play.specs.Doing.{IsReadyFor}
+use Rattle.cluster_play.specs.Doing.{IsReadyCluster}
 
 pub entries-append : (a b : List ClusterEntry) → cluster_entries_text (a ++ b) ≡ cluster_entries_text a ++ cluster_entries_text b
 entries-append [] b = refl
@@ -31,12 +31,12 @@ entries-append (x ∷ a) b = ap (λ (ys : List ℕ). cluster_entry_text x ++ 10 
 
 -- what events write that they log
 abbrev pub written_by : Cluster → List ClusterEvent → List ℕ
-written_by c es = cluster_entries_text (log_of (turns_from c es))
+written_by c es = cluster_entries_text (cluster_log_of (turns_from c es))
 
 written-more : (c : Cluster) (e : ClusterEvent) (es : List ClusterEvent)
     → written_by c (e ∷ es) ≡ cluster_entries_text (logged_in (cluster_step c e).turns)
     ++ written_by (cluster_step c e).cluster es
-written-more c e es = entries-append (logged_in (cluster_step c e).turns) (log_of (turns_from (cluster_step c e).cluster es))
+written-more c e es = entries-append (logged_in (cluster_step c e).turns) (cluster_log_of (turns_from (cluster_step c e).cluster es))
 
 -- deliveries of a group, as events of its cluster
 abbrev pub ours : ℕ → List Event → List ClusterEvent
@@ -176,19 +176,19 @@ pub down-none : (c : Cluster) (j : ℕ) → IsDown (world_in c.groups j) → del
 down-none c j down = ap (map (InGroup j)) (draining-down (world_in c.groups j) down)
 
 -- the deliveries of groups, one behind the other
-log-append : (ts us : List ClusterTurn) → log_of (ts ++ us) ≡ log_of ts ++ log_of us
+log-append : (ts us : List ClusterTurn) → cluster_log_of (ts ++ us) ≡ cluster_log_of ts ++ cluster_log_of us
 log-append [] us = refl
 log-append (t ∷ ts) us = ap (λ (xs : List ClusterEntry). logged_in t.turns ++ xs) (log-append ts us)
-    ∙ sym (append_assoc (logged_in t.turns) (log_of ts) (log_of us))
+    ∙ sym (append_assoc (logged_in t.turns) (cluster_log_of ts) (cluster_log_of us))
 
 written-append : (c : Cluster) (es fs : List ClusterEvent) → written_by c (es ++ fs) ≡ written_by c es ++ written_by (cluster_after c es) fs
 written-append c es fs =
-    ap (λ (ts : List ClusterTurn). cluster_entries_text (log_of ts)) (turns-append c es fs)
+    ap (λ (ts : List ClusterTurn). cluster_entries_text (cluster_log_of ts)) (turns-append c es fs)
     ∙ ap cluster_entries_text (log-append (turns_from c es) (turns_from (cluster_after c es) fs))
-    ∙ entries-append (log_of (turns_from c es)) (log_of (turns_from (cluster_after c es) fs))
+    ∙ entries-append (cluster_log_of (turns_from c es)) (cluster_log_of (turns_from (cluster_after c es) fs))
 
 -- events that add to no group leave it ready
-led-after : (n : ℕ) (c : Cluster) (j : ℕ) → (ready : IsReadyFor n c) → j < length c.groups.worlds → IsLedTo ready.plan (cluster_after c (deliveries_in c j))
+led-after : (n : ℕ) (c : Cluster) (j : ℕ) → (ready : IsReadyCluster n c) → j < length c.groups.worlds → IsLedTo ready.plan (cluster_after c (deliveries_in c j))
 led-after n c j ready low =
     let there : j < ready.plan.groups = subst (λ (k : ℕ). j < k) (led-even ready.plan c ready.led).many low in
     led-on ready.plan c (cluster_after c (deliveries_in c j)) _ ready.led
@@ -199,7 +199,7 @@ led-after n c j ready low =
       to = refl;
     })
 
-pub still-ready : (n : ℕ) (c : Cluster) (j : ℕ) → IsReadyFor n c → j < length c.groups.worlds → IsReadyFor n (cluster_after c (deliveries_in c j))
+pub still-ready : (n : ℕ) (c : Cluster) (j : ℕ) → IsReadyCluster n c → j < length c.groups.worlds → IsReadyCluster n (cluster_after c (deliveries_in c j))
 still-ready n c j ready low =
     let there : j < ready.plan.groups = subst (λ (k : ℕ). j < k) (led-even ready.plan c ready.led).many low in
     let drains = group-drains ready.plan c j ready.led there in
@@ -210,7 +210,7 @@ still-ready n c j ready low =
     }
 
 -- the number of groups stays
-pub same-many : (n : ℕ) (c : Cluster) (j : ℕ) → IsReadyFor n c → j < length c.groups.worlds
+pub same-many : (n : ℕ) (c : Cluster) (j : ℕ) → IsReadyCluster n c → j < length c.groups.worlds
     → length (cluster_after c (deliveries_in c j)).groups.worlds ≡ length c.groups.worlds
 same-many n c j ready low =
     (led-even ready.plan (cluster_after c (deliveries_in c j)) (led-after n c j ready low)).many ∙ sym (led-even ready.plan c ready.led).many
@@ -233,17 +233,17 @@ deliveries-short c j = by (is_down w) where
   by true = omega arith
   by false = let many = ours-many j (drain_events (load_of w) w) in let short = drain-short (load_of w) w in omega (arith, many, short)
 
-pub burden-few : (c : Cluster) (j : ℕ) → IsReadyFor (2 ^ 59) c → j < length c.groups.worlds → burden (world_in c.groups j) ≤ 2 ^ 59
+pub burden-few : (c : Cluster) (j : ℕ) → IsReadyCluster (2 ^ 59) c → j < length c.groups.worlds → burden (world_in c.groups j) ≤ 2 ^ 59
 burden-few c j ready low = ready.light j (subst (λ (k : ℕ). j < k) (led-even ready.plan c ready.led).many low)
 
 -- so few that all groups' together can be counted
-pub few-deliveries : (c : Cluster) (j : ℕ) → IsReadyFor (2 ^ 59) c → j < length c.groups.worlds → length (deliveries_in c j) ≤ 2 ^ 59
+pub few-deliveries : (c : Cluster) (j : ℕ) → IsReadyCluster (2 ^ 59) c → j < length c.groups.worlds → length (deliveries_in c j) ≤ 2 ^ 59
 few-deliveries c j ready low =
     let light = ready.light j (subst (λ (k : ℕ). j < k) (led-even ready.plan c ready.led).many low) in
     let short = deliveries-short c j in
     omega (arith, light, short)
 
-pub few-groups : (c : Cluster) → IsReadyFor (2 ^ 59) c → length c.groups.worlds ≤ 16
+pub few-groups : (c : Cluster) → IsReadyCluster (2 ^ 59) c → length c.groups.worlds ≤ 16
 few-groups c ready = let many = (led-even ready.plan c ready.led).many in let few = ready.led.limits.groups.1 in omega (arith, many, few)
 
 module _ (c : Cluster) where
@@ -253,14 +253,14 @@ module _ (c : Cluster) where
 
   -- the groups before this one were drained
   pub record Drained (d : Cluster) (i : ℕ) (before text : List ℕ) (count : ℕ) : Type 0 where
-    pub ready : IsReadyFor (2 ^ 59) d
+    pub ready : IsReadyCluster (2 ^ 59) d
     pub many : length d.groups.worlds ≡ length c.groups.worlds
     pub after : cluster_after d (deliveries d (groups_from i)) ≡ cluster_after c (all_deliveries c)
     pub written : text ++ written_by d (deliveries d (groups_from i)) ≡ before ++ written_by c (all_deliveries c)
     pub counted : count + length (deliveries d (groups_from i)) ≡ length (all_deliveries c)
     pub few : count ≤ i * 2 ^ 59
 
-  pub Drained-none : (text : List ℕ) → IsReadyFor (2 ^ 59) c → Drained c 0 text text 0
+  pub Drained-none : (text : List ℕ) → IsReadyCluster (2 ^ 59) c → Drained c 0 text text 0
   Drained-none text ready = record {
     ready = ready;
     many = refl;

@@ -12,10 +12,10 @@ use Rattle.group_types.proofs.Lists.{at-replicate}
 use Rattle.scenario_run.specs.Course.{Ends, Fault, Goes, Refused}
 use Rattle.scenario_run.proofs.Draining.{burden, load-opening}
 use Rattle.scenario_play.specs.Player.{HasTreatedLine, Telling}
-use Rattle.scenario_play.specs.Status.{IsRefusal, told_of}
+use Rattle.scenario_play.specs.Status.{TellsOfLine, status_of_lines}
 use Rattle.scenario_play.specs.declared.status.Status.TheVariants as status
 use Rattle.scenario_play.proofs.Treating as treating
-use Rattle.cluster_run.specs.Playing.{ClusterNext, ClusterPlay, ClusterTurn, log_of, next_of, opening_of}
+use Rattle.cluster_run.specs.Playing.{ClusterNext, ClusterPlay, ClusterTurn, cluster_log_of, next_of, opening_of}
 use Rattle.cluster_run.specs.Promises.{KeepsPromises}
 use Rattle.cluster_run.specs.Script.{first_fault}
 use Rattle.cluster_run.specs.declared.fault.ClusterFault.{ClusterFault}
@@ -23,7 +23,7 @@ use Rattle.cluster_run.specs.declared.fault.ClusterFault.TheVariants.{BadLayout,
 use Rattle.cluster_run.proofs.Leading.{Leads, led-on, opened}
 use Rattle.cluster_run.proofs.Promises.{logged-all, scripts_keep_promises}
 use Rattle.cluster_run.proofs.Running.{GoesOn, line-leads, line-opens}
-use Rattle.cluster_play.specs.Doing.{AreLight, HasDone, ClusterGoesOn, IsReadyFor, log_len, most_of_a_line}
+use Rattle.cluster_play.specs.Doing.{AreLight, HasDone, ClusterGoesOn, IsReadyCluster, log_len, most_of_a_line}
 use Rattle.cluster_play.specs.Language.{cluster_scripts, told_at}
 
 -- a line that goes on
@@ -61,13 +61,14 @@ refused before Ends now (BadLayout bad) done = absurd done
 
 -- how many entries turns logged
 abbrev pub many : List ClusterTurn → ℕ
-many turns = length (log_of turns)
+many turns = length (cluster_log_of turns)
 
 many-append : (ts us : List ClusterTurn) → many (ts ++ us) ≡ many ts + many us
-many-append ts us = ap length (all ts) ∙ length-append (log_of ts) (log_of us) where
-  all : (ts : List ClusterTurn) → log_of (ts ++ us) ≡ log_of ts ++ log_of us
+many-append ts us = ap length (all ts) ∙ length-append (cluster_log_of ts) (cluster_log_of us) where
+  all : (ts : List ClusterTurn) → cluster_log_of (ts ++ us) ≡ cluster_log_of ts ++ cluster_log_of us
   all [] = refl
-  all (t ∷ ts) = ap (λ (xs : List ClusterEntry). logged_in t.turns ++ xs) (all ts) ∙ sym (append_assoc (logged_in t.turns) (log_of ts) (log_of us))
+  all (t ∷ ts) = ap (λ (xs : List ClusterEntry). logged_in t.turns ++ xs) (all ts) ∙ sym
+      (append_assoc (logged_in t.turns) (cluster_log_of ts) (cluster_log_of us))
 
 -- the log behind events
 leads-log : (c d : Cluster) (turns : List ClusterTurn) → Leads c d turns → length d.groups.log ≡ length c.groups.log + many turns
@@ -105,7 +106,7 @@ opens-left n now turns quiet (inr (plan, limits, some)) = record {
 }
 
 goes-left : (n : ℕ) (p : ClusterPlay) (now : Option ClusterPlay) (turns : List ClusterTurn)
-    → (ready : IsReadyFor (n * most_of_a_line) p.cluster) → GoesOn ready.plan p.cluster now turns
+    → (ready : IsReadyCluster (n * most_of_a_line) p.cluster) → GoesOn ready.plan p.cluster now turns
     → Left n (Some p) now turns
 goes-left n p now turns ready on = record {
   ready = subst (ClusterGoesOn (n + 1)) (sym on.is) (record {
@@ -124,7 +125,7 @@ left n (Some p) now bytes text ready w = goes-left n p now w.turns ready (line-l
 abbrev pub tells : Telling (Option ClusterPlay)
 tells = treating.tells next_of BadLine told_at log_len many ClusterGoesOn
 
-tells-refusal : (n : ℕ) (bad : LayoutField) → IsRefusal (told_at n (BadLayout bad))
+tells-refusal : (n : ℕ) (bad : LayoutField) → TellsOfLine (told_at n (BadLayout bad))
 tells-refusal n field.Groups = tt
 tells-refusal n field.Nodes = tt
 tells-refusal n (field.Shape f) = tt
@@ -168,6 +169,6 @@ told-done n Want is = cc is
 
 pub all-kept : (text : List ℕ) → cluster_scripts.verdict text ≡ status.Done → KeepsPromises text
 all-kept text is = scripts_keep_promises text (by (first_fault text) is) where
-  by : (fault : Option (Fault ClusterFault)) → told_of told_at fault ≡ status.Done → fault ≡ None
+  by : (fault : Option (Fault ClusterFault)) → status_of_lines told_at fault ≡ status.Done → fault ≡ None
   by None is = refl
   by (Some fault) is = absurd (told-done fault.number fault.cause is)

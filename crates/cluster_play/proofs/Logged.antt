@@ -11,7 +11,7 @@ use Rattle.group_types.specs.declared.process.ProcessId.{ProcessId}
 use Rattle.group_calls.specs.declared.entry.Entry.{Entry}
 use Rattle.group_calls.specs.declared.event.Event.{Event}
 use Rattle.group_calls.specs.declared.event.Event.TheVariants.{Fail}
-use Rattle.group_run.specs.World.{Ledger, Ticket, World, all_change, ledger_after, ledger_with, new_ones, node_of, settled_in, step}
+use Rattle.group_run.specs.World.{Ledger, Ticket, World, all_change, ledger_after, ledger_with, new_ones, process_node, settled_in, step}
 use Rattle.law_moves.proofs.Reading.{grown-is}
 use Rattle.group_layout.specs.Cluster.{Cluster, ClusterEntry, Groups, Move, all_moved, cluster_step, failure_of}
 use Rattle.group_layout.specs.Cluster.{failures, logged_in, move_unless, moved, node_failure, other_group, tagged}
@@ -26,7 +26,7 @@ use Rattle.group_cluster.specs.History.{logged_by}
 use Rattle.scenario_run.specs.Marks.{marked, marked_entries}
 use Rattle.scenario_play.proofs.Delivering.{last-few, last-logged}
 use Rattle.cluster_run.proofs.Promises.{logged-append}
-use Rattle.cluster_run.specs.Playing.{turn_of, turn_text}
+use Rattle.cluster_run.specs.Playing.{cluster_turn, turn_text}
 use Rattle.cluster_run.specs.Texts.{cluster_answer_text, cluster_entries_text, group_mark}
 
 -- the entries of one group
@@ -106,7 +106,7 @@ quiet tickets (d ∷ ds) ledger is =
 
 -- a failure logs nothing
 fail-logs : (w : World) (p : ProcessId) (keep : ℕ) → (step w (Fail p keep)).turn.logged ≡ []
-fail-logs w p keep = by (node_of w p).dead where
+fail-logs w p keep = by (process_node w p).dead where
   start : Ledger
   start = record { logged = []; places = w.places }
 
@@ -136,7 +136,7 @@ fail-silent c node keep = by (at false c.failed node) where
 -- the answer on a line, and what the event logged
 pub turn-written : (c : Cluster) (e : ClusterEvent) (answer : ClusterAnswer) (front line entries text : List ℕ)
     → front ≡ cluster_answer_text answer → answer ≡ (cluster_step c e).answer → line ≡ front ++ 10 ∷ []
-    → text ≡ line ++ entries → entries ≡ cluster_entries_text (logged_in (cluster_step c e).turns) → text ≡ turn_text (turn_of c e)
+    → text ≡ line ++ entries → entries ≡ cluster_entries_text (logged_in (cluster_step c e).turns) → text ≡ turn_text (cluster_turn c e)
 turn-written c e answer front line entries text front_is answer_is line_is text_is entries_is =
     text_is ∙ ap (λ (xs : List ℕ). xs ++ entries) line_is ∙ append_assoc front (10 ∷ []) entries
     ∙ ap (λ (xs : List ℕ). xs ++ 10 ∷ entries) (front_is ∙ ap cluster_answer_text answer_is)

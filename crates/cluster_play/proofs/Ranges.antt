@@ -6,7 +6,7 @@ use Rattle.group_types.specs.Dimensions.{Dimensions}
 use Rattle.group_types.specs.Shape.{IsFirstOutOfRange, IsShape}
 use Rattle.group_types.specs.declared.shape.Field.{Field}
 use Rattle.group_types.specs.declared.shape.Field.TheVariants.{Blocks}
-use Rattle.group_cluster.specs.Plan.{AreGroups, AreNodes, IsFirstBad, IsPlan, Plan, bytes_of, most_bytes}
+use Rattle.group_cluster.specs.Plan.{AreGroups, AreNodes, IsFirstBad, IsPlan, Plan, cluster_bytes, most_bytes}
 use Rattle.group_cluster.specs.declared.layout.LayoutField.{LayoutField}
 use Rattle.group_cluster.specs.declared.layout.LayoutField.TheVariants.{Groups, Nodes, Shape}
 use Rattle.scenario_text.specs.Meaning.{first_out_of_range, group_unless, group_within}
@@ -51,10 +51,10 @@ module _ (p : Plan) where
       ap (λ (t : Bool). rest (field_of_shape p (first_out_of_range p.shape)) t (nat_le (p.shape.k + p.shape.m) p.nodes && nat_le p.nodes 64)) isa
       ∙ ap (λ (t : Bool). rest (field_of_shape p (first_out_of_range p.shape)) a t) isb ∙ ap (λ (x : Option LayoutField). rest x a b) iso
 
-  few : bytes_of p ≤ most_bytes → nat_lt most_bytes (bytes_of p) ≡ false
+  few : cluster_bytes p ≤ most_bytes → nat_lt most_bytes (cluster_bytes p) ≡ false
   few bytes = grind (arith, nat_tests)
 
-  many : most_bytes < bytes_of p → nat_lt most_bytes (bytes_of p) ≡ true
+  many : most_bytes < cluster_bytes p → nat_lt most_bytes (cluster_bytes p) ≡ true
   many bytes = grind (arith, nat_tests)
 
   plan-none : IsPlan p → first_bad p ≡ None
@@ -71,7 +71,7 @@ module _ (p : Plan) where
     by true is = absurd (bad.1 (grind (arith, nat_tests), grind (arith, nat_tests)))
     by false is = judged true false _ (groups-in bad.0) is refl
   plan-some (Shape field) bad = judged true true (Some (Shape field)) (groups-in bad.0) (nodes-in bad.1) (by bad.2) where
-    by : IsFirstOutOfRange p.shape field ⊎ ((field ≡ Blocks) × IsShape p.shape × (most_bytes < bytes_of p))
+    by : IsFirstOutOfRange p.shape field ⊎ ((field ≡ Blocks) × IsShape p.shape × (most_bytes < cluster_bytes p))
         → field_of_shape p (first_out_of_range p.shape) ≡ Some (Shape field)
     by (inl out) = ap (field_of_shape p) (shape-some p.shape field out)
     by (inr (same, limits, large)) =

@@ -2,7 +2,7 @@
 use Rattle.std.proofs.Common.{◌≡◌, ℕ, Option, Some, None}
 use Rattle.group_cluster.specs.declared.layout.LayoutField.TheVariants.{Groups, Nodes, Shape}
 use Rattle.scenario_run.specs.Course.{Fault}
-use Rattle.scenario_play.specs.Status.{told_of}
+use Rattle.scenario_play.specs.Status.{status_of_lines}
 use Rattle.scenario_play.specs.Whole.{PlaysAllAlways}
 use Rattle.scenario_play.specs.declared.status.Status.TheVariants as status
 use Rattle.scenario_play.proofs.Whole.{NeverReadFault, plays-all}
@@ -20,7 +20,7 @@ told-never n Want is = cc is
 
 never : NeverReadFault cluster_scripts
 never text is = by (first_fault text) is where
-  by : (fault : Option (Fault ClusterFault)) → ¬ (told_of told_at fault ≡ status.ReadFault)
+  by : (fault : Option (Fault ClusterFault)) → ¬ (status_of_lines told_at fault ≡ status.ReadFault)
   by None is = cc is
   by (Some fault) is = told-never fault.number fault.cause is
 

@@ -18,7 +18,7 @@ abbrev pub most_of_a_line : ℕ
 most_of_a_line = 2 ^ 22
 
 -- events led to the cluster, and they are few
-pub record IsReadyFor (n : ℕ) (c : Cluster) : Type 0 where
+pub record IsReadyCluster (n : ℕ) (c : Cluster) : Type 0 where
   pub plan : Plan
   pub led : IsLedTo plan c
   pub light : AreLight n plan.groups c
@@ -26,7 +26,7 @@ pub record IsReadyFor (n : ℕ) (c : Cluster) : Type 0 where
 -- a line of this number may come
 abbrev pub ClusterGoesOn : ℕ → Option ClusterPlay → Type 0
 ClusterGoesOn n None = ⊤
-ClusterGoesOn n (Some p) = IsReadyFor (n * most_of_a_line) p.cluster
+ClusterGoesOn n (Some p) = IsReadyCluster (n * most_of_a_line) p.cluster
 
 -- how many entries the groups have logged
 abbrev pub log_len : Option ClusterPlay → ℕ

@@ -2,7 +2,7 @@
 use Rattle.std.specs.Prelude.{ℕ}
 use Rattle.group_cluster.specs.declared.layout.LayoutField.TheVariants.{Groups, Nodes, Shape}
 use Rattle.scenario_play.specs.Language.{Language}
-use Rattle.scenario_play.specs.Status.{told_of}
+use Rattle.scenario_play.specs.Status.{status_of_lines}
 use Rattle.scenario_play.specs.declared.status.Count.TheVariants as count
 use Rattle.scenario_play.specs.declared.status.Status.{Status}
 use Rattle.scenario_play.specs.declared.status.Status.TheVariants as status
@@ -20,4 +20,4 @@ told_at n (BadLayout (Shape field)) = status.BadShape field
 told_at n Want = status.Want
 
 abbrev pub cluster_scripts : Language
-cluster_scripts = record { transcript = transcript; verdict = λ text. told_of told_at (first_fault text); Promise = KeepsPromises }
+cluster_scripts = record { transcript = transcript; verdict = λ text. status_of_lines told_at (first_fault text); Promise = KeepsPromises }

@@ -3,10 +3,10 @@ ghost use Rattle.group_calls.specs.declared.event.Event.TheVariants.{Deliver};
 ghost use Rattle.group_run.specs.Meaning.{IsDown};
 ghost use Rattle.group_layout.specs.Cluster.{MayHappen, cluster_after, cluster_step, logged_in, world_in};
 ghost use Rattle.group_layout.specs.declared.event.ClusterEvent.TheVariants.{InGroup};
-ghost use Rattle.cluster_run.specs.Playing.{all_deliveries, deliveries_in, log_of, turns_from};
+ghost use Rattle.cluster_run.specs.Playing.{all_deliveries, cluster_log_of, deliveries_in, turns_from};
 ghost use Rattle.cluster_run.specs.Texts.{cluster_entries_text, group_mark};
 ghost use Rattle.group_cluster.specs.History.{HasFewEvents};
-ghost use Rattle.cluster_play.specs.Doing.{IsReadyFor};
+ghost use Rattle.cluster_play.specs.Doing.{IsReadyCluster};
 
 use crate::making::make_event;
 use crate::writing::{logged_by, write_mark};
@@ -23,10 +23,10 @@ pub(crate) fn drain(
     cluster: &mut Cluster,
     text: &mut Vec<u8>,
 ) -> Result<u64, AllocError>
-    requires ready { IsReadyFor (2 ^ 59) cluster.old }
+    requires ready { IsReadyCluster (2 ^ 59) cluster.old }
     ensures cluster { OnOk result (cluster.new ≡ cluster_after cluster.old (all_deliveries cluster.old)) }
     ensures text { OnOk result (text.new.items ≡ text.old.items
-        ++ cluster_entries_text (log_of (turns_from cluster.old (all_deliveries cluster.old)))) }
+        ++ cluster_entries_text (cluster_log_of (turns_from cluster.old (all_deliveries cluster.old)))) }
     ensures count { IfOk result (λ count. count ≡ length (all_deliveries cluster.old)) }
 {
     let mut count: u64 = 0;
@@ -44,10 +44,10 @@ fn drain_group(
     text: &mut Vec<u8>,
 ) -> Result<u64, AllocError>
     requires group { group < length cluster.old.groups.worlds }
-    requires ready { IsReadyFor (2 ^ 59) cluster.old }
+    requires ready { IsReadyCluster (2 ^ 59) cluster.old }
     ensures cluster { OnOk result (cluster.new ≡ cluster_after cluster.old (deliveries_in cluster.old group)) }
     ensures text { OnOk result (text.new.items ≡ text.old.items
-        ++ cluster_entries_text (log_of (turns_from cluster.old (deliveries_in cluster.old group)))) }
+        ++ cluster_entries_text (cluster_log_of (turns_from cluster.old (deliveries_in cluster.old group)))) }
     ensures count { IfOk result (λ count. count ≡ length (deliveries_in cluster.old group)) }
 {
     if cluster.world(group).is_down() {
@@ -65,10 +65,10 @@ fn deliver_all(
 ) -> Result<u64, AllocError>
     requires group { group < length cluster.old.groups.worlds }
     requires up { ¬ (IsDown (world_in cluster.old.groups group)) }
-    requires ready { IsReadyFor (2 ^ 59) cluster.old }
+    requires ready { IsReadyCluster (2 ^ 59) cluster.old }
     ensures cluster { OnOk result (cluster.new ≡ cluster_after cluster.old (deliveries_in cluster.old group)) }
     ensures text { OnOk result (text.new.items ≡ text.old.items
-        ++ cluster_entries_text (log_of (turns_from cluster.old (deliveries_in cluster.old group)))) }
+        ++ cluster_entries_text (cluster_log_of (turns_from cluster.old (deliveries_in cluster.old group)))) }
     ensures count { IfOk result (λ count. count ≡ length (deliveries_in cluster.old group)) }
 {
     let mark = write_mark(alloc, group)?;

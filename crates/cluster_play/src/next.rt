@@ -1,10 +1,10 @@
 ghost use Rattle.std.specs.Prelude.{◌≡◌, ◌^◌, ◌<◌, None, Some, length, IfSome};
 ghost use Rattle.scenario_text.specs.Meaning.{IsLineOf};
 ghost use Rattle.scenario_text.specs.Words as text;
-ghost use Rattle.scenario_play.specs.Player.{text_in};
+ghost use Rattle.scenario_play.specs.Player.{bytes_in_text};
 ghost use Rattle.cluster_run.specs.Meaning.{failure_line};
 ghost use Rattle.cluster_run.specs.Playing.{by_words, next_of, then_by, then_in};
-ghost use Rattle.cluster_play.specs.Doing.{HasBegun, HasDone, IsReadyFor};
+ghost use Rattle.cluster_play.specs.Doing.{HasBegun, HasDone, IsReadyCluster};
 
 use crate::playing::ClusterPlay;
 use crate::reading::{is_skipped, read_failure, read_group, read_groups, words_of};
@@ -20,8 +20,8 @@ pub(crate) fn treat(
     play: &mut Option<ClusterPlay>,
     line: &[u8],
 ) -> Result<Option<Vec<u8>>, ClusterFault>
-    requires { IfSome play.old (λ p. IsReadyFor (2 ^ 59) p.cluster) }
-    ensures { HasDone play.old (next_of play.old line.now) play.new (text_in result) }
+    requires { IfSome play.old (λ p. IsReadyCluster (2 ^ 59) p.cluster) }
+    ensures { HasDone play.old (next_of play.old line.now) play.new (bytes_in_text result) }
 {
     match play {
         None => {
@@ -49,8 +49,8 @@ fn follow(
     play: &mut ClusterPlay,
     line: &[u8],
 ) -> Result<Option<Vec<u8>>, ClusterFault>
-    requires ready { IsReadyFor (2 ^ 59) play.old.cluster }
-    ensures { HasDone (Some play.old) (next_of (Some play.old) line.now) (Some play.new) (text_in result) }
+    requires ready { IsReadyCluster (2 ^ 59) play.old.cluster }
+    ensures { HasDone (Some play.old) (next_of (Some play.old) line.now) (Some play.new) (bytes_in_text result) }
 {
     match read_group(play.cluster.groups(), line) {
         Ok((group, rest)) => {
@@ -68,9 +68,9 @@ fn follow_all(
     play: &mut ClusterPlay,
     line: &[u8],
 ) -> Result<Option<Vec<u8>>, ClusterFault>
-    requires ready { IsReadyFor (2 ^ 59) play.old.cluster }
+    requires ready { IsReadyCluster (2 ^ 59) play.old.cluster }
     ensures { HasDone (Some play.old) (by_words play.old line.now None
-        (failure_line (length play.old.cluster.failed) (text.words_of line.now))) (Some play.new) (text_in result) }
+        (failure_line (length play.old.cluster.failed) (text.split_words line.now))) (Some play.new) (bytes_in_text result) }
 {
     match read_failure(play.cluster.nodes(), &words_of(alloc, line)?) {
         Ok((node, keep)) => Ok(Some(play.fail(alloc, node, keep)?)),
@@ -91,8 +91,8 @@ fn follow_in(
 ) -> Result<Option<Vec<u8>>, ClusterFault>
     requires group { group < length play.old.cluster.groups.worlds }
     requires line { IsLineOf (Some play.old.cluster.groups.shape) line }
-    requires ready { IsReadyFor (2 ^ 59) play.old.cluster }
-    ensures { HasDone (Some play.old) (then_in play.old group line) (Some play.new) (text_in result) }
+    requires ready { IsReadyCluster (2 ^ 59) play.old.cluster }
+    ensures { HasDone (Some play.old) (then_in play.old group line) (Some play.new) (bytes_in_text result) }
 {
     let text = match line {
         Line::Ask { caller, at, act } => {
@@ -143,8 +143,8 @@ fn follow_plain(
     line: Line,
 ) -> Result<Option<Vec<u8>>, ClusterFault>
     requires line { IsLineOf (Some play.old.cluster.groups.shape) line }
-    requires ready { IsReadyFor (2 ^ 59) play.old.cluster }
-    ensures { HasDone (Some play.old) (then_by play.old line) (Some play.new) (text_in result) }
+    requires ready { IsReadyCluster (2 ^ 59) play.old.cluster }
+    ensures { HasDone (Some play.old) (then_by play.old line) (Some play.new) (bytes_in_text result) }
 {
     match line {
         Line::Skipped => Ok(Some(Vec::new(alloc))),

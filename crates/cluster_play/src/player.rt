@@ -35,18 +35,18 @@ impl ClusterPlayer {
 
 impl Player for ClusterPlayer {
     ghost use Rattle.std.specs.Prelude.{◌+◌, length};
-    ghost use Rattle.scenario_run.specs.Course.{fault_in, text_in, turns_in};
-    ghost use Rattle.scenario_play.specs.Status.{told_of};
-    ghost use Rattle.cluster_run.specs.Playing.{log_of, next_of};
+    ghost use Rattle.scenario_run.specs.Course.{fault_in, text_in, turns_of_lines};
+    ghost use Rattle.scenario_play.specs.Status.{status_of_lines};
+    ghost use Rattle.cluster_run.specs.Playing.{cluster_log_of, next_of};
     ghost use Rattle.cluster_run.specs.declared.fault.ClusterFault.TheVariants.{BadLine};
     ghost use Rattle.cluster_play.specs.Doing.{ClusterGoesOn, log_len};
     ghost use Rattle.cluster_play.specs.Language.{told_at};
 
     ghost text = { λ play lines. text_in next_of play lines };
 
-    ghost verdict = { λ n play lines. told_of told_at (fault_in next_of BadLine n play lines) };
+    ghost verdict = { λ n play lines. status_of_lines told_at (fault_in next_of BadLine n play lines) };
 
-    ghost entries = { λ play lines. log_len play + length (log_of (turns_in next_of play lines)) };
+    ghost entries = { λ play lines. log_len play + length (cluster_log_of (turns_of_lines next_of play lines)) };
 
     ghost ready = { ClusterGoesOn };
 

@@ -5,8 +5,8 @@ ghost use Rattle.group_layout.specs.Cluster.{MayHappen, cluster_after, cluster_s
 ghost use Rattle.group_layout.specs.declared.event.ClusterEvent.TheVariants.{FailNode, InGroup};
 ghost use Rattle.group_run.specs.Shown.{held};
 ghost use Rattle.scenario_run.specs.Playing.{look};
-ghost use Rattle.cluster_run.specs.Playing.{all_deliveries, drained_text, group_in, opening_of, turn_of, turn_text, turns_from};
-ghost use Rattle.cluster_play.specs.Doing.{IsReadyFor};
+ghost use Rattle.cluster_run.specs.Playing.{all_deliveries, cluster_turn, drained_text, group_world, opening_of, turn_text, turns_from};
+ghost use Rattle.cluster_play.specs.Doing.{IsReadyCluster};
 
 use crate::deliveries::drain;
 use crate::making::make_event;
@@ -59,7 +59,7 @@ impl ClusterPlay {
 
     /// The shape of each group.
     pub(crate) fn shape(&self) -> Shape
-        requires ready { IsReadyFor (2 ^ 59) self.now.cluster }
+        requires ready { IsReadyCluster (2 ^ 59) self.now.cluster }
         ensures { result ≡ self.now.cluster.groups.shape }
     {
         self.cluster.world(0).shape()
@@ -81,13 +81,13 @@ impl ClusterPlay {
         event: Event,
     ) -> Result<Vec<u8>, AllocError>
         requires may { MayHappen self.old.cluster (InGroup group event) }
-        requires ready { IsReadyFor (2 ^ 59) self.old.cluster }
+        requires ready { IsReadyCluster (2 ^ 59) self.old.cluster }
         ensures play { OnOk result (self.new ≡ record {
           cluster =
               (cluster_step self.old.cluster (InGroup group event)).cluster;
           moment = self.old.moment;
         }) }
-        ensures text { IfOk result (λ text. text.items ≡ turn_text (turn_of self.old.cluster (InGroup group event))) }
+        ensures text { IfOk result (λ text. text.items ≡ turn_text (cluster_turn self.old.cluster (InGroup group event))) }
     {
         let out = make_event(&mut self.cluster, ClusterEvent::InGroup { group, event })?;
         let logged = out.logged;
@@ -106,13 +106,13 @@ impl ClusterPlay {
         keep: u32,
     ) -> Result<Vec<u8>, AllocError>
         requires may { MayHappen self.old.cluster (FailNode node keep) }
-        requires ready { IsReadyFor (2 ^ 59) self.old.cluster }
+        requires ready { IsReadyCluster (2 ^ 59) self.old.cluster }
         ensures play { OnOk result (self.new ≡ record {
           cluster =
               (cluster_step self.old.cluster (FailNode node keep)).cluster;
           moment = self.old.moment;
         }) }
-        ensures text { IfOk result (λ text. text.items ≡ turn_text (turn_of self.old.cluster (FailNode node keep))) }
+        ensures text { IfOk result (λ text. text.items ≡ turn_text (cluster_turn self.old.cluster (FailNode node keep))) }
     {
         let out = make_event(&mut self.cluster, ClusterEvent::FailNode { node, keep })?;
         answer_line(alloc, out)
@@ -120,7 +120,7 @@ impl ClusterPlay {
 
     /// Messages are delivered in one group after the other, until none is left: what that logged, and how many there were.
     pub(crate) fn drain(&mut self, alloc: Global) -> Result<Vec<u8>, AllocError>
-        requires ready { IsReadyFor (2 ^ 59) self.old.cluster }
+        requires ready { IsReadyCluster (2 ^ 59) self.old.cluster }
         ensures play { OnOk result (self.new ≡ record {
           cluster = cluster_after self.old.cluster
               (all_deliveries self.old.cluster);
@@ -144,10 +144,10 @@ impl ClusterPlay {
         run: Run,
     ) -> Result<Vec<u8>, AllocError>
         requires group { group < length self.now.cluster.groups.worlds }
-        requires process { IsProcess (group_in self.now group).shape at }
-        requires run { run.at + run.len ≤ space_of (group_in self.now group).shape }
+        requires process { IsProcess (group_world self.now group).shape at }
+        requires run { run.at + run.len ≤ space_of (group_world self.now group).shape }
         ensures { IfOk result (λ text. text.items
-            ≡ look (group_in self.now group) at (held (group_in self.now group) at run) ++ 10 ∷ []) }
+            ≡ look (group_world self.now group) at (held (group_world self.now group) at run) ++ 10 ∷ []) }
     {
         let mut text = write_look(alloc, self.cluster.world(group), at, run)?;
         text.push(b'\n')?;

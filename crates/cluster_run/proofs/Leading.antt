@@ -9,7 +9,7 @@ use Rattle.group_layout.proofs.Happening.{Even, all-may, clusters_are_runs, even
 use Rattle.group_cluster.specs.Plan.{IsPlan, Plan}
 use Rattle.scenario_run.proofs.Leading as group
 use Rattle.cluster_run.specs.Led.{IsLedTo}
-use Rattle.cluster_run.specs.Playing.{ClusterTurn, opening_of, turn_of, turns_from}
+use Rattle.cluster_run.specs.Playing.{ClusterTurn, cluster_turn, opening_of, turns_from}
 
 -- events that lead from one cluster to another
 pub record Leads (c d : Cluster) (turns : List ClusterTurn) : Type 0 where
@@ -28,7 +28,7 @@ may-append c (e ∷ es) fs first rest = (first.0, may-append (cluster_step c e).
 
 pub turns-append : (c : Cluster) (es fs : List ClusterEvent) → turns_from c (es ++ fs) ≡ turns_from c es ++ turns_from (cluster_after c es) fs
 turns-append c [] fs = refl
-turns-append c (e ∷ es) fs = ap (λ (ts : List ClusterTurn). turn_of c e ∷ ts) (turns-append (cluster_step c e).cluster es fs)
+turns-append c (e ∷ es) fs = ap (λ (ts : List ClusterTurn). cluster_turn c e ∷ ts) (turns-append (cluster_step c e).cluster es fs)
 
 pub after-append : (c : Cluster) (es fs : List ClusterEvent) → cluster_after c (es ++ fs) ≡ cluster_after (cluster_after c es) fs
 after-append c [] fs = refl
@@ -54,7 +54,7 @@ led-on plan c d ts led leads = record {
 }
 
 -- one event leads on
-pub one-leads : (c : Cluster) (e : ClusterEvent) → MayHappen c e → Leads c (cluster_step c e).cluster (turn_of c e ∷ [])
+pub one-leads : (c : Cluster) (e : ClusterEvent) → MayHappen c e → Leads c (cluster_step c e).cluster (cluster_turn c e ∷ [])
 one-leads c e may = record { events = e ∷ []; may = (may, tt); turns_are = refl; to = refl }
 
 pub none-leads : (c d : Cluster) → c ≡ d → Leads c d []

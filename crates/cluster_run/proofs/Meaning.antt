@@ -8,7 +8,7 @@ use Rattle.group_types.specs.declared.shape.Field.TheVariants.{Blocks}
 use Rattle.group_layout.specs.Cluster.{Cluster, MayHappen}
 use Rattle.group_layout.specs.declared.event.ClusterEvent.{ClusterEvent}
 use Rattle.group_layout.specs.declared.event.ClusterEvent.TheVariants.{FailNode}
-use Rattle.group_cluster.specs.Plan.{IsPlan, Plan, bytes_of, most_bytes}
+use Rattle.group_cluster.specs.Plan.{IsPlan, Plan, cluster_bytes, most_bytes}
 use Rattle.group_cluster.specs.declared.layout.LayoutField.{LayoutField}
 use Rattle.group_cluster.specs.declared.layout.LayoutField.TheVariants.{Groups, Nodes, Shape}
 use Rattle.memc_proto.specs.Words.{if_below}
@@ -37,7 +37,7 @@ number_below-under limit word n is = if_below-under limit (number_of word) n is
 module _ (p : Plan) where
   -- groups in range
   fits : (b c d : Bool) → (nat_le 1 p.groups && nat_le p.groups 16) ≡ b
-      → (nat_le (p.shape.k + p.shape.m) p.nodes && nat_le p.nodes 64) ≡ c → nat_lt most_bytes (bytes_of p) ≡ d
+      → (nat_le (p.shape.k + p.shape.m) p.nodes && nat_le p.nodes 64) ≡ c → nat_lt most_bytes (cluster_bytes p) ≡ d
       → (o : Option Field) → first_out_of_range p.shape ≡ o
       → (if b then (if c then elim o
       [ Some field ↦ Some (Shape field) | None ↦ (if d then Some (Shape Blocks) else None) ] else Some Nodes) else
@@ -62,7 +62,7 @@ plan-fits p is = fits p _ _ _ refl refl refl (first_out_of_range p.shape) refl (
       then elim o [
         | Some field ↦ Some (Shape field)
         | None ↦
-            (if nat_lt most_bytes (bytes_of p) then Some (Shape Blocks) else None)
+            (if nat_lt most_bytes (cluster_bytes p) then Some (Shape Blocks) else None)
       ] else Some Nodes) else Some Groups)
   by (Some field) = refl
   by None = refl

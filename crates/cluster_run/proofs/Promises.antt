@@ -15,23 +15,24 @@ use Rattle.group_layout.proofs.Owning.{entries_are_own}
 use Rattle.group_layout.proofs.Tables.{logs_are_legal}
 use Rattle.group_cluster.specs.Plan.{IsPlan, Plan}
 use Rattle.law_headline.proofs.Truth.{truth_always}
-use Rattle.scenario_text.specs.Meaning.{IsLineOf, line_of}
+use Rattle.scenario_text.specs.Meaning.{IsLineOf, line_meaning}
 use Rattle.scenario_text.specs.declared.line.Line.{Line}
 use Rattle.scenario_text.specs.declared.line.Line.TheVariants.{Skipped, Group, Ask, Collect, Deliver, Fail, Flush, Trace, Drain, Show, Places, Time, Stop}
 use Rattle.scenario_text.specs.declared.line.LineFault.{LineFault}
-use Rattle.scenario_text.specs.Words.{words_of}
+use Rattle.scenario_text.specs.Words.{split_words}
 use Rattle.scenario_text.proofs.Lines.{line_of-within}
-use Rattle.scenario_run.specs.Course.{Ends, Goes, Refused, fault_in, named_in, turns_in}
+use Rattle.scenario_run.specs.Course.{Ends, Goes, Refused, fault_in, named_in, turns_of_lines}
 use Rattle.scenario_run.specs.Lines.{lines_of}
 use Rattle.scenario_run.proofs.Following.{fault_after, named-line, turns_after}
 use Rattle.scenario_run.specs.Playing.{look}
 use Rattle.scenario_run.proofs.Running.{parts}
 use Rattle.scenario_run.proofs.Truth.{shows-truth}
 use Rattle.cluster_run.specs.Led.{IsLedTo}
-use Rattle.cluster_run.specs.Playing.{ClusterNext, ClusterPlay, ClusterTurn, by_line, by_words, group_in, log_of, next_of, opening_of, then_in, turns_from}
+use Rattle.cluster_run.specs.Playing.{ClusterNext, ClusterPlay, ClusterTurn, by_line, by_words, cluster_log_of, group_world, next_of, opening_of, then_in}
+use Rattle.cluster_run.specs.Playing.{turns_from}
 use Rattle.cluster_run.specs.Meaning.{failure_line, in_group}
-use Rattle.cluster_run.specs.Promises.{AreTrueLines, HoldsAfter, IsTrueIn, IsTrueLine, IsTrueNamed, ScriptsKeepPromises, end_of}
-use Rattle.cluster_run.specs.Script.{events_of, plan_in, turns_of}
+use Rattle.cluster_run.specs.Promises.{AreTrueLines, HoldsAfter, IsTrueIn, IsTrueLine, IsTrueNamed, ScriptsKeepPromises, cluster_at_end}
+use Rattle.cluster_run.specs.Script.{cluster_script_events, plan_in, turns_of}
 use Rattle.cluster_run.specs.declared.fault.ClusterFault.TheVariants.{BadLine}
 use Rattle.cluster_run.proofs.Leading.{Leads, laid, leads-then, led-even, led-group, led-nodes, led-on, none-leads, opened}
 use Rattle.cluster_run.proofs.Meaning.{in_group-below}
@@ -54,11 +55,11 @@ module _ (plan : Plan) where
   none : (c : Cluster) → Runs c []
   none c = record { d = c; leads = none-leads c c refl }
 
-  runs : (p : ClusterPlay) (lines : List (List ℕ)) → IsLedTo plan p.cluster → Runs p.cluster (turns_in next_of (Some p) lines)
+  runs : (p : ClusterPlay) (lines : List (List ℕ)) → IsLedTo plan p.cluster → Runs p.cluster (turns_of_lines next_of (Some p) lines)
   runs p [] led = none p.cluster
   runs p (line ∷ lines) led = by (next_of (Some p) line) refl (λ q. runs q lines) where
     by : (next : ClusterNext) → next_of (Some p) line ≡ next
-        → ((q : ClusterPlay) → IsLedTo plan q.cluster → Runs q.cluster (turns_in next_of (Some q) lines))
+        → ((q : ClusterPlay) → IsLedTo plan q.cluster → Runs q.cluster (turns_of_lines next_of (Some q) lines))
         → Runs p.cluster (turns_after next_of next lines)
     by Ends is later = none p.cluster
     by (Refused fault) is later = none p.cluster
@@ -67,8 +68,8 @@ module _ (plan : Plan) where
         let rest = later on.play (led-on plan p.cluster on.play.cluster turns led on.leads) in
         record {
           d = rest.d;
-          leads = leads-then p.cluster on.play.cluster rest.d turns (turns_in next_of next lines) on.leads
-              (subst (λ (q : Option ClusterPlay). Leads on.play.cluster rest.d (turns_in next_of q lines)) (sym on.is) rest.leads);
+          leads = leads-then p.cluster on.play.cluster rest.d turns (turns_of_lines next_of next lines) on.leads
+              (subst (λ (q : Option ClusterPlay). Leads on.play.cluster rest.d (turns_of_lines next_of q lines)) (sym on.is) rest.leads);
         }
 
   -- what is shown behind the line that names the groups is true
@@ -77,11 +78,11 @@ module _ (plan : Plan) where
 
   true-in : (p : ClusterPlay) (j : ℕ) (l : Result Line LineFault) (next : Option ClusterPlay) (turns : List ClusterTurn)
       (text : List ℕ) → IsLedTo plan p.cluster → j < plan.groups
-      → ((l' : Line) → l ≡ Ok l' → IsLineOf (Some (group_in p j).shape) l') → by_line (then_in p j) l ≡ Goes next turns text → IsTrueIn p j l text
+      → ((l' : Line) → l ≡ Ok l' → IsLineOf (Some (group_world p j).shape) l') → by_line (then_in p j) l ≡ Goes next turns text → IsTrueIn p j l text
   true-in p j (Err fault) next turns text led low within is = tt
   true-in p j (Ok (Show from run)) next turns text led low within is =
-      (parts (Some p) next [] turns (look (group_in p j) from (held (group_in p j) from run) ++ 10 ∷ []) text is).2
-      ∙ shows-truth (group_in p j) from run (within (Show from run) refl).0 (truth p.cluster j led low)
+      (parts (Some p) next [] turns (look (group_world p j) from (held (group_world p j) from run) ++ 10 ∷ []) text is).2
+      ∙ shows-truth (group_world p j) from run (within (Show from run) refl).0 (truth p.cluster j led low)
   true-in p j (Ok Skipped) next turns text led low within is = tt
   true-in p j (Ok (Group shape)) next turns text led low within is = tt
   true-in p j (Ok (Ask caller from act)) next turns text led low within is = tt
@@ -101,7 +102,7 @@ module _ (plan : Plan) where
   true-named p line None failure next turns text led there is = tt
   true-named p line (Some x) failure next turns text led there is =
       let even = led-even plan p.cluster led in
-      true-in p x.0 (line_of (Some p.cluster.groups.shape) x.1) next turns text led (there x refl)
+      true-in p x.0 (line_meaning (Some p.cluster.groups.shape) x.1) next turns text led (there x refl)
       (λ l reads. subst (λ (s : Dimensions). IsLineOf (Some s) l) (even.shape ∙ sym (even.worlds x.0))
       (line_of-within (Some p.cluster.groups.shape) x.1 l reads)) is
 
@@ -110,7 +111,7 @@ module _ (plan : Plan) where
   true-lines p (line ∷ lines) led = by (next_of (Some p) line) refl (λ q. true-lines q lines) where
     here : (next : Option ClusterPlay) (turns : List ClusterTurn) (text : List ℕ) → next_of (Some p) line ≡ Goes next turns text → IsTrueLine (Some p) line text
     here next turns text is = let many = (led-even plan p.cluster led).many in
-        true-named p line (in_group (length p.cluster.groups.worlds) line) (failure_line (length p.cluster.failed) (words_of line)) next turns text led
+        true-named p line (in_group (length p.cluster.groups.worlds) line) (failure_line (length p.cluster.failed) (split_words line)) next turns text led
         (λ x names. subst (λ (n : ℕ). x.0 < n) many (in_group-below (length p.cluster.groups.worlds) line x names)) is
 
     by : (next : ClusterNext) → next_of (Some p) line ≡ next
@@ -130,7 +131,7 @@ record Named (lines : List (List ℕ)) : Type 0 where
   plan : Plan
   limits : IsPlan plan
   named : plan_in (named_in next_of None lines) ≡ Some plan
-  runs_are : Runs (opening_of plan) (turns_in next_of None lines)
+  runs_are : Runs (opening_of plan) (turns_of_lines next_of None lines)
   true_lines : AreTrueLines None lines
 
 -- the numbers of the opening cluster
@@ -149,9 +150,10 @@ begins n (line ∷ lines) ends = by (next_of None line) refl ends (begins (n + 1
       ≡ None
       → (fault_in next_of BadLine (n + 1) None lines ≡ None → Named lines) → Named (line ∷ lines)
   begun next turns text is opens rest later = either opens.is where
-    turns_are : (q : Option ClusterPlay) → next ≡ q → turns_in next_of None (line ∷ lines) ≡ turns_in next_of q lines
-    turns_are q same = ap (λ (x : ClusterNext). turns_after next_of x lines) is ∙ ap (λ (ts : List ClusterTurn). ts ++ turns_in next_of next lines) opens.quiet
-        ∙ ap (λ (x : Option ClusterPlay). turns_in next_of x lines) same
+    turns_are : (q : Option ClusterPlay) → next ≡ q → turns_of_lines next_of None (line ∷ lines) ≡ turns_of_lines next_of q lines
+    turns_are q same = ap (λ (x : ClusterNext). turns_after next_of x lines) is ∙ ap
+        (λ (ts : List ClusterTurn). ts ++ turns_of_lines next_of next lines) opens.quiet
+        ∙ ap (λ (x : Option ClusterPlay). turns_of_lines next_of x lines) same
 
     plan_is : (q : Option ClusterPlay) → next ≡ q → plan_in (named_in next_of None (line ∷ lines)) ≡ plan_in (named_in next_of q lines)
     plan_is q same = ap plan_in (named-line next_of line lines (Goes next turns text) is ∙ ap (λ (x : Option ClusterPlay). named_in next_of x lines) same)
@@ -205,7 +207,7 @@ logged-append (t ∷ ts) us =
     ap (λ (xs : List ClusterEntry). tagged t.group t.turn.logged ++ xs) (logged-append ts us)
     ∙ sym (append_assoc (tagged t.group t.turn.logged) (logged_in ts) (logged_in us))
 
-pub logged-all : (c : Cluster) (es : List ClusterEvent) → logged_in (cluster_turns c es) ≡ log_of (turns_from c es)
+pub logged-all : (c : Cluster) (es : List ClusterEvent) → logged_in (cluster_turns c es) ≡ cluster_log_of (turns_from c es)
 logged-all c [] = refl
 logged-all c (e ∷ es) =
     logged-append (cluster_step c e).turns (cluster_turns (cluster_step c e).cluster es)
@@ -220,9 +222,9 @@ scripts_keep_promises text whole = record {
   turns = turns;
   log = log;
   holds = holds;
-  legal = subst (IsClusterLegal plan.shape.k) log (logs_are_legal plan.shape plan.nodes plan.groups (events_of text) limits layout may);
-  own = subst (All (IsOwn plan.shape.k plan.groups)) log (entries_are_own plan.shape plan.nodes plan.groups (events_of text) limits layout may);
-  within = answers_are_within plan.shape plan.nodes plan.groups (events_of text) limits layout may;
+  legal = subst (IsClusterLegal plan.shape.k) log (logs_are_legal plan.shape plan.nodes plan.groups (cluster_script_events text) limits layout may);
+  own = subst (All (IsOwn plan.shape.k plan.groups)) log (entries_are_own plan.shape plan.nodes plan.groups (cluster_script_events text) limits layout may);
+  within = answers_are_within plan.shape plan.nodes plan.groups (cluster_script_events text) limits layout may;
   shown = named.true_lines;
 } where
   named : Named (lines_of text)
@@ -240,23 +242,23 @@ scripts_keep_promises text whole = record {
   leads : Leads (opening_of plan) named.runs_are.d (turns_of text)
   leads = named.runs_are.leads
 
-  same : leads.events ≡ events_of text
+  same : leads.events ≡ cluster_script_events text
   same = sym (events-are (opening_of plan) leads.events) ∙ ap (λ (ts : List ClusterTurn). map (λ turn. turn.event) ts) leads.turns_are
 
-  may : MayAllHappen (opening_of plan) (events_of text)
+  may : MayAllHappen (opening_of plan) (cluster_script_events text)
   may = subst (MayAllHappen (opening_of plan)) same leads.may
 
-  turns : turns_from (opening_of plan) (events_of text) ≡ turns_of text
+  turns : turns_from (opening_of plan) (cluster_script_events text) ≡ turns_of text
   turns = ap (turns_from (opening_of plan)) (sym same) ∙ leads.turns_are
 
-  log : (end_of plan (events_of text)).groups.log ≡ log_of (turns_of text)
-  log = (clusters_are_runs plan.shape plan.nodes plan.groups (events_of text) limits layout may).log
-      ∙ logged-all (opening_of plan) (events_of text) ∙ ap log_of turns
+  log : (cluster_at_end plan (cluster_script_events text)).groups.log ≡ cluster_log_of (turns_of text)
+  log = (clusters_are_runs plan.shape plan.nodes plan.groups (cluster_script_events text) limits layout may).log
+      ∙ logged-all (opening_of plan) (cluster_script_events text) ∙ ap cluster_log_of turns
 
-  holds : (n : ℕ) → HoldsAfter plan (take n (events_of text))
+  holds : (n : ℕ) → HoldsAfter plan (take n (cluster_script_events text))
   holds n =
-      let front = may-front (opening_of plan) n (events_of text) may in
+      let front = may-front (opening_of plan) n (cluster_script_events text) may in
       record {
-        runs = clusters_are_runs plan.shape plan.nodes plan.groups (take n (events_of text)) limits layout front;
-        borne = few_failures_are_borne plan.shape plan.nodes plan.groups (take n (events_of text)) limits layout front;
+        runs = clusters_are_runs plan.shape plan.nodes plan.groups (take n (cluster_script_events text)) limits layout front;
+        borne = few_failures_are_borne plan.shape plan.nodes plan.groups (take n (cluster_script_events text)) limits layout front;
       }

@@ -7,12 +7,13 @@ use Rattle.group_types.specs.Lists.{at}
 use Rattle.group_calls.specs.declared.event.Event.{Event}
 use Rattle.group_calls.specs.declared.event.Event.TheVariants as happens
 use Rattle.group_run.specs.Headline.{MayCome}
-use Rattle.group_layout.specs.Cluster.{Cluster, IsFailure, MayHappen, cluster_after, cluster_step, world_in}
+use Rattle.group_run.specs.Causes.{IsFailure}
+use Rattle.group_layout.specs.Cluster.{Cluster, MayHappen, cluster_after, cluster_step, world_in}
 use Rattle.group_layout.specs.declared.event.ClusterEvent.{ClusterEvent}
 use Rattle.group_layout.specs.declared.event.ClusterEvent.TheVariants.{InGroup}
 use Rattle.group_cluster.specs.Plan.{IsPlan, Plan}
-use Rattle.scenario_text.specs.Meaning.{IsLineOf, is_skipped, line_of}
-use Rattle.scenario_text.specs.Words.{words_of}
+use Rattle.scenario_text.specs.Meaning.{IsLineOf, is_skipped, line_meaning}
+use Rattle.scenario_text.specs.Words.{split_words}
 use Rattle.scenario_text.specs.declared.line.Line.{Line}
 use Rattle.scenario_text.specs.declared.line.Line.TheVariants.{Skipped, Group, Ask, Collect, Deliver, Fail, Flush, Trace, Drain, Show, Places, Time, Stop}
 use Rattle.scenario_text.specs.declared.line.LineFault.{LineFault}
@@ -23,8 +24,8 @@ use Rattle.scenario_run.proofs.Running.{parts}
 use Rattle.cluster_run.specs.Meaning.{failure_line, groups_line, in_group}
 use Rattle.cluster_run.specs.Led.{IsLedTo}
 use Rattle.cluster_run.specs.Playing.{ClusterPlay, ClusterTurn, all_deliveries, by_event, by_line, by_plan, by_trace}
-use Rattle.cluster_run.specs.Playing.{by_words, drained_text, group_in, next_of, opening_of, quietly, then_by, then_in}
-use Rattle.cluster_run.specs.Playing.{turn_of, turn_text, turns_from}
+use Rattle.cluster_run.specs.Playing.{by_words, drained_text, group_world, next_of, opening_of, quietly, then_by, then_in}
+use Rattle.cluster_run.specs.Playing.{cluster_turn, turn_text, turns_from}
 use Rattle.cluster_run.specs.declared.fault.ClusterFault.{ClusterFault}
 use Rattle.cluster_run.specs.declared.fault.ClusterFault.TheVariants.{BadLine}
 use Rattle.cluster_run.proofs.Draining.{all-drained}
@@ -58,7 +59,7 @@ module _ (plan : Plan) where
       → GoesOn plan p.cluster next turns
   comes p e next turns text led may is =
       let q : ClusterPlay = record { cluster = (cluster_step p.cluster e).cluster; moment = p.moment } in
-      let both = parts (Some q) next (turn_of p.cluster e ∷ []) turns (turn_text (turn_of p.cluster e)) text is in
+      let both = parts (Some q) next (cluster_turn p.cluster e ∷ []) turns (turn_text (cluster_turn p.cluster e)) text is in
       record {
         play = q;
         is = both.0;
@@ -68,15 +69,15 @@ module _ (plan : Plan) where
       }
 
   -- an event of a group
-  own : (p : ClusterPlay) (j : ℕ) (e : Event) → IsLedTo plan p.cluster → j < plan.groups → MayCome (group_in p j) e
+  own : (p : ClusterPlay) (j : ℕ) (e : Event) → IsLedTo plan p.cluster → j < plan.groups → MayCome (group_world p j) e
       → ¬ (IsFailure e) → MayHappen p.cluster (InGroup j e)
   own p j e led low may never = ((subst (λ (n : ℕ). j < n) (sym (led-even plan p.cluster led).many) low, may), never)
 
   traces : (p : ClusterPlay) (j caller call : ℕ) (e : Event) (next : Option ClusterPlay) (turns : List ClusterTurn) (text : List ℕ) → IsLedTo plan p.cluster
-      → (call < at 0 (group_in p j).asked caller → MayHappen p.cluster (InGroup j e)) → by_trace p j caller call e
+      → (call < at 0 (group_world p j).asked caller → MayHappen p.cluster (InGroup j e)) → by_trace p j caller call e
       ≡ Goes next turns text → GoesOn plan p.cluster next turns
-  traces p j caller call e next turns text led may is = by (nat_lt call (at 0 (group_in p j).asked caller)) refl is where
-    by : (b : Bool) → nat_lt call (at 0 (group_in p j).asked caller) ≡ b
+  traces p j caller call e next turns text led may is = by (nat_lt call (at 0 (group_world p j).asked caller)) refl is where
+    by : (b : Bool) → nat_lt call (at 0 (group_world p j).asked caller) ≡ b
         → (if b then by_event p (InGroup j e) else Refused BadLine) ≡ Goes next turns text
         → GoesOn plan p.cluster next turns
     by true less goes = comes p (InGroup j e) next turns text led (may (grind (arith, nat_tests))) goes
@@ -84,7 +85,7 @@ module _ (plan : Plan) where
 
   -- a line of a group
   in-leads : (p : ClusterPlay) (j : ℕ) (l : Line) (next : Option ClusterPlay) (turns : List ClusterTurn) (text : List ℕ)
-      → IsLedTo plan p.cluster → j < plan.groups → IsLineOf (Some (group_in p j).shape) l
+      → IsLedTo plan p.cluster → j < plan.groups → IsLineOf (Some (group_world p j).shape) l
       → then_in p j l ≡ Goes next turns text → GoesOn plan p.cluster next turns
   in-leads p j (Ask caller from act) next turns text led low within is =
       let e : Event = happens.Ask caller (record { moment = p.moment; act = act }) from in
@@ -163,18 +164,18 @@ module _ (plan : Plan) where
       → ((e : ClusterEvent) → failure ≡ Some e → MayHappen p.cluster e) → by_words p line named failure
       ≡ Goes next turns text → GoesOn plan p.cluster next turns
   words-lead p line (Some x) failure next turns text led there may is =
-      line-in p x.0 (line_of (Some p.cluster.groups.shape) x.1) next turns text led (there x refl)
+      line-in p x.0 (line_meaning (Some p.cluster.groups.shape) x.1) next turns text led (there x refl)
       (λ l reads. line_of-within (Some p.cluster.groups.shape) x.1 l reads) is
   words-lead p line None (Some e) next turns text led there may is = comes p e next turns text led (may e refl) is
-  words-lead p line None None next turns text led there may is = line-by p (line_of (Some p.cluster.groups.shape) line) next turns text led is
+  words-lead p line None None next turns text led there may is = line-by p (line_meaning (Some p.cluster.groups.shape) line) next turns text led is
 
   pub line-leads : (p : ClusterPlay) (line : List ℕ) (next : Option ClusterPlay) (turns : List ClusterTurn) (text : List ℕ) → IsLedTo plan p.cluster
       → next_of (Some p) line ≡ Goes next turns text → GoesOn plan p.cluster next turns
   line-leads p line next turns text led is =
       let many = (led-even plan p.cluster led).many in
-      words-lead p line (in_group (length p.cluster.groups.worlds) line) (failure_line (length p.cluster.failed) (words_of line)) next turns text led
+      words-lead p line (in_group (length p.cluster.groups.worlds) line) (failure_line (length p.cluster.failed) (split_words line)) next turns text led
       (λ x names. subst (λ (n : ℕ). x.0 < n) many (in_group-below (length p.cluster.groups.worlds) line x names))
-      (λ e fails. failure-below p.cluster (words_of line) e fails) is
+      (λ e fails. failure-below p.cluster (split_words line) e fails) is
 
 -- the line that names the groups, or a line before it
 pub record Opens (next : Option ClusterPlay) (turns : List ClusterTurn) (text : List ℕ) : Type 0 where
@@ -192,13 +193,13 @@ plan-opens (Ok plan) next turns text within is =
 pub line-opens : (line : List ℕ) (next : Option ClusterPlay) (turns : List ClusterTurn) (text : List ℕ)
     → next_of None line ≡ Goes next turns text → Opens next turns text
 line-opens line next turns text is = by (is_skipped line) is where
-  by : (b : Bool) → (if b then quietly None else by_plan (groups_line (words_of line))) ≡ Goes next turns text → Opens next turns text
+  by : (b : Bool) → (if b then quietly None else by_plan (groups_line (split_words line))) ≡ Goes next turns text → Opens next turns text
   by true goes = let both = parts None next [] turns [] text goes in record { quiet = both.1; silent = both.2; is = inl both.0 }
-  by false goes = plan-opens (groups_line (words_of line)) next turns text (groups-within (words_of line)) goes
+  by false goes = plan-opens (groups_line (split_words line)) next turns text (groups-within (split_words line)) goes
 
 -- before the groups are named no line is the last
 pub never-ends : (line : List ℕ) → next_of None line ≡ Ends → ⊥
-never-ends line is = by (is_skipped line) (groups_line (words_of line)) is where
+never-ends line is = by (is_skipped line) (groups_line (split_words line)) is where
   by : (b : Bool) (r : Result Plan ClusterFault) → (if b then quietly None else by_plan r) ≡ Ends → ⊥
   by true r is = cc is
   by false (Ok plan) is = cc is

@@ -5,7 +5,7 @@ use Rattle.group_types.specs.declared.shape.Field.{Field}
 use Rattle.group_types.specs.declared.shape.Field.TheVariants.{Blocks}
 use Rattle.group_layout.specs.declared.event.ClusterEvent.{ClusterEvent}
 use Rattle.group_layout.specs.declared.event.ClusterEvent.TheVariants.{FailNode}
-use Rattle.group_cluster.specs.Plan.{Plan, bytes_of, most_bytes}
+use Rattle.group_cluster.specs.Plan.{Plan, cluster_bytes, most_bytes}
 use Rattle.group_cluster.specs.declared.layout.LayoutField.{LayoutField}
 use Rattle.group_cluster.specs.declared.layout.LayoutField.TheVariants.{Groups, Nodes, Shape}
 use Rattle.scenario_text.specs.Meaning.{first_out_of_range}
@@ -16,7 +16,7 @@ use Rattle.cluster_run.specs.declared.fault.ClusterFault.TheVariants.{BadLayout,
 -- the field of the shape that is out of range, or the number of blocks where all spaces together are too large
 abbrev pub field_of_shape : Plan → Option Field → Option LayoutField
 field_of_shape p (Some field) = Some (Shape field)
-field_of_shape p None = if nat_lt most_bytes (bytes_of p) then Some (Shape Blocks) else None
+field_of_shape p None = if nat_lt most_bytes (cluster_bytes p) then Some (Shape Blocks) else None
 
 -- the first field out of range: groups, nodes, and then those of the shape
 abbrev pub first_bad : Plan → Option LayoutField

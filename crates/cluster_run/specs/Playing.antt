@@ -14,13 +14,13 @@ use Rattle.group_layout.specs.declared.event.ClusterAnswer.{ClusterAnswer}
 use Rattle.group_layout.specs.declared.event.ClusterEvent.{ClusterEvent}
 use Rattle.group_layout.specs.declared.event.ClusterEvent.TheVariants.{InGroup}
 use Rattle.group_cluster.specs.Plan.{Plan}
-use Rattle.scenario_text.specs.Meaning.{is_skipped, line_of}
-use Rattle.scenario_text.specs.Words.{words_of}
+use Rattle.scenario_text.specs.Meaning.{is_skipped, line_meaning}
+use Rattle.scenario_text.specs.Words.{split_words}
 use Rattle.scenario_text.specs.declared.line.Line.{Line}
 use Rattle.scenario_text.specs.declared.line.Line.TheVariants.{Skipped, Group, Ask, Collect, Deliver, Fail, Flush, Trace, Drain, Show, Places, Time, Stop}
 use Rattle.scenario_text.specs.declared.line.LineFault.{LineFault}
 use Rattle.scenario_run.specs.Course.{Next, Goes, Ends, Refused}
-use Rattle.scenario_run.specs.Playing.{draining, look}
+use Rattle.scenario_run.specs.Playing.{draining_unless_down, look}
 use Rattle.cluster_run.specs.Meaning.{failure_line, groups_line, in_group}
 use Rattle.cluster_run.specs.Texts.{cluster_answer_text, cluster_entries_text}
 use Rattle.cluster_run.specs.declared.fault.ClusterFault.{ClusterFault}
@@ -46,17 +46,17 @@ abbrev pub quietly : Option ClusterPlay → ClusterNext
 quietly play = Goes play [] []
 
 -- what a cluster makes of an event, and of events one after the other
-abbrev pub turn_of : Cluster → ClusterEvent → ClusterTurn
-turn_of c e = record { event = e; answer = (cluster_step c e).answer; turns = (cluster_step c e).turns }
+abbrev pub cluster_turn : Cluster → ClusterEvent → ClusterTurn
+cluster_turn c e = record { event = e; answer = (cluster_step c e).answer; turns = (cluster_step c e).turns }
 
 abbrev pub turns_from : Cluster → List ClusterEvent → List ClusterTurn
 turns_from c [] = []
-turns_from c (e ∷ es) = turn_of c e ∷ turns_from (cluster_step c e).cluster es
+turns_from c (e ∷ es) = cluster_turn c e ∷ turns_from (cluster_step c e).cluster es
 
 -- what turns logged, in order
-abbrev pub log_of : List ClusterTurn → List ClusterEntry
-log_of [] = []
-log_of (t ∷ ts) = logged_in t.turns ++ log_of ts
+abbrev pub cluster_log_of : List ClusterTurn → List ClusterEntry
+cluster_log_of [] = []
+cluster_log_of (t ∷ ts) = logged_in t.turns ++ cluster_log_of ts
 
 -- the answer of an event on a line, and then what it logged
 abbrev pub turn_text : ClusterTurn → List ℕ
@@ -64,19 +64,19 @@ turn_text turn = cluster_answer_text turn.answer ++ 10 ∷ cluster_entries_text 
 
 -- an event is made
 abbrev pub by_event : ClusterPlay → ClusterEvent → ClusterNext
-by_event p e = Goes (Some (record { cluster = (cluster_step p.cluster e).cluster; moment = p.moment })) (turn_of p.cluster e ∷ []) (turn_text (turn_of p.cluster e))
+by_event p e = Goes (Some (record { cluster = (cluster_step p.cluster e).cluster; moment = p.moment })) (cluster_turn p.cluster e ∷ []) (turn_text (cluster_turn p.cluster e))
 
 -- one of the groups
-abbrev pub group_in : ClusterPlay → ℕ → World
-group_in p j = world_in p.cluster.groups j
+abbrev pub group_world : ClusterPlay → ℕ → World
+group_world p j = world_in p.cluster.groups j
 
 -- only a call that was asked in the group is traced
 abbrev pub by_trace : ClusterPlay → ℕ → ℕ → ℕ → Event → ClusterNext
-by_trace p j caller call e = if nat_lt call (at 0 (group_in p j).asked caller) then by_event p (InGroup j e) else Refused BadLine
+by_trace p j caller call e = if nat_lt call (at 0 (group_world p j).asked caller) then by_event p (InGroup j e) else Refused BadLine
 
 -- the deliveries of a drain: those of each group, one group after the other
 abbrev pub deliveries_in : Cluster → ℕ → List ClusterEvent
-deliveries_in c j = map (InGroup j) (draining (world_in c.groups j))
+deliveries_in c j = map (InGroup j) (draining_unless_down (world_in c.groups j))
 
 abbrev pub deliveries : Cluster → List ℕ → List ClusterEvent
 deliveries c [] = []
@@ -87,13 +87,13 @@ all_deliveries c = deliveries c (range_with_len 0 (length c.groups.worlds))
 
 -- what the deliveries of a drain logged, and how many there were
 abbrev pub drained_text : List ClusterTurn → List ℕ
-drained_text turns = cluster_entries_text (log_of turns) ++ (codes "drained " ++ (decimal (length turns) ++ codes "\n"))
+drained_text turns = cluster_entries_text (cluster_log_of turns) ++ (codes "drained " ++ (decimal (length turns) ++ codes "\n"))
 
 abbrev pub by_drain : ClusterPlay → List ClusterEvent → ClusterNext
 by_drain p es = Goes (Some (record { cluster = cluster_after p.cluster es; moment = p.moment })) (turns_from p.cluster es) (drained_text (turns_from p.cluster es))
 
 abbrev pub by_show : ClusterPlay → ℕ → ProcessId → Run → ClusterNext
-by_show p j from run = Goes (Some p) [] (look (group_in p j) from (held (group_in p j) from run) ++ 10 ∷ [])
+by_show p j from run = Goes (Some p) [] (look (group_world p j) from (held (group_world p j) from run) ++ 10 ∷ [])
 
 -- what a line of this meaning does in a group
 abbrev pub then_in : ClusterPlay → ℕ → Line → ClusterNext
@@ -126,9 +126,9 @@ by_line next (Err fault) = Refused BadLine
 
 -- a line in a group, or the failure of a node, or a line that names neither
 abbrev pub by_words : ClusterPlay → List ℕ → Option (ℕ × List ℕ) → Option ClusterEvent → ClusterNext
-by_words p line (Some named) failure = by_line (then_in p named.0) (line_of (Some p.cluster.groups.shape) named.1)
+by_words p line (Some named) failure = by_line (then_in p named.0) (line_meaning (Some p.cluster.groups.shape) named.1)
 by_words p line None (Some failure) = by_event p failure
-by_words p line None None = by_line (then_by p) (line_of (Some p.cluster.groups.shape) line)
+by_words p line None None = by_line (then_by p) (line_meaning (Some p.cluster.groups.shape) line)
 
 -- the groups that a line names, at their start
 abbrev pub opening_of : Plan → Cluster
@@ -140,5 +140,5 @@ by_plan (Err fault) = Refused fault
 
 -- what a line does
 abbrev pub next_of : Option ClusterPlay → List ℕ → ClusterNext
-next_of None line = if is_skipped line then quietly None else by_plan (groups_line (words_of line))
-next_of (Some p) line = by_words p line (in_group (length p.cluster.groups.worlds) line) (failure_line (length p.cluster.failed) (words_of line))
+next_of None line = if is_skipped line then quietly None else by_plan (groups_line (split_words line))
+next_of (Some p) line = by_words p line (in_group (length p.cluster.groups.worlds) line) (failure_line (length p.cluster.failed) (split_words line))

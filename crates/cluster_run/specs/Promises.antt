@@ -2,14 +2,14 @@
 -- bytes show what the log of their group tells.
 use Rattle.std.specs.Prelude.{ℕ, ◌≡◌, ◌<◌, ◌≤◌, List, [], ◌∷◌, All, length, take, Option, Some, None, Result, Ok}
 use Rattle.group_run.specs.Meaning.{IsDown}
-use Rattle.membership.specs.Members.{count_dead}
+use Rattle.membership.specs.Members.{count_dead_words}
 use Rattle.group_layout.specs.Cluster.{Cluster, MayAllHappen, cluster_after, cluster_turns, world_in}
 use Rattle.group_layout.specs.Legal.{IsClusterLegal}
 use Rattle.group_layout.specs.Promise.{AreRuns, IsOwn}
 use Rattle.group_layout.specs.Within.{ClusterAnswersWithin}
 use Rattle.group_layout.specs.declared.event.ClusterEvent.{ClusterEvent}
 use Rattle.group_cluster.specs.Plan.{IsPlan, Plan}
-use Rattle.scenario_text.specs.Meaning.{line_of}
+use Rattle.scenario_text.specs.Meaning.{line_meaning}
 use Rattle.scenario_text.specs.declared.line.Line.{Line}
 use Rattle.scenario_text.specs.declared.line.Line.TheVariants.{Show}
 use Rattle.scenario_text.specs.declared.line.LineFault.{LineFault}
@@ -17,21 +17,21 @@ use Rattle.scenario_run.specs.Course.{Goes, Ends, Refused}
 use Rattle.scenario_run.specs.Lines.{lines_of}
 use Rattle.scenario_run.specs.Promises.{ShowsTruth}
 use Rattle.cluster_run.specs.Meaning.{in_group}
-use Rattle.cluster_run.specs.Playing.{ClusterPlay, group_in, log_of, next_of, opening_of, turns_from}
-use Rattle.cluster_run.specs.Script.{events_of, first_fault, plan_of, turns_of}
+use Rattle.cluster_run.specs.Playing.{ClusterPlay, cluster_log_of, group_world, next_of, opening_of, turns_from}
+use Rattle.cluster_run.specs.Script.{cluster_script_events, first_fault, plan_of, turns_of}
 
 -- the cluster at the end of events
-abbrev pub end_of : Plan → List ClusterEvent → Cluster
-end_of plan events = cluster_after (opening_of plan) events
+abbrev pub cluster_at_end : Plan → List ClusterEvent → Cluster
+cluster_at_end plan events = cluster_after (opening_of plan) events
 
 -- what is written for a line of a group that shows bytes is what its log tells
 abbrev pub IsTrueIn : ClusterPlay → ℕ → Result Line LineFault → List ℕ → Type 0
-IsTrueIn p j (Ok (Show from run)) text = ShowsTruth (group_in p j) from run text
+IsTrueIn p j (Ok (Show from run)) text = ShowsTruth (group_world p j) from run text
 IsTrueIn p j _ text = Unit {0}
 
 abbrev pub IsTrueNamed : ClusterPlay → Option (ℕ × List ℕ) → List ℕ → Type 0
 IsTrueNamed p None text = Unit {0}
-IsTrueNamed p (Some named) text = IsTrueIn p named.0 (line_of (Some p.cluster.groups.shape) named.1) text
+IsTrueNamed p (Some named) text = IsTrueIn p named.0 (line_meaning (Some p.cluster.groups.shape) named.1) text
 
 abbrev pub IsTrueLine : Option ClusterPlay → List ℕ → List ℕ → Type 0
 IsTrueLine None line text = Unit {0}
@@ -48,8 +48,8 @@ AreTrueLines play (line ∷ lines) = elim (next_of play line) [
 
 -- after events each group makes a run of its own, with the whole headline, and while at most m nodes have failed none is down
 pub record HoldsAfter (plan : Plan) (events : List ClusterEvent) : Type 0 where
-  pub runs : AreRuns plan.shape plan.groups (end_of plan events).groups (cluster_turns (opening_of plan) events)
-  pub borne : count_dead (end_of plan events).failed ≤ plan.shape.m → (j : ℕ) → j < plan.groups → ¬ (IsDown (world_in (end_of plan events).groups j))
+  pub runs : AreRuns plan.shape plan.groups (cluster_at_end plan events).groups (cluster_turns (opening_of plan) events)
+  pub borne : count_dead_words (cluster_at_end plan events).failed ≤ plan.shape.m → (j : ℕ) → j < plan.groups → ¬ (IsDown (world_in (cluster_at_end plan events).groups j))
 
 -- a script's cluster keeps its promises
 pub record KeepsPromises (text : List ℕ) : Type 0 where
@@ -57,16 +57,16 @@ pub record KeepsPromises (text : List ℕ) : Type 0 where
   pub named : plan_of text ≡ Some plan
   pub limits : IsPlan plan
   -- its events may happen, its turns are the cluster's, and its log is what they logged
-  pub may : MayAllHappen (opening_of plan) (events_of text)
-  pub turns : turns_from (opening_of plan) (events_of text) ≡ turns_of text
-  pub log : (end_of plan (events_of text)).groups.log ≡ log_of (turns_of text)
+  pub may : MayAllHappen (opening_of plan) (cluster_script_events text)
+  pub turns : turns_from (opening_of plan) (cluster_script_events text) ≡ turns_of text
+  pub log : (cluster_at_end plan (cluster_script_events text)).groups.log ≡ cluster_log_of (turns_of text)
   -- so it is after each of the script's events
-  pub holds : (n : ℕ) → HoldsAfter plan (take n (events_of text))
+  pub holds : (n : ℕ) → HoldsAfter plan (take n (cluster_script_events text))
   -- the log is legal, and each entry is of its key's group
-  pub legal : IsClusterLegal plan.shape.k (log_of (turns_of text))
-  pub own : All (IsOwn plan.shape.k plan.groups) (log_of (turns_of text))
+  pub legal : IsClusterLegal plan.shape.k (cluster_log_of (turns_of text))
+  pub own : All (IsOwn plan.shape.k plan.groups) (cluster_log_of (turns_of text))
   -- each answered call stands in it once, between its asking and its answering
-  pub within : ClusterAnswersWithin plan.shape.k (cluster_turns (opening_of plan) (events_of text))
+  pub within : ClusterAnswersWithin plan.shape.k (cluster_turns (opening_of plan) (cluster_script_events text))
   -- what is shown is what the log tells
   pub shown : AreTrueLines None (lines_of text)
 

@@ -2,7 +2,7 @@
 use Rattle.std.specs.Prelude.{ℕ, List, length, map, Option, None, option_map}
 use Rattle.group_layout.specs.declared.event.ClusterEvent.{ClusterEvent}
 use Rattle.group_cluster.specs.Plan.{Plan}
-use Rattle.scenario_run.specs.Course.{Fault, fault_in, named_in, text_in, turns_in}
+use Rattle.scenario_run.specs.Course.{Fault, fault_in, named_in, text_in, turns_of_lines}
 use Rattle.scenario_run.specs.Lines.{lines_of}
 use Rattle.cluster_run.specs.Playing.{ClusterPlay, ClusterTurn, next_of}
 use Rattle.cluster_run.specs.declared.fault.ClusterFault.{ClusterFault}
@@ -14,10 +14,10 @@ plan_in play = option_map (λ p. record { groups = length p.cluster.groups.world
 
 -- a script's turns, its events, its transcript, its first fault, and the groups that it names
 abbrev pub turns_of : List ℕ → List ClusterTurn
-turns_of text = turns_in next_of None (lines_of text)
+turns_of text = turns_of_lines next_of None (lines_of text)
 
-abbrev pub events_of : List ℕ → List ClusterEvent
-events_of text = map (λ turn. turn.event) (turns_of text)
+abbrev pub cluster_script_events : List ℕ → List ClusterEvent
+cluster_script_events text = map (λ turn. turn.event) (turns_of text)
 
 abbrev pub transcript : List ℕ → List ℕ
 transcript text = text_in next_of None (lines_of text)

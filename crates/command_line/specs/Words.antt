@@ -33,12 +33,12 @@ abbrev pub session_in : List Row → Option Command
 session_in rows = session_with (number_at most_32 rows (codes "k")) (number_at most_32 rows (codes "m"))
     (number_at most_32 rows (codes "blocks")) (number_at most_32 rows (codes "block"))
 
-abbrev pub session_of : List Text → Option Command
-session_of words = if_taken session_app words (session_in (matches_of session_app words))
+abbrev pub session_command : List Text → Option Command
+session_command words = if_taken session_app words (session_in (matches_of session_app words))
 
 -- the number behind the first word
-abbrev pub number_of : Text → List Text → Option ℕ
-number_of name words = if_taken (number_app name) words (number_at most_64 (matches_of (number_app name) words) (codes "number"))
+abbrev pub number_argument : Text → List Text → Option ℕ
+number_argument name words = if_taken (number_app name) words (number_at most_64 (matches_of (number_app name) words) (codes "number"))
 
 -- the name behind the first word, or none
 abbrev pub named_of : Text → List Text → Option (Option Text)
@@ -50,16 +50,16 @@ command_at word words =
     else if bytes_eq word (codes "play_groups") then bare_of word PlayGroups words
     else if bytes_eq word (codes "play_regroup") then bare_of word PlayRegroup words
     else if bytes_eq word (codes "verify") then bare_of word Verify words
-    else if bytes_eq word (codes "session") then session_of words
+    else if bytes_eq word (codes "session") then session_command words
     else if bytes_eq word (codes "serve") then bare_of word Serve words
     else if bytes_eq word (codes "member") then option_map Member (named_of word words)
     else if bytes_eq word (codes "watch") then option_map Watch (named_of word words)
     else if bytes_eq word (codes "carry") then bare_of word Carry words
-    else if bytes_eq word (codes "make") then option_map Make (number_of word words)
-    else if bytes_eq word (codes "trial") then option_map Trial (number_of word words)
+    else if bytes_eq word (codes "make") then option_map Make (number_argument word words)
+    else if bytes_eq word (codes "trial") then option_map Trial (number_argument word words)
     else if bytes_eq word (codes "frames") then bare_of word Frames words
     else None
 
-abbrev pub command_of : List Text → Option Command
-command_of [] = None
-command_of (word ∷ words) = command_at word words
+abbrev pub command_of_words : List Text → Option Command
+command_of_words [] = None
+command_of_words (word ∷ words) = command_at word words

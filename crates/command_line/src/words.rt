@@ -2,7 +2,7 @@ ghost use Rattle.std.specs.Prelude.{◌≡◌, ◌≢◌, true, [], Some, None, 
 ghost use Rattle.std.specs.String.{string_bytes};
 ghost use Rattle.clap.specs.Words.{app_of, fault_of, first_of, found_of, is_simple_and_free, matches_of, rows_of};
 ghost use Rattle.command_line.specs.Parsers.{most_32, most_64};
-ghost use Rattle.command_line.specs.Words.{bare_of, command_of, named_of, number_at, number_of, session_of, session_with};
+ghost use Rattle.command_line.specs.Words.{bare_of, command_of_words, named_of, number_argument, number_at, session_command, session_with};
 
 use crate::command::Command;
 use crate::fault::WordsFault;
@@ -13,8 +13,8 @@ use std::alloc::{AllocError, Global};
 
 /// The command that the words say. Memory may run out; else the words are wrong exactly where they say none.
 pub fn read_words(alloc: Global, words: &[String]) -> Result<Command, WordsFault>
-    ensures ok { IfOk result (λ command. command_of (map string_bytes words.now) ≡ Some command) }
-    ensures bad_words { IsErrOf result WordsFault.BadWords → command_of (map string_bytes words.now) ≡ None }
+    ensures ok { IfOk result (λ command. command_of_words (map string_bytes words.now) ≡ Some command) }
+    ensures bad_words { IsErrOf result WordsFault.BadWords → command_of_words (map string_bytes words.now) ≡ None }
 {
     let Some((word, rest)) = words.split_first() else {
         return Err(WordsFault::BadWords);
@@ -52,8 +52,8 @@ fn read_bare(
 }
 
 fn read_session(alloc: Global, words: &[String]) -> Result<Command, WordsFault>
-    ensures ok { IfOk result (λ command. session_of (map string_bytes words.now) ≡ Some command) }
-    ensures bad_words { IsErrOf result WordsFault.BadWords → session_of (map string_bytes words.now) ≡ None }
+    ensures ok { IfOk result (λ command. session_command (map string_bytes words.now) ≡ Some command) }
+    ensures bad_words { IsErrOf result WordsFault.BadWords → session_command (map string_bytes words.now) ≡ None }
 {
     let matches = parse(parsers::session(alloc)?, words)?;
     let k = small_number(&matches, "k");
@@ -120,9 +120,9 @@ fn name_in(alloc: Global, matches: &ArgMatches) -> Result<Option<Name>, AllocErr
 
 fn read_make(alloc: Global, words: &[String]) -> Result<Command, WordsFault>
     ensures ok { IfOk result (λ command. option_map Command.Make
-        (number_of (codes "make") (map string_bytes words.now)) ≡ Some command) }
+        (number_argument (codes "make") (map string_bytes words.now)) ≡ Some command) }
     ensures bad_words { IsErrOf result WordsFault.BadWords
-        → number_of (codes "make") (map string_bytes words.now) ≡ None }
+        → number_argument (codes "make") (map string_bytes words.now) ≡ None }
 {
     let number = read_number(alloc, "make", words)?;
     Ok(Command::Make { number })
@@ -130,17 +130,17 @@ fn read_make(alloc: Global, words: &[String]) -> Result<Command, WordsFault>
 
 fn read_trial(alloc: Global, words: &[String]) -> Result<Command, WordsFault>
     ensures ok { IfOk result (λ command. option_map Command.Trial
-        (number_of (codes "trial") (map string_bytes words.now)) ≡ Some command) }
+        (number_argument (codes "trial") (map string_bytes words.now)) ≡ Some command) }
     ensures bad_words { IsErrOf result WordsFault.BadWords
-        → number_of (codes "trial") (map string_bytes words.now) ≡ None }
+        → number_argument (codes "trial") (map string_bytes words.now) ≡ None }
 {
     let number = read_number(alloc, "trial", words)?;
     Ok(Command::Trial { number })
 }
 
 fn read_number(alloc: Global, name: &str, words: &[String]) -> Result<u64, WordsFault>
-    ensures ok { IfOk result (λ number. number_of name.now (map string_bytes words.now) ≡ Some number) }
-    ensures bad_words { IsErrOf result WordsFault.BadWords → number_of name.now (map string_bytes words.now) ≡ None }
+    ensures ok { IfOk result (λ number. number_argument name.now (map string_bytes words.now) ≡ Some number) }
+    ensures bad_words { IsErrOf result WordsFault.BadWords → number_argument name.now (map string_bytes words.now) ≡ None }
 {
     let matches = parse(parsers::one_number(alloc, name)?, words)?;
     number(&matches, "number").ok_or(WordsFault::BadWords)

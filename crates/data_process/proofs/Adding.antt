@@ -15,7 +15,7 @@ use Rattle.group_run.specs.Process.{Process, opening_process}
 use Rattle.group_run.specs.Replica.{run_of}
 use Rattle.page_map.specs.Spaces.{AllMade}
 use Rattle.value_space.specs.Space.{Space}
-use Rattle.data_process.specs.Values.{Holding, IsReady, process_of}
+use Rattle.data_process.specs.Values.{DataHolding, ValuesAreReady, data_process_of}
 
 -- blocks that were not rebuilt
 abbrev unbuilt : ℕ → List (Option (List ℕ))
@@ -41,16 +41,17 @@ module _ (s : Dimensions) (d : ℕ) (us : List Update) (within : d < s.k) where
       ∙ ap (put [] all d) (none-rebuilt s d us 0 s.blocks ∙ sym here)
       ∙ put-at [] [] all d inside
 
-bytes-added : (v : Holding) (d : ℕ) (us : List Update) → d < v.space.shape.k
-    → bytes_after v.space.shape d us (process_of v) ≡ record (process_of v) { space = space_after v.space.shape (DataNode v.number) d us v.space.bytes }
+bytes-added : (v : DataHolding) (d : ℕ) (us : List Update) → d < v.space.shape.k
+    → bytes_after v.space.shape d us (data_process_of v)
+    ≡ record (data_process_of v) { space = space_after v.space.shape (DataNode v.number) d us v.space.bytes }
 bytes-added v d us within =
-    let p : Process = record (process_of v) { space = space_after v.space.shape (DataNode v.number) d us v.space.bytes } in
+    let p : Process = record (data_process_of v) { space = space_after v.space.shape (DataNode v.number) d us v.space.bytes } in
     ap (λ (rebuilt : List (List (Option (List ℕ)))). record p { as_leader = record p.as_leader { rebuilt = rebuilt } }) (stays v.space.shape d us within)
 
 -- one update adds what it has to the space
 pub update-added : (number : ℕ) (old new : Space) (d : ℕ) (u : Update) → d < old.shape.k → new.shape ≡ old.shape
     → new.bytes ≡ space_added old.shape (DataNode number) d u.body old.bytes
-    → process_of (record { number = number; space = new }) ≡ bytes_after old.shape d (u ∷ []) (process_of (record { number = number; space = old }))
+    → data_process_of (record { number = number; space = new }) ≡ bytes_after old.shape d (u ∷ []) (data_process_of (record { number = number; space = old }))
 update-added number old new d u within shape bytes =
     ap (λ (s : Dimensions). record (opening_process s (DataNode number)) { space = new.bytes }) shape
     ∙ ap (λ (b : List ℕ). record (opening_process old.shape (DataNode number)) { space = b }) bytes
@@ -66,7 +67,7 @@ nothing-added s number d (Touch until) bytes other = refl
 
 -- what was ready stays so where pages only come
 pub still-ready : (number : ℕ) (old new : Space) → new.shape ≡ old.shape → ((b : ℕ) → Contains old.made b → Contains new.made b)
-    → (d : ℕ) (u : Update) → IsReady (record { number = number; space = old }) d u → IsReady (record { number = number; space = new }) d u
+    → (d : ℕ) (u : Update) → ValuesAreReady (record { number = number; space = old }) d u → ValuesAreReady (record { number = number; space = new }) d u
 still-ready number old new shape kept d u ready = (subst (λ (s : Dimensions). d < s.k) (sym shape) ready.0, by (run_of u.body) ready.1) where
   by : (run : Option Run) → IfSome run (λ run. AllMade old.shape.block run old.made) → IfSome run (λ run. AllMade new.shape.block run new.made)
   by None made = made

@@ -12,7 +12,7 @@ use Rattle.process_service.specs.Coming.{LeavesFew, NoticeComes}
 use Rattle.process_service.specs.Standing.{Standing, standing}
 use Rattle.data_process.specs.Coming.{CanAsk, FitsData}
 use Rattle.data_process.specs.Steps.{IsForData}
-use Rattle.data_process.specs.Values.{Holding, process_of}
+use Rattle.data_process.specs.Values.{DataHolding, data_process_of}
 
 module _ {b : Bool} {s : Dimensions} {from : ProcessId} {p : Process} where
   -- a message of a kind that is for a data process
@@ -34,8 +34,8 @@ told-of v p {b = b} {from = from} {m = m} is view told =
     (subst (λ (x : Message). IsTrue b ↔ FitsData v.shape from x (serving v p)) (sym is) told)
 
 -- what is told of a question for a block
-pub read-told : (v : Serving) (w : Holding) (b : Bool) (session : Session) (block : ℕ) (rows : List ℕ) {made : List ℕ} {now : Standing}
-    → standing v (process_of w) made ≡ now → w.number < v.shape.k → (IsTrue b ↔ CanAsk v.shape session block rows)
+pub read-told : (v : Serving) (w : DataHolding) (b : Bool) (session : Session) (block : ℕ) (rows : List ℕ) {made : List ℕ} {now : Standing}
+    → standing v (data_process_of w) made ≡ now → w.number < v.shape.k → (IsTrue b ↔ CanAsk v.shape session block rows)
     → IsTrue b ↔ ReadFits now.shape now.process session block rows
 read-told v w b session block rows view within told =
     subst (λ (x : Standing). IsTrue b ↔ ReadFits x.shape x.process session block rows) view (

@@ -9,18 +9,18 @@ use Rattle.group_run.specs.Replica.{run_of}
 use Rattle.head_service.specs.Storage.{Storage}
 
 -- the number of a data process, and its space
-pub record Holding : Type 0 where
+pub record DataHolding : Type 0 where
   pub number : ℕ
   pub space : Space
 
 -- the process of these values, where all else is as at the start
-abbrev pub process_of : Holding → Process
-process_of v = record (opening_process v.space.shape (DataNode v.number)) { space = v.space.bytes }
+abbrev pub data_process_of : DataHolding → Process
+data_process_of v = record (opening_process v.space.shape (DataNode v.number)) { space = v.space.bytes }
 
 -- an update of partition d can be added: d is one of the group, and the pages of what it writes are made
-abbrev pub IsReady : Holding → ℕ → Update → Type 0
-IsReady v d u = (d < v.space.shape.k) × IfSome (run_of u.body) (λ run. AllMade v.space.shape.block run v.space.made)
+abbrev pub ValuesAreReady : DataHolding → ℕ → Update → Type 0
+ValuesAreReady v d u = (d < v.space.shape.k) × IfSome (run_of u.body) (λ run. AllMade v.space.shape.block run v.space.made)
 
 -- the values as a head sees them
-abbrev pub storage_of : Holding → Storage
-storage_of v = record { shape = v.space.shape; process = process_of v; made = v.space.made; is_ready = IsReady v }
+abbrev pub storage_of : DataHolding → Storage
+storage_of v = record { shape = v.space.shape; process = data_process_of v; made = v.space.made; is_ready = ValuesAreReady v }

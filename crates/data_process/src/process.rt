@@ -15,13 +15,13 @@ ghost use Rattle.group_run.specs.Process.{opening_process};
 ghost use Rattle.group_run.specs.Receiving.{notice_comes, read_comes, receive};
 ghost use Rattle.group_run.specs.Replica.{callers, last_of};
 ghost use Rattle.group_run.specs.World.{flush_process};
-ghost use Rattle.head_service.specs.Acting.{name_of};
+ghost use Rattle.head_service.specs.Acting.{name_of_call};
 ghost use Rattle.head_service.specs.Paging.{MakesNoneOf};
 ghost use Rattle.process_service.specs.Current.{is_current};
 ghost use Rattle.process_service.specs.Noticing.{waiting};
 ghost use Rattle.process_service.specs.Paging.{CallMisses};
 ghost use Rattle.process_service.specs.Standing.{is_under};
-ghost use Rattle.process_service.specs.Steps.{called, stepped};
+ghost use Rattle.process_service.specs.Steps.{called, machine_step};
 ghost use Rattle.process_service.specs.Wanting.{AskWants};
 ghost use Rattle.data_process.specs.Steps.{ComesToData};
 
@@ -50,12 +50,12 @@ pub struct DataProcess {
 
 impl Model for DataProcess {
     ghost use Rattle.data_process.specs.Standing.{IsReadyFor};
-    ghost use Rattle.data_process.specs.Values.{process_of};
+    ghost use Rattle.data_process.specs.Values.{data_process_of};
     ghost use Rattle.process_service.specs.Standing.{Standing, standing};
 
     ghost Value = { Standing };
 
-    ghost view = { λ p. standing p.service (process_of p.values) p.values.space.made };
+    ghost view = { λ p. standing p.service (data_process_of p.values) p.values.space.made };
 
     ghost invariant = { λ p. IsReadyFor p.service p.values };
 }
@@ -81,7 +81,7 @@ impl DataProcess {
             < 2 ^ 62 }
         ensures shape { self.new.shape ≡ self.old.shape }
         ensures pages { MakesNoneOf (CallMisses self.old.shape op.now self.old.process) self.old.made self.new.made }
-        ensures step { IfOk result (λ step. ask_process self.old.shape (name_of call) op.now self.old.process
+        ensures step { IfOk result (λ step. ask_process self.old.shape (name_of_call call) op.now self.old.process
             ≡ called self.new.process step) }
         ensures wanted { OnErr result (AskWants self.old.shape op.now self.old.process) }
         ensures err { OnErr result (self.new.process ≡ self.old.process) }
@@ -126,7 +126,7 @@ impl DataProcess {
         ensures shape { self.new.shape ≡ self.old.shape }
         ensures pages { self.new.made ≡ self.old.made }
         ensures step { IfOk result (λ step. receive self.old.shape from message.now self.old.process
-            ≡ stepped self.new.process step) }
+            ≡ machine_step self.new.process step) }
         ensures wanted { OnErr result (is_current self.old.process message.now ≡ true) }
         ensures err { OnErr result (self.new.process ≡ self.old.process) }
     {
@@ -212,7 +212,7 @@ impl DataProcess {
         ensures shape { self.new.shape ≡ self.old.shape }
         ensures pages { self.new.made ≡ self.old.made }
         ensures step { IfOk result (λ step. receive self.old.shape from
-            (tells.Ack rank partition number) self.old.process ≡ stepped self.new.process step) }
+            (tells.Ack rank partition number) self.old.process ≡ machine_step self.new.process step) }
         ensures wanted { OnErr result (is_under rank.0 (at None self.old.process.heads partition.0) ≡ true) }
         ensures err { OnErr result (self.new.process ≡ self.old.process) }
     {
@@ -232,7 +232,7 @@ impl DataProcess {
     fn read(&self, session: Session, block: u32, rows: &[u32]) -> Result<Step, AllocError>
         requires { block < self.now.shape.blocks }
         ensures { IfOk result (λ step. read_comes self.now.shape session block rows.now self.now.process
-            self.now.process.name ≡ stepped self.now.process step) }
+            self.now.process.name ≡ machine_step self.now.process step) }
     {
         Ok(Step {
             sent: read_block(self.alloc, &self.values, session, block, rows, self.stamp())?,
@@ -246,7 +246,7 @@ impl DataProcess {
         ensures shape { self.new.shape ≡ self.old.shape }
         ensures pages { self.new.made ≡ self.old.made }
         ensures step { IfOk result (λ step. notice_comes self.old.shape dead self.old.process
-            ≡ stepped self.new.process step) }
+            ≡ machine_step self.new.process step) }
         ensures err { OnErr result (self.new.process ≡ self.old.process) }
     {
         let mut sent = Vec::new(self.alloc);

@@ -22,9 +22,9 @@ pub struct Values {
 
 impl Model for Values {
     ghost use Rattle.std.specs.Prelude.{◌≡◌};
-    ghost use Rattle.data_process.specs.Values.{Holding};
+    ghost use Rattle.data_process.specs.Values.{DataHolding};
 
-    ghost Value = { Holding };
+    ghost Value = { DataHolding };
 
     ghost view = { λ v. record { number = v.number; space = v.space } };
 

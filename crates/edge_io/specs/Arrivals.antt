@@ -1,7 +1,7 @@
 -- What a listener in memory is, and what its calls make of it.
 use Rattle.std.specs.Prelude.{ℕ, ◌+◌, Bool, true, List, drop, Option, Some, None, Result, Ok, Err, if◌then◌else◌}
 use Rattle.edge_io.specs.Calls.{CallsMade, after_call, fails_next}
-use Rattle.edge_io.specs.Connections.{handed_out}
+use Rattle.edge_io.specs.Connections.{count_handed_out}
 
 -- where it listens, the connections to come, each by its bytes, how many were handed out, whether it said that none comes, and
 -- the calls made
@@ -32,8 +32,8 @@ is_over_after over (Err e) = over
 abbrev pub after_accept : {C E : Type 0} → Arrivals → Result (Option C) E → Arrivals
 after_accept l result = record {
   at = l.at;
-  to_come = drop (handed_out result) l.to_come;
-  accepted = l.accepted + handed_out result;
+  to_come = drop (count_handed_out result) l.to_come;
+  accepted = l.accepted + count_handed_out result;
   over = is_over_after l.over result;
   calls = after_call l.calls;
 }

@@ -2,10 +2,10 @@
 use Rattle.std.specs.Prelude.{◌≡◌, ℕ, Bool, true, false, List, [], ◌∷◌, Option, Some, None, Result, Ok, Err, ⊤}
 
 -- how many connections an answer hands out
-abbrev pub handed_out : {C E : Type 0} → Result (Option C) E → ℕ
-handed_out (Ok (Some c)) = 1
-handed_out (Ok None) = 0
-handed_out (Err e) = 0
+abbrev pub count_handed_out : {C E : Type 0} → Result (Option C) E → ℕ
+count_handed_out (Ok (Some c)) = 1
+count_handed_out (Ok None) = 0
+count_handed_out (Err e) = 0
 
 -- no connection ends the listener, a connection comes only before its end, and a failure changes nothing
 abbrev pub IsOverAfter : {C E : Type 0} → Bool → Bool → Result (Option C) E → Type 0

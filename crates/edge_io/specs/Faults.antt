@@ -2,12 +2,12 @@
 use Rattle.std.specs.Prelude.{◌≡◌, ℕ, ◌+◌, ◌-◌, ◌^◌, ◌≤◌, min, Result, Err, OnErr}
 
 -- one more, which stops at the last value of a `u64`
-abbrev pub raised : ℕ → ℕ
-raised n = min (n + 1) (2 ^ 64 - 1)
+abbrev pub saturating_next : ℕ → ℕ
+saturating_next n = min (n + 1) (2 ^ 64 - 1)
 
 -- the count rose, or stands at the last value of a `u64`
 abbrev pub Rose : ℕ → ℕ → Type 0
-Rose before now = raised before ≤ now
+Rose before now = saturating_next before ≤ now
 
 -- the count did not fall, and an error comes only where it rose
 pub record HasCause {T E : Type 0} (before now : ℕ) (result : Result T E) : Type 0 where

@@ -16,6 +16,6 @@ abbrev pub input_of : Supply → Input
 input_of s = record { taken = s.taken; ended = s.ended; left = Some s.left }
 
 -- the bytes taken, and the calls made
-pub record Store : Type 0 where
+pub record SinkContents : Type 0 where
   pub held : List ℕ
   pub calls : CallsMade

@@ -1,6 +1,6 @@
 ghost use Rattle.std.specs.Prelude.{◌≡◌, ℕ, ◌+◌, ◌^◌, ◌≤◌, Bool, false, List, [], Option, Some, IfOk, IfSome, OnErr, OnOk};
 ghost use Rattle.edge_io.specs.Faults.{HasCause};
-ghost use Rattle.edge_io.specs.Connections.{handed_out, IsOverAfter, TakesNext, StaysToCome};
+ghost use Rattle.edge_io.specs.Connections.{count_handed_out, IsOverAfter, TakesNext, StaysToCome};
 
 use crate::fault::Failed;
 use crate::sink::Sink;
@@ -48,7 +48,7 @@ pub trait Listener {
     fn accept(&mut self) -> Result<Option<(Self::Incoming, Self::Outgoing)>, Failed>
         ensures limit { accepted self.new ≤ 2 ^ 62 }
         ensures same_at { at self.new ≡ at self.old }
-        ensures count { accepted self.new ≡ accepted self.old + handed_out result }
+        ensures count { accepted self.new ≡ accepted self.old + count_handed_out result }
         ensures end { IsOverAfter (over self.old) (over self.new) result }
         ensures next { TakesNext (to_come self.old) (to_come self.new) (λ c. (Self.Incoming.input c.0).left) result }
         ensures unread { IfOk result (λ o. IfSome o (λ c. ((Self.Incoming.input c.0).taken ≡ []) × ((Self.Incoming.input c.0).ended ≡ false))) }

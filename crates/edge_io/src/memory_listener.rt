@@ -94,7 +94,7 @@ impl Listener for MemoryListener {
     ghost use Rattle.std.specs.Prelude.{◌≡◌, ◌^◌, ◌+◌, ◌≤◌, Some, [], IfOk, IfSome, is_err, false};
     ghost use Rattle.edge_io.specs.Arrivals.{after_listen, after_accept};
     ghost use Rattle.edge_io.specs.Calls.{after_call, fails_next};
-    ghost use Rattle.edge_io.specs.Connections.{handed_out, IsOverAfter, TakesNext};
+    ghost use Rattle.edge_io.specs.Connections.{IsOverAfter, TakesNext, count_handed_out};
     ghost use Rattle.edge_io.specs.Faults.{HasCause};
 
     type Incoming = MemorySource;

@@ -12,9 +12,9 @@ pub struct MemorySink {
 }
 
 impl Model for MemorySink {
-    ghost use Rattle.edge_io.specs.Memory.{Store};
+    ghost use Rattle.edge_io.specs.Memory.{SinkContents};
 
-    ghost Value = { Store };
+    ghost Value = { SinkContents };
 
     ghost view = { λ s. record { held = s.bytes.items; calls = s.calls } };
 }

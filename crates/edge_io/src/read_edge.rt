@@ -36,7 +36,7 @@ impl<R: Read> ReadEdge<R> {
 impl<R: Read> Source for ReadEdge<R> {
     ghost use Rattle.std.specs.Prelude.{◌≡◌, is_err, if◌then◌else◌};
     ghost use Rattle.std.specs.Io.{ReadsAtMost};
-    ghost use Rattle.edge_io.specs.Faults.{HasCause, raised};
+    ghost use Rattle.edge_io.specs.Faults.{HasCause, saturating_next};
     ghost use Rattle.edge_io.specs.Moving.{Input, ReadTakes};
 
     ghost input = { λ s. record { taken = s.past.bytes; ended = s.ended; left = R.remaining s.inner } };
@@ -48,7 +48,7 @@ impl<R: Read> Source for ReadEdge<R> {
         ensures bytes { ReadTakes (record { taken = self.old.past.bytes; ended = self.old.ended; left = R.remaining self.old.inner })
             (record { taken = self.new.past.bytes; ended = self.new.ended; left = R.remaining self.new.inner }) result into.new }
         ensures cause { HasCause self.old.faults self.new.faults result }
-        ensures count { self.new.faults ≡ (if is_err result then raised self.old.faults else self.old.faults) }
+        ensures count { self.new.faults ≡ (if is_err result then saturating_next self.old.faults else self.old.faults) }
     {
         'tries: for _ in 0..=RETRIES {
             match self.inner.read(into) {

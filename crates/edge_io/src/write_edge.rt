@@ -35,7 +35,7 @@ impl<W: Write> Sink for WriteEdge<W> {
     ghost use Rattle.std.specs.Prelude.{◌≡◌, ◌<◌, length, IfOk, IfErr, is_err, if◌then◌else◌};
     ghost use Rattle.std.specs.Io.{WritesAtMost};
     ghost use Rattle.std.specs.Io.KnownBytes.{WriteAppends};
-    ghost use Rattle.edge_io.specs.Faults.{HasCauseOf, raised};
+    ghost use Rattle.edge_io.specs.Faults.{HasCauseOf, saturating_next};
     ghost use Rattle.edge_io.specs.Moving.{WriteMoves};
 
     ghost held = { λ s. s.past.bytes };
@@ -49,7 +49,7 @@ impl<W: Write> Sink for WriteEdge<W> {
         ensures inner { WriteAppends (W.contents self.old.inner) (W.contents self.new.inner) result piece.now }
         ensures cause { HasCauseOf self.old.faults self.new.faults result SinkFault.Failed }
         ensures no_want { IfErr result (λ fault. fault ≡ SinkFault.Failed) }
-        ensures count { self.new.faults ≡ (if is_err result then raised self.old.faults else self.old.faults) }
+        ensures count { self.new.faults ≡ (if is_err result then saturating_next self.old.faults else self.old.faults) }
     {
         'tries: for _ in 0..=RETRIES {
             match self.inner.write(piece) {

@@ -12,7 +12,7 @@ use Rattle.field_byte.proofs.FieldSums.{sum_same}
 use Rattle.field_byte.proofs.Products.{product_lt, product_assoc, product_one_l, product_sum_l, product_zero_l, inverse_lt}
 use Rattle.field_byte.proofs.Vectors.{get_or-add_scaled, length-add_scaled}
 use Rattle.erasure_code.specs.Code.{Column, coded, coefficient, decoded, others_than, weight, weighted, with_columns}
-use Rattle.erasure_code.specs.Columns.{Agree, AreDifferent, AreOfBytes, numbers_of}
+use Rattle.erasure_code.specs.Columns.{Agree, AreDifferent, AreOfBytes, column_numbers}
 use Rattle.erasure_code.specs.Laws.{CanDecode, LostAreDecoded, OnlyOneAgrees}
 use Rattle.erasure_code.proofs.Lists.{All-left, All-right, differ_left, either, get_or-zeros}
 use Rattle.erasure_code.proofs.Nodes.{Among, Apart, AreNodes, GivesBytes, among_others, over_byte, over_same, over_sums, over_times, sum_out}
@@ -39,7 +39,7 @@ apart_from (x ∷ xs) differ = (
 pub twice : (a b : ℕ) → bit_xor (bit_xor a b) b ≡ a
 twice a b = xor_assoc a b b ∙ (ap (bit_xor a) (xor_self b) ∙ xor_zero_r a)
 
-pub number_at : (columns : List Column) (j : ℕ) (d : Column) → j < length columns → get_or (numbers_of columns) j 0 ≡ (get_or columns j d).number
+pub number_at : (columns : List Column) (j : ℕ) (d : Column) → j < length columns → get_or (column_numbers columns) j 0 ≡ (get_or columns j d).number
 number_at columns j d below = get_or-map (λ column. column.number) columns j d 0 below
 
 abbrev pub no_column : Column
@@ -47,7 +47,7 @@ no_column = record { number = 0; bytes = [] }
 
 -- what known columns have in the row of parity process i
 abbrev pub part : ℕ → ℕ → List Column → ℕ → ℕ
-part m i known at = field_sum (length known) (λ j. product (coefficient m i (get_or (numbers_of known) j 0)) (get_or (get_or known j no_column).bytes at 0))
+part m i known at = field_sum (length known) (λ j. product (coefficient m i (get_or (column_numbers known) j 0)) (get_or (get_or known j no_column).bytes at 0))
 
 pub with_columns_at : (m i n : ℕ) (known : List Column) (bytes : List ℕ) (at : ℕ) → length bytes ≡ n → All (λ p. length p.bytes ≡ n) known
     → get_or (with_columns m i known bytes) at 0 ≡ bit_xor (get_or bytes at 0) (part m i known at)
@@ -61,7 +61,7 @@ with_columns_at m i n (p ∷ ps) bytes at long longs =
     ∙ (ap (λ x. bit_xor x (part m i ps at)) (get_or-add_scaled c p.bytes bytes at same)
     ∙ (xor_assoc (get_or bytes at 0) (product c (get_or p.bytes at 0)) (part m i ps at)
     ∙ ap (bit_xor (get_or bytes at 0))
-    (sym (sum_front (length ps) (λ j. product (coefficient m i (get_or (numbers_of (p ∷ ps)) j 0))
+    (sym (sum_front (length ps) (λ j. product (coefficient m i (get_or (column_numbers (p ∷ ps)) j 0))
     (get_or (get_or (p ∷ ps) j no_column).bytes at 0))))))
 
 pub with_columns_long : (m i n : ℕ) (known : List Column) (bytes : List ℕ) → length bytes ≡ n
@@ -86,13 +86,13 @@ weighted_long m n xs lost l known (p ∷ ps) sum long known_long rows_long =
 weighted_at : (m n : ℕ) (xs lost : List ℕ) (l : ℕ) (known rows : List Column) (sum : List ℕ) (at : ℕ) (v : ℕ → ℕ)
     → length sum ≡ n → All (λ p. length p.bytes ≡ n) known → All (λ p. length p.bytes ≡ n) rows
     → All (λ p. get_or (with_columns m p.number known p.bytes) at 0 ≡ v p.number) rows
-    → get_or (weighted m xs lost l known rows sum) at 0 ≡ bit_xor (get_or sum at 0) (sum_over (numbers_of rows) (λ i. product (weight m xs lost l i) (v i)))
+    → get_or (weighted m xs lost l known rows sum) at 0 ≡ bit_xor (get_or sum at 0) (sum_over (column_numbers rows) (λ i. product (weight m xs lost l i) (v i)))
 unfolding sum_over
 weighted_at m n xs lost l known [] sum at v long known_long rows_long values = sym (xor_zero_r (get_or sum at 0))
 weighted_at m n xs lost l known (p ∷ ps) sum at v long known_long rows_long values =
     let row = with_columns m p.number known p.bytes in
     let w = weight m xs lost l p.number in
-    let rest = sum_over (numbers_of ps) (λ i. product (weight m xs lost l i) (v i)) in
+    let rest = sum_over (column_numbers ps) (λ i. product (weight m xs lost l i) (v i)) in
     let same : length row ≡ length sum = with_columns_long m p.number n known p.bytes
     (All-head (λ (p : Column). length p.bytes ≡ n) p ps rows_long) known_long ∙ sym long in
     weighted_at m n xs lost l known ps _ at v (length-add_scaled w row sum same ∙ long) known_long
@@ -121,15 +121,16 @@ over_times_r (x ∷ xs) c f bytes =
     let rest = λ (y : ℕ) (there : Among y xs). bytes y (inr there) in
     ap (bit_xor (product (f x) c)) (over_times_r xs c f rest) ∙ sym (product_sum_l (f x) (sum_over xs f) c (bytes x (inl refl)) (over_byte xs f rest))
 
-module _ (m n : ℕ) (lost : List ℕ) (rows known : List Column) (l : ℕ) (nodes : AreNodes (numbers_of rows))
+module _ (m n : ℕ) (lost : List ℕ) (rows known : List Column) (l : ℕ) (nodes : AreNodes (column_numbers rows))
     (lost_apart : Apart lost) (lost_bytes : (c : ℕ) → Among c lost → m + c < 256)
-    (separate : (i c : ℕ) → Among i (numbers_of rows) → Among c lost → i ≢ m + c) (as_many : length (numbers_of rows) ≡ length lost) (l_lost : Among l lost)
+    (separate : (i c : ℕ) → Among i (column_numbers rows) → Among c lost → i ≢ m + c) (as_many : length (column_numbers rows) ≡ length lost)
+    (l_lost : Among l lost)
     (rows_long : All (λ p. length p.bytes ≡ n) rows) (known_long : All (λ p. length p.bytes ≡ n) known) where
   -- the weighted sum of what the lost columns have in the rows
   combined : (v : ℕ → ℕ) → ((c : ℕ) → Among c lost → v c < 256)
-      → sum_over (numbers_of rows) (λ i. product (weight m (numbers_of rows) lost l i) (sum_over lost (λ c. product (coefficient m i c) (v c)))) ≡ v l
+      → sum_over (column_numbers rows) (λ i. product (weight m (column_numbers rows) lost l i) (sum_over lost (λ c. product (coefficient m i c) (v c)))) ≡ v l
   combined v v_bytes =
-      let xs = numbers_of rows in
+      let xs = column_numbers rows in
       let w : ℕ → ℕ = weight m xs lost l in
       let w_byte = weight_byte m xs lost l nodes lost_apart lost_bytes separate as_many l_lost in
       over_same xs _ (λ i. sum_over lost (λ c. product (product (w i) (coefficient m i c)) (v c))) (λ i there.
@@ -150,7 +151,7 @@ module _ (m n : ℕ) (lost : List ℕ) (rows known : List Column) (l : ℕ) (nod
       → ((at : ℕ) → All (λ p. get_or (with_columns m p.number known p.bytes) at 0 ≡ sum_over lost (λ c. product (coefficient m p.number c) (v at c))) rows)
       → column ≡ decoded m n lost rows known l
   decoded_is column v long is v_bytes values =
-      let xs = numbers_of rows in
+      let xs = column_numbers rows in
       let zeros : List ℕ = replicate n 0 in
       let none = length-replicate n 0 in
       same_number_lists _ _ (long ∙ sym (weighted_long m n xs lost l known rows zeros none known_long rows_long)) (λ at at_below.
@@ -159,19 +160,19 @@ module _ (m n : ℕ) (lost : List ℕ) (rows known : List Column) (l : ℕ) (nod
       ∙ (ap₂ bit_xor (get_or-zeros n at) (combined (v at) (v_bytes at)) ∙ xor_zero_l (v at l))))
 
 module _ (k m n : ℕ) (lost : List ℕ) (rows known : List Column) (can : CanDecode k m lost rows known) where
-  row_number : (i : ℕ) → Among i (numbers_of rows) → i < m
+  row_number : (i : ℕ) → Among i (column_numbers rows) → i < m
   row_number i there =
-      let at = among_at i (numbers_of rows) there in
-      let less = All-get_or (λ i. i < m) (numbers_of rows) at.0 0 at.1 can.below in
+      let at = among_at i (column_numbers rows) there in
+      let less = All-get_or (λ i. i < m) (column_numbers rows) at.0 0 at.1 can.below in
       omega (arith, less, at.2)
 
   lost_below : (b : ℕ) → b < length lost → get_or lost b 0 < k
-  lost_below b below = All-get_or (λ x. x < k) lost b 0 below (All-left (λ x. x < k) lost (numbers_of known) can.partitions.below)
+  lost_below b below = All-get_or (λ x. x < k) lost b 0 below (All-left (λ x. x < k) lost (column_numbers known) can.partitions.below)
 
-  known_below : (j : ℕ) → j < length known → get_or (numbers_of known) j 0 < k
-  known_below j below = All-get_or (λ x. x < k) (numbers_of known) j 0
+  known_below : (j : ℕ) → j < length known → get_or (column_numbers known) j 0 < k
+  known_below j below = All-get_or (λ x. x < k) (column_numbers known) j 0
       (omega (arith, length-map known (λ column. column.number), below))
-      (All-right (λ x. x < k) lost (numbers_of known) can.partitions.below)
+      (All-right (λ x. x < k) lost (column_numbers known) can.partitions.below)
 
   lost_number : (c : ℕ) → Among c lost → c < k
   lost_number c there =
@@ -179,12 +180,12 @@ module _ (k m n : ℕ) (lost : List ℕ) (rows known : List Column) (can : CanDe
       let less = lost_below at.0 at.1 in
       omega (arith, less, at.2)
 
-  nodes : AreNodes (numbers_of rows)
-  nodes = (apart_from (numbers_of rows) can.different, λ z there. let less = row_number z there in omega (arith, less, can.processes))
+  nodes : AreNodes (column_numbers rows)
+  nodes = (apart_from (column_numbers rows) can.different, λ z there. let less = row_number z there in omega (arith, less, can.processes))
 
   -- columns that agree
   module _ (columns : List (List ℕ)) (agree : Agree k m n rows known columns) where
-    known_at : (j : ℕ) (d : Column) → j < length known → get_or columns (get_or (numbers_of known) j 0) [] ≡ (get_or known j d).bytes
+    known_at : (j : ℕ) (d : Column) → j < length known → get_or columns (get_or (column_numbers known) j 0) [] ≡ (get_or known j d).bytes
     known_at j d below = ap (λ number. get_or columns number []) (number_at known j d below) ∙ agree.holds j d below
 
     byte : AreOfBytes columns → (d at : ℕ) → d < k → entry columns d at < 256
@@ -207,12 +208,12 @@ module _ (k m n : ℕ) (lost : List ℕ) (rows known : List Column) (can : CanDe
         let number = (get_or rows a d).number in
         let lost_sum = field_sum (length lost) (λ b. product (coefficient m number (get_or lost b 0)) (entry columns (get_or lost b 0) at)) in
         let split : get_or (coded m number n columns) at 0 ≡ bit_xor lost_sum (part m number known at) =
-        coded_split k m number n at lost (numbers_of known) columns can.partitions agree.many agree.long
+        coded_split k m number n at lost (column_numbers known) columns can.partitions agree.many agree.long
         ∙ ap (bit_xor lost_sum)
-        (ap (λ k. field_sum k (λ j. product (coefficient m number (get_or (numbers_of known) j 0))
-        (entry columns (get_or (numbers_of known) j 0) at))) (length-map known (λ column. column.number))
+        (ap (λ k. field_sum k (λ j. product (coefficient m number (get_or (column_numbers known) j 0))
+        (entry columns (get_or (column_numbers known) j 0) at))) (length-map known (λ column. column.number))
         ∙ sum_same (length known) _ _
-        (λ j j_below. ap (λ (bytes : List ℕ). product (coefficient m number (get_or (numbers_of known) j 0))
+        (λ j j_below. ap (λ (bytes : List ℕ). product (coefficient m number (get_or (column_numbers known) j 0))
         (get_or bytes at 0)) (known_at j no_column j_below))) in
         with_columns_at m number n known (get_or rows a d).bytes at (rows_long a d below) known_long
         ∙ (ap (λ x. bit_xor x (part m number known at)) (ap (λ (bytes : List ℕ). get_or bytes at 0) (agree.codes a d below) ∙ split)
@@ -220,7 +221,7 @@ module _ (k m n : ℕ) (lost : List ℕ) (rows known : List Column) (can : CanDe
 
     pub lost_is : AreOfBytes columns → (b : ℕ) → b < length lost → get_or columns (get_or lost b 0) [] ≡ decoded m n lost rows known (get_or lost b 0)
     lost_is of_bytes b below =
-        decoded_is m n lost rows known (get_or lost b 0) nodes (apart_from lost (differ_left lost (numbers_of known) can.partitions.different))
+        decoded_is m n lost rows known (get_or lost b 0) nodes (apart_from lost (differ_left lost (column_numbers known) can.partitions.different))
         (λ c there. let less = lost_number c there in omega (arith, less, can.processes))
         (λ i c i_there c_there same. let less = row_number i i_there in omega (arith, less, same))
         (length-map rows (λ row. row.number) ∙ can.as_many) (at_among lost b below) rows_long known_long
@@ -234,7 +235,7 @@ module _ (k m n : ℕ) (lost : List ℕ) (rows known : List Column) (can : CanDe
       → others ≡ columns
   same_columns columns others of_bytes others_of_bytes agree others_agree =
       ext_get_or [] others columns (others_agree.many ∙ sym agree.many) (λ d below.
-      either k lost (numbers_of known) (λ d. get_or others d [] ≡ get_or columns d []) can.partitions
+      either k lost (column_numbers known) (λ d. get_or others d [] ≡ get_or columns d []) can.partitions
       (λ b b_below. let some : 0 < length lost = omega (arith, b_below) in
       lost_is others others_agree (others_of_bytes some) b b_below
       ∙ sym (lost_is columns agree (of_bytes some) b b_below))

@@ -13,8 +13,8 @@ pub record IsEachBelow (n : ℕ) (xs : List ℕ) : Type 0 where
   pub all : (x : ℕ) → x < n → Contains xs x
 
 -- the numbers of columns, or of rows
-abbrev pub numbers_of : List Column → List ℕ
-numbers_of columns = map (λ column. column.number) columns
+abbrev pub column_numbers : List Column → List ℕ
+column_numbers columns = map (λ column. column.number) columns
 
 -- k columns of n bytes: those known stand in their places, and each row is what the code makes of all
 pub record Agree (k m n : ℕ) (rows known : List Column) (columns : List (List ℕ)) : Type 0 where

@@ -1,14 +1,14 @@
 -- The law of the code: as many rows as columns are lost give the lost columns.
 use Rattle.std.specs.Prelude.{◌≡◌, ℕ, ◌+◌, ◌<◌, ◌≤◌, List, [], ◌++◌, All, length, slice_index_or}
 use Rattle.erasure_code.specs.Code.{Column, decoded}
-use Rattle.erasure_code.specs.Columns.{Agree, AreDifferent, AreOfBytes, IsEachBelow, numbers_of}
+use Rattle.erasure_code.specs.Columns.{Agree, AreDifferent, AreOfBytes, IsEachBelow, column_numbers}
 
 -- each of k partitions is lost or known, and as many different rows of m as columns are lost are there
 pub record CanDecode (k m : ℕ) (lost : List ℕ) (rows known : List Column) : Type 0 where
   pub processes : k + m ≤ 256
-  pub partitions : IsEachBelow k (lost ++ numbers_of known)
-  pub different : AreDifferent (numbers_of rows)
-  pub below : All (λ i. i < m) (numbers_of rows)
+  pub partitions : IsEachBelow k (lost ++ column_numbers known)
+  pub different : AreDifferent (column_numbers rows)
+  pub below : All (λ i. i < m) (column_numbers rows)
   pub as_many : length rows ≡ length lost
 
 -- the columns that agree have in their lost places what the rows and the known columns decode to

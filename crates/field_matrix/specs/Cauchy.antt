@@ -8,8 +8,8 @@ abbrev pub AllDiffer : ℕ → List ℕ → Type 0
 AllDiffer n xs = (i k : ℕ) → i < n → k < n → slice_index xs i ≡ slice_index xs k → i ≡ k
 
 -- none of the first n numbers of the one list is one of the other's
-abbrev pub AreApart : ℕ → List ℕ → List ℕ → Type 0
-AreApart n xs ys = (i j : ℕ) → i < n → j < n → slice_index xs i ≢ slice_index ys j
+abbrev pub AreDisjoint : ℕ → List ℕ → List ℕ → Type 0
+AreDisjoint n xs ys = (i j : ℕ) → i < n → j < n → slice_index xs i ≢ slice_index ys j
 
 -- in the first n rows and columns the entry in row i and column j is the inverse of the sum of the
 -- i-th number of the one list and the j-th of the other

@@ -1,6 +1,6 @@
 ghost use Rattle.std.specs.Prelude.{◌≡◌, ◌≢◌, ℕ, ◌+◌, ◌<◌, ◌≤◌, bit_xor, length, slice_index};
 ghost use Rattle.field_byte.specs.Field.{inverse};
-ghost use Rattle.field_matrix.specs.Cauchy.{AllDiffer, AreApart, HoldsInverses, IsCauchy};
+ghost use Rattle.field_matrix.specs.Cauchy.{AllDiffer, AreDisjoint, HoldsInverses, IsCauchy};
 ghost use Rattle.field_matrix.specs.Grids.{HasBytes, IsIdentity, entry, times};
 
 use crate::elimination::{identity, step};
@@ -30,7 +30,7 @@ impl<const F: usize> Square<F> {
     pub fn cauchy(rows: &[u8; F], columns: &[u8; F]) -> Square<F>
         requires rows { AllDiffer F rows.now }
         requires columns { AllDiffer F columns.now }
-        requires apart { AreApart F rows.now columns.now }
+        requires apart { AreDisjoint F rows.now columns.now }
         ensures entries { HoldsInverses F rows.now columns.now (entry result) }
         ensures cauchy { IsCauchy F (entry result) }
         ensures bytes { HasBytes F (entry result) }

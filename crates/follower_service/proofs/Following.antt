@@ -11,20 +11,20 @@ use Rattle.group_run.specs.Fitting.{AllCanCome, NumberedFrom, Writes}
 use Rattle.group_run.specs.Heading.{settlements}
 use Rattle.group_run.specs.Replica.{Replica, applied_to, last_of, number_on, slot_in, with_log, with_update}
 use Rattle.request_log.specs.Logged.{IsNumbered}
-use Rattle.partition_replica.specs.State.{IsTidyBut, State, is_needed, is_touched}
+use Rattle.partition_replica.specs.State.{IsTidyBut, ReplicaState, is_needed, is_touched}
 use Rattle.head_service.specs.Seat.{StandsOn}
-use Rattle.head_service.specs.Settling.{updates_of}
+use Rattle.head_service.specs.Settling.{updates_settled}
 use Rattle.head_service.specs.Storage.{Storage}
 use Rattle.head_service.proofs.Tidying.{number-last, updates-are}
 
 -- what is owed of the updates of a list that was empty before it was settled
-pub settled-owed : (t : State) (d : ℕ) (us : List Update) (old new slice : List Settlement) → old ≡ [] → new ≡ old ++ settlements d us → slice ≡ new
-    → (owed : List ℕ → Bool) → IsTidyBut t (λ q. owed q || is_touched us q) → IsTidyBut t (λ q. owed q || is_touched (updates_of slice) q)
+pub settled-owed : (t : ReplicaState) (d : ℕ) (us : List Update) (old new slice : List Settlement) → old ≡ [] → new ≡ old ++ settlements d us → slice ≡ new
+    → (owed : List ℕ → Bool) → IsTidyBut t (λ q. owed q || is_touched us q) → IsTidyBut t (λ q. owed q || is_touched (updates_settled slice) q)
 settled-owed t d us old new slice empty is same owed tidy = subst (λ (vs : List Update). IsTidyBut t (λ q. owed q || is_touched vs q))
-    (sym (ap updates_of (same ∙ is ∙ ap (λ (xs : List Settlement). xs ++ settlements d us) empty) ∙ updates-are d us)) tidy
+    (sym (ap updates_settled (same ∙ is ∙ ap (λ (xs : List Settlement). xs ++ settlements d us) empty) ∙ updates-are d us)) tidy
 
 -- nothing is owed of an update that stands in the log
-pub received-tidy : (s t : State) (u : Update) (owed : List ℕ → Bool) → t.replica ≡ with_update u s.replica
+pub received-tidy : (s t : ReplicaState) (u : Update) (owed : List ℕ → Bool) → t.replica ≡ with_update u s.replica
     → IsTidyBut t (λ q. (false || is_touched (u ∷ []) q) || owed q) → IsTidyBut t (λ q. false || owed q)
 received-tidy s t u owed is tidy q ready = by (same_key u.key q) refl (tidy q ready) where
   needed : same_key u.key q ≡ true → is_some (number_on t.replica.log q) ≡ true
@@ -60,7 +60,7 @@ owed-none false true is = refl
 owed-none false false is = is
 
 -- where a new head's list is adopted, of which all is ready
-pub stands-adopted : {d : ℕ} {r s : State} {b : Storage} (first : Replica) (base : ℕ) (list copy : List Update) → StandsOn d r b → base ≤ last_of first
+pub stands-adopted : {d : ℕ} {r s : ReplicaState} {b : Storage} (first : Replica) (base : ℕ) (list copy : List Update) → StandsOn d r b → base ≤ last_of first
     → r.replica ≡ applied_to base first → copy ≡ list → s.shape ≡ r.shape → s.replica ≡ with_log (drop (r.replica.applied - base) copy) r.replica
     → All (b.is_ready d) (drop (first.applied - base) list) → StandsOn d s b
 stands-adopted {d} {r} {s} {b} first base list copy stands reached settled copied shape adopted ready =

@@ -4,7 +4,7 @@ ghost use Rattle.group_run.specs.Fitting.{AdoptFits};
 ghost use Rattle.group_run.specs.Receiving.{adopting};
 ghost use Rattle.group_run.specs.Replica.{applied_to, up_to};
 ghost use Rattle.head_service.specs.Paging.{AllMiss};
-ghost use Rattle.head_service.specs.Seat.{ChangesOnlyRoom, IsSeat};
+ghost use Rattle.head_service.specs.Seat.{ChangesOnlyRoom, IsWholeSeat};
 ghost use Rattle.head_service.specs.Storage.{MakesReady};
 
 use crate::keys::tidy_all;
@@ -27,8 +27,8 @@ pub fn adopt<B: Beneath>(
     below: &mut B,
 ) -> Result<(), AllocError>
     requires fits { AdoptFits replica.old.shape replica.old.replica base list.now }
-    requires seat { IsSeat partition.0 replica.old (B.storage below.old) }
-    ensures seat { IsSeat partition.0 replica.new (B.storage below.new) }
+    requires seat { IsWholeSeat partition.0 replica.old (B.storage below.old) }
+    ensures seat { IsWholeSeat partition.0 replica.new (B.storage below.new) }
     ensures makes { MakesReady (AllMiss (B.storage below.old).shape.block list.now) (B.storage below.old)
         (B.storage below.new) }
     ensures replica { OnOk result (replica.new.replica ≡ adopting base list.now (applied_to base replica.old.replica)) }

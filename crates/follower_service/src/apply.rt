@@ -1,6 +1,6 @@
 ghost use Rattle.std.specs.Prelude.{length, vec_capacity};
 ghost use Rattle.group_run.specs.Replica.{up_to};
-ghost use Rattle.head_service.specs.Seat.{IsSeat};
+ghost use Rattle.head_service.specs.Seat.{IsWholeSeat};
 ghost use Rattle.head_service.specs.Settling.{HasApplied, IsRoomFor};
 ghost use Rattle.head_service.specs.Storage.{StaysReady};
 
@@ -18,8 +18,8 @@ pub fn apply<B: Beneath>(
     below: &mut B,
 )
     requires room { IsRoomFor (length (up_to number replica.old.replica)) room.items (vec_capacity room) }
-    requires seat { IsSeat partition.0 replica.old (B.storage below.old) }
-    ensures seat { IsSeat partition.0 replica.new (B.storage below.new) }
+    requires seat { IsWholeSeat partition.0 replica.old (B.storage below.old) }
+    ensures seat { IsWholeSeat partition.0 replica.new (B.storage below.new) }
     ensures stays { StaysReady (B.storage below.old) (B.storage below.new) }
     ensures applied { HasApplied partition.0 number replica.old.replica replica.new.replica (B.storage below.old)
         (B.storage below.new) }

@@ -3,7 +3,7 @@ ghost use Rattle.group_run.specs.Applying.{bytes_after};
 ghost use Rattle.group_run.specs.Fitting.{UpdateFits};
 ghost use Rattle.group_run.specs.Replica.{applied_to, up_to, with_update};
 ghost use Rattle.head_service.specs.Paging.{Misses};
-ghost use Rattle.head_service.specs.Seat.{ChangesOnlyRoom, IsSeat};
+ghost use Rattle.head_service.specs.Seat.{ChangesOnlyRoom, IsWholeSeat};
 ghost use Rattle.head_service.specs.Storage.{MakesReady};
 
 use crate::keys::tidy_all;
@@ -27,8 +27,8 @@ pub fn follow<B: Beneath>(
     below: &mut B,
 ) -> Result<(), AllocError>
     requires fits { UpdateFits replica.old.shape replica.old.replica update.now stable }
-    requires seat { IsSeat partition.0 replica.old (B.storage below.old) }
-    ensures seat { IsSeat partition.0 replica.new (B.storage below.new) }
+    requires seat { IsWholeSeat partition.0 replica.old (B.storage below.old) }
+    ensures seat { IsWholeSeat partition.0 replica.new (B.storage below.new) }
     ensures makes { MakesReady (Misses (B.storage below.old).shape.block update.now.body) (B.storage below.old)
         (B.storage below.new) }
     ensures replica { OnOk result (replica.new.replica

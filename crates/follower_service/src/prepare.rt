@@ -5,7 +5,7 @@ ghost use Rattle.group_run.specs.Fitting.{AdoptFits, Writes};
 ghost use Rattle.group_run.specs.Replica.{up_to};
 ghost use Rattle.partition_replica.specs.State.{HasRoom, is_touched};
 ghost use Rattle.head_service.specs.Paging.{AllMiss, Misses};
-ghost use Rattle.head_service.specs.Seat.{ChangesOnlyRoom, IsSeat, IsSeatBut};
+ghost use Rattle.head_service.specs.Seat.{ChangesOnlyRoom, IsSeatBut, IsWholeSeat};
 ghost use Rattle.head_service.specs.Settling.{IsRoomFor};
 ghost use Rattle.head_service.specs.Storage.{MakesReady};
 
@@ -33,7 +33,7 @@ pub fn for_update<B: Beneath>(
     below: &mut B,
 ) -> Result<Prepared<Update>, AllocError>
     requires writes { Writes (space_of (B.storage below.old).shape) update.now.body }
-    requires seat { IsSeat partition.0 replica.old (B.storage below.old) }
+    requires seat { IsWholeSeat partition.0 replica.old (B.storage below.old) }
     ensures seat { IsSeatBut (is_touched (update.now ∷ [])) partition.0 replica.new (B.storage below.new) }
     ensures makes { MakesReady (Misses (B.storage below.old).shape.block update.now.body) (B.storage below.old)
         (B.storage below.new) }
@@ -62,7 +62,7 @@ pub fn for_list<B: Beneath>(
     below: &mut B,
 ) -> Result<Prepared<UpdateList>, AllocError>
     requires fits { AdoptFits replica.old.shape replica.old.replica base list.now }
-    requires seat { IsSeat partition.0 replica.old (B.storage below.old) }
+    requires seat { IsWholeSeat partition.0 replica.old (B.storage below.old) }
     ensures seat { IsSeatBut (is_touched list.now) partition.0 replica.new (B.storage below.new) }
     ensures makes { MakesReady (AllMiss (B.storage below.old).shape.block list.now) (B.storage below.old)
         (B.storage below.new) }

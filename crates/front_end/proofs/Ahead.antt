@@ -7,7 +7,7 @@ use Rattle.memc_proto.specs.declared.end.CallEnd.{CallEnd}
 use Rattle.memc_proto.specs.declared.request.Request.{Request}
 use Rattle.memc_proto.specs.declared.request.Request.TheVariants.{Get, Change, Version, Quit, Fail, Refused}
 use Rattle.front_end.specs.Ahead.{acts_of, acts_ahead, unneeded_of}
-use Rattle.front_end.specs.Settling.{IsDue, OrderIsDue, TextIsDue, HasSettled, HasTold}
+use Rattle.front_end.specs.Settling.{IsDue, OrderIsDue, TextIsDue, HasSettledDue, HasTold}
 use Rattle.front_end.specs.Turns.{is_reply}
 use Rattle.front_end.specs.declared.due.Due.TheVariants as due
 
@@ -46,7 +46,7 @@ drop-behind x xs ys = let e : 1 + (length (x ∷ xs) - 1) ≡ suc (length xs) = 
 
 -- the call that was due ended: its act is gone, and with it those that needn't be made any more
 pub settled-acts : (told : Option ℕ) (op : Asked) (end : CallEnd) (before now : List ℕ) (waiting left : List Request)
-    → IsDue told waiting (due.Call op) → HasSettled end before now waiting left
+    → IsDue told waiting (due.Call op) → HasSettledDue end before now waiting left
     → acts_ahead left ≡ drop (1 + unneeded_of end waiting) (acts_ahead waiting)
 settled-acts told op end before now [] left is settled = absurd is
 settled-acts told op end before now (Get [] with_cas ∷ others) left is settled = absurd (cc is)

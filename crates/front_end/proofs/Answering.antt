@@ -3,10 +3,10 @@ use Rattle.edge_io.proofs.Moving.{Appends-nil}
 use Rattle.edge_io.specs.Moving.{Appends}
 use Rattle.edge_io.specs.Writing.{HasWritten}
 use Rattle.memc_proto.specs.declared.request.Request.{Request}
-use Rattle.front_end.specs.Answers.{stand, IsAnswered, IsBroken}
+use Rattle.front_end.specs.Answers.{IsCutByFault, IsRequestAnswered, stand}
 use Rattle.front_end.specs.Calls.{Call, Ways, Leads}
-use Rattle.front_end.specs.Faults.{CutsNext, StandsAt}
-use Rattle.front_end.specs.Turns.{Due, AreCallsOf, is_replied, dues_behind, dues_of, answer_text}
+use Rattle.front_end.specs.Faults.{CallerStandsAt, CutsNext}
+use Rattle.front_end.specs.Turns.{Due, AreCallsOf, is_replied, dues_behind, dues_of, response_text}
 use Rattle.front_end.specs.declared.end.ConnectionFault.{ConnectionFault}
 use Rattle.front_end.specs.declared.end.ConnectionFault.TheVariants.{ReadFault, WriteFault, Want}
 
@@ -19,7 +19,7 @@ first-none told (due ∷ dues) = refl
 
 -- nothing of a request was done
 pub broken-none : {C : Type 0} (ways : Ways C) (told : Option ℕ) (before after : C) (held : List ℕ) (fault : ConnectionFault) (request : Request)
-    → StandsAt ways told before (dues_of request) after fault → IsBroken ways told (stand before held) (stand after held) fault request
+    → CallerStandsAt ways told before (dues_of request) after fault → IsCutByFault ways told (stand before held) (stand after held) fault request
 broken-none ways told before after held fault request stands = record {
   calls = [];
   first = first-none told (dues_of request);
@@ -30,7 +30,8 @@ broken-none ways told before after held fault request stands = record {
   bytes = Appends-nil held;
 }
 
-pub stands-here : {C : Type 0} (ways : Ways C) (told : Option ℕ) (at : C) (dues : List Due) (fault : ConnectionFault) → StandsAt ways told at dues at fault
+pub stands-here : {C : Type 0} (ways : Ways C) (told : Option ℕ) (at : C) (dues : List Due) (fault : ConnectionFault)
+    → CallerStandsAt ways told at dues at fault
 stands-here ways told at dues ReadFault = refl
 stands-here ways told at dues WriteFault = refl
 stands-here ways told at dues Want = inl refl
@@ -38,7 +39,7 @@ stands-here ways told at dues Want = inl refl
 -- the first call of a request found no memory
 pub broken-wanted : {C : Type 0} (ways : Ways C) (told : Option ℕ) (before after : C) (held : List ℕ)
     (request : Request) → CutsNext ways told before (dues_of request) after
-    → IsBroken ways told (stand before held) (stand after held) Want request
+    → IsCutByFault ways told (stand before held) (stand after held) Want request
 broken-wanted ways told before after held request cut = broken-none ways told before after held Want request (inr cut)
 
 -- all calls are the first calls
@@ -57,10 +58,10 @@ first-whole told (due ∷ dues) (call ∷ calls) whole = (whole.0, on_reply (is_
 -- behind all calls of a request its text was written, or the front of it
 pub written : {C : Type 0} (ways : Ways C) (told : Option ℕ) (before at : C) (held now : List ℕ) (request : Request)
     (calls : List Call) (text : List ℕ) (result : Result (Unit {0}) ConnectionFault)
-    → AreCallsOf told true (dues_of request) calls → Leads ways before calls at → text ≡ answer_text request calls
+    → AreCallsOf told true (dues_of request) calls → Leads ways before calls at → text ≡ response_text request calls
     → OnOk result (Appends held now text) → HasWritten held now text
-    → MatchResult result (λ _. IsAnswered ways told (stand before held) (stand at now) request)
-    (λ fault. IsBroken ways told (stand before held) (stand at now) fault request)
+    → MatchResult result (λ _. IsRequestAnswered ways told (stand before held) (stand at now) request)
+    (λ fault. IsCutByFault ways told (stand before held) (stand at now) fault request)
 written ways told before at held now request calls text (Ok _) are leads is whole part = record {
   calls = calls;
   whole = are;
@@ -83,5 +84,5 @@ ends-calls false = refl
 
 -- nothing of a request was done, and there was no memory for its call
 pub broken-early : {C : Type 0} (ways : Ways C) (told : Option ℕ) (at : C) (held : List ℕ) (fault : ConnectionFault)
-    (request : Request) → IsBroken ways told (stand at held) (stand at held) fault request
+    (request : Request) → IsCutByFault ways told (stand at held) (stand at held) fault request
 broken-early ways told at held fault request = broken-none ways told at at held fault request (stands-here ways told at (dues_of request) fault)

@@ -8,9 +8,9 @@ use Rattle.memc_table.specs.declared.act.Act.TheVariants as act
 use Rattle.memc_proto.specs.Text.{end_text}
 use Rattle.memc_proto.specs.declared.end.CallEnd.{CallEnd}
 use Rattle.memc_proto.specs.declared.request.Request.TheVariants.{Get}
-use Rattle.front_end.specs.Answers.{Stand, stand, IsMade, IsKeyAnswered, IsAnswered, IsBroken}
+use Rattle.front_end.specs.Answers.{Stand, stand, IsActMade, IsKeyAnswered, IsRequestAnswered, IsCutByFault}
 use Rattle.front_end.specs.Calls.{Made, Ways}
-use Rattle.front_end.specs.Faults.{StandsAt}
+use Rattle.front_end.specs.Faults.{CallerStandsAt}
 use Rattle.front_end.specs.Turns.{Acts, AreCallsOf, dues_behind, is_reply, key_text, get_text}
 use Rattle.front_end.specs.declared.end.ConnectionFault.{ConnectionFault}
 use Rattle.front_end.proofs.Answering.{no_calls, first-none, stands-here}
@@ -23,7 +23,7 @@ rest-none told keys false = refl
 -- the rest of a get behind a key whose call ended by a reply
 pub answered-more : {C : Type 0} (ways : Ways C) (told : Option ℕ) (before middle after : Stand C) (with_cas : Bool)
     (key : List ℕ) (keys : List (List ℕ)) → IsKeyAnswered ways told before middle with_cas key true
-    → IsAnswered ways told middle after (Get keys with_cas) → IsAnswered ways told before after (Get (key ∷ keys) with_cas)
+    → IsRequestAnswered ways told middle after (Get keys with_cas) → IsRequestAnswered ways told before after (Get (key ∷ keys) with_cas)
 answered-more ways told before middle after with_cas key keys first rest = record {
   calls = first.call ∷ rest.calls;
   whole = (
@@ -41,7 +41,7 @@ answered-more ways told before middle after with_cas key keys first rest = recor
 pub broken-more : {C : Type 0} (ways : Ways C) (told : Option ℕ) (before middle after : Stand C)
     (fault : ConnectionFault) (with_cas : Bool) (key : List ℕ) (keys : List (List ℕ))
     → IsKeyAnswered ways told before middle with_cas key true
-    → IsBroken ways told middle after fault (Get keys with_cas) → IsBroken ways told before after fault (Get (key ∷ keys) with_cas)
+    → IsCutByFault ways told middle after fault (Get keys with_cas) → IsCutByFault ways told before after fault (Get (key ∷ keys) with_cas)
 broken-more ways told before middle after fault with_cas key keys first rest = record {
   calls = first.call ∷ rest.calls;
   first = (
@@ -51,7 +51,8 @@ broken-more ways told before middle after fault with_cas key keys first rest = r
   );
   led = rest.led;
   leads = (middle.caller, first.leads, rest.leads);
-  stands = subst (λ (b : Bool). StandsAt ways told rest.led (if b then dues_behind (map (λ k. Acts (act.Get k)) keys) rest.calls else []) after.caller fault)
+  stands = subst (λ (b : Bool). CallerStandsAt ways told rest.led
+      (if b then dues_behind (map (λ k. Acts (act.Get k)) keys) rest.calls else []) after.caller fault)
       first.replied_is rest.stands;
   count = length (key_text with_cas key first.call) + rest.count;
   bytes = subst (Appends before.held after.held)
@@ -65,7 +66,7 @@ broken-more ways told before middle after fault with_cas key keys first rest = r
 -- a get ends behind a key whose call didn't end by a reply
 pub answered-stop : {C : Type 0} (ways : Ways C) (told : Option ℕ) (before after : Stand C) (with_cas : Bool)
     (key : List ℕ) (keys : List (List ℕ)) → IsKeyAnswered ways told before after with_cas key false
-    → IsAnswered ways told before after (Get (key ∷ keys) with_cas)
+    → IsRequestAnswered ways told before after (Get (key ∷ keys) with_cas)
 answered-stop ways told before after with_cas key keys first = record {
   calls = first.call ∷ [];
   whole = (first.is_call, subst (λ (b : Bool). MatchBool b (AreCallsOf told true (map (λ k. Acts (act.Get k)) keys) []) (no_calls ≡ [])) first.replied_is refl);
@@ -79,8 +80,8 @@ answered-stop ways told before after with_cas key keys first = record {
 -- a fault came while the text of a key was written
 pub key-broken : {C : Type 0} (ways : Ways C) (told : Option ℕ) (before after : C) (held now : List ℕ)
     (fault : ConnectionFault) (with_cas : Bool) (key : List ℕ) (keys : List (List ℕ)) (end : CallEnd)
-    → IsMade ways told before after (act.Get key) end → HasWritten held now (end_text key with_cas end)
-    → IsBroken ways told (stand before held) (stand after now) fault (Get (key ∷ keys) with_cas)
+    → IsActMade ways told before after (act.Get key) end → HasWritten held now (end_text key with_cas end)
+    → IsCutByFault ways told (stand before held) (stand after now) fault (Get (key ∷ keys) with_cas)
 key-broken ways told before after held now fault with_cas key keys end made part = record {
   calls = Made made.op end ∷ [];
   first = ((made.act_is, made.moment), rest-none told keys (is_reply end));

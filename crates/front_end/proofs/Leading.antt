@@ -4,7 +4,7 @@ use Rattle.std.specs.declared.alloc.AllocError.{AllocError}
 use Rattle.group_types.specs.declared.process.ProcessId.{ProcessId}
 use Rattle.memc_table.specs.Asked.{Asked}
 use Rattle.memc_proto.specs.declared.end.FailEnd.{FailEnd}
-use Rattle.front_end.specs.AtOnce.{IsKept}
+use Rattle.front_end.specs.AtOnce.{IsKeptCall}
 use Rattle.front_end.specs.Calls.{Ways}
 use Rattle.front_end.specs.Order.{IsOrder, LeadsOn}
 use Rattle.front_end.specs.declared.at_once.Ended.{Ended}
@@ -16,8 +16,8 @@ order-leads ways later onward before after at keep (Ok end) failed want = onward
 order-leads ways later onward before after at keep (Err e) failed want = onward.unmade before after want
 
 pub kept-on : {C : Type 0} (ways : Ways C) (later : C → C → Type 0) (order : IsOrder later) (ended : Option Ended)
-    (began now next : C) (op : Asked) → later now next → IsKept ways later ended began op now
-    → IsKept ways later ended began op next
+    (began now next : C) (op : Asked) → later now next → IsKeptCall ways later ended began op now
+    → IsKeptCall ways later ended began op next
 kept-on ways later order None began now next op on kept = absurd kept
 kept-on ways later order (Some ended) began now next op on kept = (
   kept.0,

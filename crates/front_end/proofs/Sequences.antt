@@ -8,17 +8,17 @@ use Rattle.edge_io.specs.Moving.{Input}
 use Rattle.group_types.specs.Lists.{same_key}
 use Rattle.group_types.specs.declared.process.ProcessId.{ProcessId}
 use Rattle.memc_table.specs.Asked.{Asked}
-use Rattle.memc_proto.specs.Reader.{Kept}
+use Rattle.memc_proto.specs.Reader.{ReaderState}
 use Rattle.memc_proto.specs.declared.end.CallEnd.{CallEnd}
 use Rattle.memc_proto.specs.declared.end.FailEnd.{FailEnd}
 use Rattle.memc_proto.specs.declared.request.Request.{Request}
-use Rattle.front_end.specs.Answers.{Stand, stand, IsAnswered, IsBroken, AreAnswered, AreHalted}
+use Rattle.front_end.specs.Answers.{Stand, stand, IsRequestAnswered, IsCutByFault, AreAnswered, AreHalted}
 use Rattle.front_end.specs.Calls.{Call, Made, Failed, Ways, Leads, LeadsBy}
 use Rattle.front_end.specs.Connection.{IsWaiting, HasStopped, HasServed}
-use Rattle.front_end.specs.Faults.{CutsNext, StandsAt}
-use Rattle.front_end.specs.Going.{GoesOn}
+use Rattle.front_end.specs.Faults.{CallerStandsAt, CutsNext}
+use Rattle.front_end.specs.Going.{ConnectionGoesOn}
 use Rattle.front_end.specs.Order.{among}
-use Rattle.front_end.specs.Progress.{HasStepped}
+use Rattle.front_end.specs.Progress.{HasAnsweredNext}
 use Rattle.front_end.specs.Sequences.{in_sequence, sequence_of, with_end}
 use Rattle.front_end.specs.Turns.{Due, Acts, Fails}
 use Rattle.front_end.specs.declared.end.ConnectionFault.{ConnectionFault}
@@ -64,8 +64,8 @@ module _ {C D : Type 0} (ways : Ways C) (others : Ways D) (see : C → D) (seen 
   leads-seen [] before after same = ap see same
   leads-seen (call ∷ calls) before after (next, first, rest) = (see next, by-seen before next call first, leads-seen calls next after rest)
 
-  pub answered-seen : (before after : Stand C) (request : Request) → IsAnswered ways told before after request
-      → IsAnswered others told (at before) (at after) request
+  pub answered-seen : (before after : Stand C) (request : Request) → IsRequestAnswered ways told before after request
+      → IsRequestAnswered others told (at before) (at after) request
   answered-seen before after request answered = record {
     calls = answered.calls;
     whole = answered.whole;
@@ -89,14 +89,14 @@ module _ {C D : Type 0} (ways : Ways C) (others : Ways D) (see : C → D) (seen 
   cuts-seen led (Fails process keep ∷ dues) after unmade = seen.unmade led after unmade
 
   stands-seen : (led : C) (dues : List Due) (after : C) (fault : ConnectionFault)
-      → StandsAt ways told led dues after fault → StandsAt others told (see led) dues (see after) fault
+      → CallerStandsAt ways told led dues after fault → CallerStandsAt others told (see led) dues (see after) fault
   stands-seen led dues after Want (inl same) = inl (ap see same)
   stands-seen led dues after Want (inr cut) = inr (cuts-seen led dues after cut)
   stands-seen led dues after WriteFault same = ap see same
   stands-seen led dues after ReadFault same = ap see same
 
   broken-seen : (before after : Stand C) (fault : ConnectionFault) (request : Request)
-      → IsBroken ways told before after fault request → IsBroken others told (at before) (at after) fault request
+      → IsCutByFault ways told before after fault request → IsCutByFault others told (at before) (at after) fault request
   broken-seen before after fault request broken = record {
     calls = broken.calls;
     first = broken.first;
@@ -123,7 +123,7 @@ module _ {C D : Type 0} (ways : Ways C) (others : Ways D) (see : C → D) (seen 
       inr (more, closing, all_answered-seen before after requests more answered)
 
   pub stepped-seen : (before after : Stand C) (waiting now : List Request)
-      → HasStepped ways told before after waiting now → HasStepped others told (at before) (at after) waiting now
+      → HasAnsweredNext ways told before after waiting now → HasAnsweredNext others told (at before) (at after) waiting now
   stepped-seen before after [] now stepped = absurd stepped
   stepped-seen before after (request ∷ rest) now (inl (answered, is)) = inl (answered-seen before after request answered, is)
   stepped-seen before after (request ∷ rest) now (inr (next, taken, is)) = inr (
@@ -194,8 +194,8 @@ module _ {C D : Type 0} (ways : Ways C) (others : Ways D) (see : C → D) (seen 
     halted = halted-seen before after Want [] wanted.requests wanted.rest wanted.halted;
   }
 
-  pub goes_on-seen : (input input_now : Input) (before now : Stand C) (kept : Kept) (count : ℕ)
-      → GoesOn ways told input input_now before now kept count → GoesOn others told input input_now (at before) (at now)
+  pub goes_on-seen : (input input_now : Input) (before now : Stand C) (kept : ReaderState) (count : ℕ)
+      → ConnectionGoesOn ways told input input_now before now kept count → ConnectionGoesOn others told input input_now (at before) (at now)
       kept count
   goes_on-seen input input_now before now kept count goes = record {
     read = goes.read;
@@ -239,8 +239,8 @@ never-answered {C} later ways told ends ends_now held now requests more =
     all_answered-seen _ _ (λ (e : List ℕ → C). e []) (never-seen later ways) told (stand ends held) (stand ends_now now) requests more
 
 pub never-goes_on : {C : Type 0} (later : C → C → Type 0) (ways : Ways C) (told : Option ℕ) (input input_now : Input)
-    (ends ends_now : List ℕ → C) (held now : List ℕ) (kept : Kept) (count : ℕ)
-    → GoesOn (in_sequence (sequence_of Never) later ways) told input input_now (stand ends held) (stand ends_now now) kept count
-    → GoesOn (among later ways) told input input_now (stand (ends []) held) (stand (ends_now []) now) kept count
+    (ends ends_now : List ℕ → C) (held now : List ℕ) (kept : ReaderState) (count : ℕ)
+    → ConnectionGoesOn (in_sequence (sequence_of Never) later ways) told input input_now (stand ends held) (stand ends_now now) kept count
+    → ConnectionGoesOn (among later ways) told input input_now (stand (ends []) held) (stand (ends_now []) now) kept count
 never-goes_on {C} later ways told input input_now ends ends_now held now kept count =
     goes_on-seen _ _ (λ (e : List ℕ → C). e []) (never-seen later ways) told input input_now (stand ends held) (stand ends_now now) kept count

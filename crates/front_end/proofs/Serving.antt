@@ -3,13 +3,13 @@ use Rattle.std.proofs.Common.{Err, append-nil, length-append, append_assoc, refl
 use Rattle.std.specs.Result.{IsErrAnd}
 use Rattle.edge_io.specs.Moving.{Input, IsEnded, Takes}
 use Rattle.edge_io.proofs.Moving.{Takes-none, Takes-trans}
-use Rattle.memc_proto.specs.Reader.{Kept, HasRead}
+use Rattle.memc_proto.specs.Reader.{HasRead, ReaderState}
 use Rattle.memc_proto.specs.declared.request.Request.{Request}
 use Rattle.front_end.specs.Answers.{Stand, AreAnswered, AreHalted}
 use Rattle.front_end.specs.Calls.{Ways}
-use Rattle.front_end.specs.Connection.{IsOpen, IsWaiting, IsEndAt, HasCome, HasServed}
-use Rattle.front_end.specs.Going.{GoesOn}
-use Rattle.front_end.specs.Piece.{IsServed, HasTaken}
+use Rattle.front_end.specs.Connection.{IsStillOpen, IsWaiting, IsEndAt, HasCome, HasServed}
+use Rattle.front_end.specs.Going.{ConnectionGoesOn}
+use Rattle.front_end.specs.Piece.{HasTaken, IsPieceServed}
 use Rattle.front_end.specs.declared.end.ConnectionFault.{ConnectionFault}
 use Rattle.front_end.specs.declared.end.ConnectionFault.TheVariants.{ReadFault, WriteFault, Want}
 use Rattle.front_end.specs.declared.end.End.{End}
@@ -17,8 +17,8 @@ use Rattle.front_end.specs.declared.end.End.TheVariants.{Quit, Ended, Cut, LineT
 use Rattle.front_end.proofs.Turning.{answered-none, answered-append}
 
 -- nothing was read
-pub goes_on-none : {C : Type 0} (ways : Ways C) (told : Option ℕ) (input : Input) (at : Stand C) (kept : Kept)
-    (count : ℕ) → HasRead kept [] [] → count ≡ 0 → GoesOn ways told input input at at kept count
+pub goes_on-none : {C : Type 0} (ways : Ways C) (told : Option ℕ) (input : Input) (at : Stand C) (kept : ReaderState)
+    (count : ℕ) → HasRead kept [] [] → count ≡ 0 → ConnectionGoesOn ways told input input at at kept count
 goes_on-none ways told input at kept count has_read zero = record {
   read = [];
   consumed = Takes-none input;
@@ -31,25 +31,25 @@ goes_on-none ways told input at kept count has_read zero = record {
   counted = sym zero;
 }
 
-is_open : {C : Type 0} (ways : Ways C) (told : Option ℕ) (input input_now : Input) (before now : Stand C) (kept : Kept)
-    (count : ℕ) (goes : GoesOn ways told input input_now before now kept count)
-    → IsOpen goes.read goes.requests goes.has_read.rest
+is_open : {C : Type 0} (ways : Ways C) (told : Option ℕ) (input input_now : Input) (before now : Stand C) (kept : ReaderState)
+    (count : ℕ) (goes : ConnectionGoesOn ways told input input_now before now kept count)
+    → IsStillOpen goes.read goes.requests goes.has_read.rest
 is_open ways told input input_now before now kept count goes = record { reads = goes.has_read.reads; no_quit = goes.no_quit; short = goes.short }
 
 abbrev waiting : {C : Type 0} (ways : Ways C) (told : Option ℕ) (input middle input_now : Input) (before now : Stand C)
-    (kept : Kept) (count : ℕ) (rest : List ℕ) (goes : GoesOn ways told input middle before now kept count)
+    (kept : ReaderState) (count : ℕ) (rest : List ℕ) (goes : ConnectionGoesOn ways told input middle before now kept count)
     → Takes input input_now goes.read → goes.has_read.rest ≡ rest → IsWaiting ways told input input_now before now rest
 waiting ways told input middle input_now before now kept count rest goes consumed is = record {
   read = goes.read;
   consumed = consumed;
   requests = goes.requests;
-  is_open = subst (IsOpen goes.read goes.requests) is (is_open ways told input middle before now kept count goes);
+  is_open = subst (IsStillOpen goes.read goes.requests) is (is_open ways told input middle before now kept count goes);
   answered = goes.answered;
 }
 
 -- the input ended
 pub served-ended : {C : Type 0} (ways : Ways C) (told : Option ℕ) (input middle input_now : Input)
-    (before now : Stand C) (kept : Kept) (count : ℕ) (goes : GoesOn ways told input middle before now kept count)
+    (before now : Stand C) (kept : ReaderState) (count : ℕ) (goes : ConnectionGoesOn ways told input middle before now kept count)
     (end : End)
     → count < 4611686018427387904 → Takes middle input_now [] → IsEnded input_now → IsEndAt goes.has_read.rest end
     → HasServed ways told input input_now before now (Ok end)
@@ -74,15 +74,15 @@ consumes-zero input now bytes n none consumed = subst (λ (k : ℕ). Takes input
 
 -- as many bytes were read as a connection may have
 pub served-worn : {C : Type 0} (ways : Ways C) (told : Option ℕ) (input input_now : Input) (before now : Stand C)
-    (kept : Kept) (count : ℕ) → GoesOn ways told input input_now before now kept count → count ≡ 4611686018427387904
+    (kept : ReaderState) (count : ℕ) → ConnectionGoesOn ways told input input_now before now kept count → count ≡ 4611686018427387904
     → HasServed ways told input input_now before now (Ok Worn)
 served-worn ways told input input_now before now kept count goes all =
     (goes.has_read.rest, waiting ways told input input_now input_now before now kept count goes.has_read.rest goes goes.consumed refl, goes.counted ∙ all)
 
 -- a read failed
 pub served-read_fault : {C : Type 0} (ways : Ways C) (told : Option ℕ) (input middle input_now : Input)
-    (before now : Stand C) (kept : Kept) (count : ℕ) (result : Result End ConnectionFault)
-    → GoesOn ways told input middle before now kept count → Takes middle input_now []
+    (before now : Stand C) (kept : ReaderState) (count : ℕ) (result : Result End ConnectionFault)
+    → ConnectionGoesOn ways told input middle before now kept count → Takes middle input_now []
     → IsErrAnd result (λ e. e ≡ ReadFault) → HasServed ways told input input_now before now result
 served-read_fault ways told input middle input_now before now kept count (Ok _) goes keeps is = absurd is
 served-read_fault ways told input middle input_now before now kept count (Err e) goes keeps is =
@@ -125,7 +125,7 @@ halted-any ways told before after fault first requests rest (inl broken) = inl (
 halted-any ways told before after fault first requests rest (inr closing) = inr closing
 
 come : {C : Type 0} (ways : Ways C) (told : Option ℕ) (input middle input_now : Input) (before now : Stand C)
-    (kept next : Kept) (count : ℕ) (goes : GoesOn ways told input middle before now kept count) (piece : List ℕ)
+    (kept next : ReaderState) (count : ℕ) (goes : ConnectionGoesOn ways told input middle before now kept count) (piece : List ℕ)
     → length piece ≤ 65536 → Takes middle input_now piece → (taken : HasTaken next goes.read goes.requests piece)
     → HasCome input input_now goes.requests (goes.requests ++ taken.given) taken.has_read.rest
 come ways told input middle input_now before now kept next count goes piece short consumed taken = record {
@@ -140,9 +140,9 @@ come ways told input middle input_now before now kept next count goes piece shor
 
 -- a piece ended the connection
 pub served-end : {C : Type 0} (ways : Ways C) (told : Option ℕ) (input middle input_now : Input)
-    (before now after : Stand C) (kept next : Kept) (count : ℕ)
-    (goes : GoesOn ways told input middle before now kept count) (piece : List ℕ) (end : End)
-    → length piece ≤ 65536 → Takes middle input_now piece → IsServed ways told now after next goes.read goes.requests
+    (before now after : Stand C) (kept next : ReaderState) (count : ℕ)
+    (goes : ConnectionGoesOn ways told input middle before now kept count) (piece : List ℕ) (end : End)
+    → length piece ≤ 65536 → Takes middle input_now piece → IsPieceServed ways told now after next goes.read goes.requests
     piece (Ok (Some end)) → HasServed ways told input input_now before after (Ok end)
 served-end ways told input middle input_now before now after kept next count goes piece Quit short consumed (taken, answered, quit) = (
   record {
@@ -171,11 +171,11 @@ served-end ways told input middle input_now before now after kept next count goe
 
 -- a piece was answered, and the connection goes on
 pub goes_on-more : {C : Type 0} (ways : Ways C) (told : Option ℕ) (input middle input_now : Input)
-    (before now after : Stand C) (kept next : Kept) (count more : ℕ)
-    (goes : GoesOn ways told input middle before now kept count) (piece : List ℕ)
+    (before now after : Stand C) (kept next : ReaderState) (count more : ℕ)
+    (goes : ConnectionGoesOn ways told input middle before now kept count) (piece : List ℕ)
     → Takes middle input_now piece → more ≡ count + length piece
-    → IsServed ways told now after next goes.read goes.requests piece (Ok None)
-    → GoesOn ways told input input_now before after next more
+    → IsPieceServed ways told now after next goes.read goes.requests piece (Ok None)
+    → ConnectionGoesOn ways told input input_now before after next more
 goes_on-more ways told input middle input_now before now after kept next count more goes piece consumed more_is served = record {
   read = goes.read ++ piece;
   consumed = Takes-trans input middle input_now goes.read piece goes.consumed consumed;
@@ -189,10 +189,10 @@ goes_on-more ways told input middle input_now before now after kept next count m
 
 -- a fault came while a piece was answered
 pub served-fault : {C : Type 0} (ways : Ways C) (told : Option ℕ) (input middle input_now : Input)
-    (before now after : Stand C) (kept next : Kept) (count : ℕ)
-    (goes : GoesOn ways told input middle before now kept count) (piece : List ℕ) (fault : ConnectionFault)
+    (before now after : Stand C) (kept next : ReaderState) (count : ℕ)
+    (goes : ConnectionGoesOn ways told input middle before now kept count) (piece : List ℕ) (fault : ConnectionFault)
     (result : Result End ConnectionFault) → length piece ≤ 65536 → Takes middle input_now piece
-    → IsServed ways told now after next goes.read goes.requests piece (Err fault) → IsErrAnd result (λ e. e ≡ fault)
+    → IsPieceServed ways told now after next goes.read goes.requests piece (Err fault) → IsErrAnd result (λ e. e ≡ fault)
     → HasServed ways told input input_now before after result
 served-fault {C} ways told input middle input_now before now after kept next count goes piece fault (Ok _) short consumed served is = absurd is
 served-fault {C} ways told input middle input_now before now after kept next count goes piece fault (Err e) short
@@ -202,7 +202,7 @@ served-fault {C} ways told input middle input_now before now after kept next cou
     all : Takes input input_now (goes.read ++ piece)
     all = Takes-trans input middle input_now goes.read piece goes.consumed consumed
 
-    by_fault : (f : ConnectionFault) → IsServed ways told now after next goes.read goes.requests piece (Err f)
+    by_fault : (f : ConnectionFault) → IsPieceServed ways told now after next goes.read goes.requests piece (Err f)
         → HasServed ways told input input_now before after (Err f)
     by_fault ReadFault served = absurd served
     by_fault WriteFault served = record {
@@ -233,7 +233,7 @@ served-fault {C} ways told input middle input_now before now after kept next cou
     }
 
 -- there was no memory for the first read
-pub served-early : {C : Type 0} (ways : Ways C) (told : Option ℕ) (input : Input) (at : Stand C) (kept : Kept)
+pub served-early : {C : Type 0} (ways : Ways C) (told : Option ℕ) (input : Input) (at : Stand C) (kept : ReaderState)
     (result : Result End ConnectionFault) → HasRead kept [] [] → IsErrAnd result (λ e. e ≡ Want)
     → HasServed ways told input input at at result
 served-early ways told input at kept (Ok _) has_read is = absurd is
@@ -249,33 +249,33 @@ served-early ways told input at kept (Err e) has_read is = subst (λ (f : Connec
 
 -- what a piece came to, by what was answered
 pub served-some : {C : Type 0} (ways : Ways C) (told : Option ℕ) (input middle input_now : Input)
-    (before now after : Stand C) (kept next : Kept) (count : ℕ)
-    (goes : GoesOn ways told input middle before now kept count) (piece : List ℕ)
+    (before now after : Stand C) (kept next : ReaderState) (count : ℕ)
+    (goes : ConnectionGoesOn ways told input middle before now kept count) (piece : List ℕ)
     (found : Result (Option End) ConnectionFault) (answer : Option End) (end : End)
-    → length piece ≤ 65536 → Takes middle input_now piece → IsServed ways told now after next goes.read goes.requests
+    → length piece ≤ 65536 → Takes middle input_now piece → IsPieceServed ways told now after next goes.read goes.requests
     piece found → found ≡ Ok answer → answer ≡ Some end → HasServed ways told input input_now before after (Ok end)
 served-some ways told input middle input_now before now after kept next count goes piece found answer end short consumed served found_is answer_is =
     served-end ways told input middle input_now before now after kept next count goes piece end short consumed
-    (subst (IsServed ways told now after next goes.read goes.requests piece) (found_is ∙ ap (λ (a : Option End). Ok a) answer_is) served)
+    (subst (IsPieceServed ways told now after next goes.read goes.requests piece) (found_is ∙ ap (λ (a : Option End). Ok a) answer_is) served)
 
 pub goes_on-none_yet : {C : Type 0} (ways : Ways C) (told : Option ℕ) (input middle input_now : Input)
-    (before now after : Stand C) (kept next : Kept) (count more : ℕ)
-    (goes : GoesOn ways told input middle before now kept count) (piece : List ℕ)
+    (before now after : Stand C) (kept next : ReaderState) (count more : ℕ)
+    (goes : ConnectionGoesOn ways told input middle before now kept count) (piece : List ℕ)
     (found : Result (Option End) ConnectionFault) (answer : Option End)
     → Takes middle input_now piece → more ≡ count + length piece
-    → IsServed ways told now after next goes.read goes.requests piece found → found ≡ Ok answer → answer ≡ None
-    → GoesOn ways told input input_now before after next more
+    → IsPieceServed ways told now after next goes.read goes.requests piece found → found ≡ Ok answer → answer ≡ None
+    → ConnectionGoesOn ways told input input_now before after next more
 goes_on-none_yet ways told input middle input_now before now after kept next count more goes piece found answer consumed more_is served found_is answer_is =
     goes_on-more ways told input middle input_now before now after kept next count more goes piece consumed more_is
-    (subst (IsServed ways told now after next goes.read goes.requests piece) (found_is ∙ ap (λ (a : Option End). Ok a) answer_is) served)
+    (subst (IsPieceServed ways told now after next goes.read goes.requests piece) (found_is ∙ ap (λ (a : Option End). Ok a) answer_is) served)
 
 pub served-err : {C : Type 0} (ways : Ways C) (told : Option ℕ) (input middle input_now : Input)
-    (before now after : Stand C) (kept next : Kept) (count : ℕ)
-    (goes : GoesOn ways told input middle before now kept count) (piece : List ℕ)
+    (before now after : Stand C) (kept next : ReaderState) (count : ℕ)
+    (goes : ConnectionGoesOn ways told input middle before now kept count) (piece : List ℕ)
     (found : Result (Option End) ConnectionFault) (fault : ConnectionFault) (result : Result End ConnectionFault)
-    → length piece ≤ 65536 → Takes middle input_now piece → IsServed ways told now after next goes.read goes.requests
+    → length piece ≤ 65536 → Takes middle input_now piece → IsPieceServed ways told now after next goes.read goes.requests
     piece found → found ≡ Err fault → IsErrAnd result (λ e. e ≡ fault)
     → HasServed ways told input input_now before after result
 served-err ways told input middle input_now before now after kept next count goes piece found fault result short consumed served found_is is =
     served-fault ways told input middle input_now before now after kept next count goes piece fault result short
-    consumed (subst (IsServed ways told now after next goes.read goes.requests piece) found_is served) is
+    consumed (subst (IsPieceServed ways told now after next goes.read goes.requests piece) found_is served) is

@@ -12,8 +12,8 @@ use Rattle.memc_proto.specs.declared.request.Request.{Request}
 use Rattle.memc_proto.specs.declared.request.Request.TheVariants.{Get, Change, Version, Quit, Fail, Refused}
 use Rattle.front_end.specs.Answers.{Stand, stand, IsKeyAnswered}
 use Rattle.front_end.specs.Calls.{Made, Failed, Ways}
-use Rattle.front_end.specs.Progress.{behind, waiting_behind, HasStepped, BreaksAt}
-use Rattle.front_end.specs.Settling.{CallIsDue, IsDue, HasSettled, is_last, HasTold, first_text, settled_text, own_text}
+use Rattle.front_end.specs.Progress.{behind, waiting_behind, HasAnsweredNext, BreaksAt}
+use Rattle.front_end.specs.Settling.{CallIsDue, IsDue, HasSettledDue, is_last, HasTold, first_text, settled_text, own_text}
 use Rattle.front_end.specs.Turns.{is_reply, last_text}
 use Rattle.front_end.specs.declared.due.Due.TheVariants as due
 use Rattle.front_end.specs.declared.end.ConnectionFault.{ConnectionFault}
@@ -58,7 +58,7 @@ breaks-unmade ways told before after held at keep (Refused refusal ∷ others) i
 key-steps : {C : Type 0} (ways : Ways C) (told : Option ℕ) (before after : Stand C) (with_cas : Bool)
     (key more : List ℕ) (keys : List (List ℕ)) (others left : List Request) (replied : Bool)
     → IsKeyAnswered ways told before after with_cas key replied → left ≡ (if not replied then others else Get (more ∷ keys) with_cas ∷ others)
-    → HasStepped ways told before after (Get (key ∷ more ∷ keys) with_cas ∷ others) left
+    → HasAnsweredNext ways told before after (Get (key ∷ more ∷ keys) with_cas ∷ others) left
 key-steps ways told before after with_cas key more keys others left true first left_is =
     inr (
       Get (more ∷ keys) with_cas,
@@ -78,8 +78,8 @@ key-steps ways told before after with_cas key more keys others left false first 
 -- the call that was due was made, and its text is written
 pub call-steps : {C : Type 0} (ways : Ways C) (told : Option ℕ) (before after : C) (held now : List ℕ) (op : Asked)
     (end : CallEnd) (waiting left : List Request)
-    → IsDue told waiting (due.Call op) → ways.made before op end after → HasSettled end held now waiting left
-    → HasStepped ways told (stand before held) (stand after now) waiting left
+    → IsDue told waiting (due.Call op) → ways.made before op end after → HasSettledDue end held now waiting left
+    → HasAnsweredNext ways told (stand before held) (stand after now) waiting left
 call-steps ways told before after held now op end [] left is made settled = absurd is
 call-steps ways told before after held now op end (Get [] with_cas ∷ others) left is made settled = absurd (cc is)
 call-steps ways told before after held now op end (Get (key ∷ []) with_cas ∷ others) left is made settled =
@@ -119,7 +119,7 @@ call-breaks ways told before after held now op end fault (Refused refusal ∷ ot
 pub order-steps : {C : Type 0} (ways : Ways C) (told : Option ℕ) (before after : C) (held now : List ℕ) (at : ProcessId)
     (keep : ℕ) (end : FailEnd) (waiting left : List Request)
     → IsDue told waiting (due.Fail at keep) → ways.failed before at keep end after
-    → HasTold (fail_text end) held now waiting left → HasStepped ways told (stand before held) (stand after now)
+    → HasTold (fail_text end) held now waiting left → HasAnsweredNext ways told (stand before held) (stand after now)
     waiting left
 order-steps ways told before after held now at keep end [] left is failed settled = absurd is
 order-steps ways told before after held now at keep end (Get [] with_cas ∷ others) left is failed settled = absurd (cc is)
@@ -149,7 +149,7 @@ order-breaks ways told before after held now at keep end fault (Refused refusal 
 
 -- the text of a request that needs no call is written
 pub text-steps : {C : Type 0} (ways : Ways C) (told : Option ℕ) (at : C) (held now : List ℕ) (waiting left : List Request)
-    → IsDue told waiting due.Text → HasTold (own_text waiting) held now waiting left → HasStepped ways told (stand at held) (stand at now) waiting left
+    → IsDue told waiting due.Text → HasTold (own_text waiting) held now waiting left → HasAnsweredNext ways told (stand at held) (stand at now) waiting left
 text-steps ways told at held now [] left is settled = absurd is
 text-steps ways told at held now (Get [] with_cas ∷ others) left is settled =
     inl (record { calls = []; whole = tt; leads = refl; bytes = settled.0 }, settled.1)
@@ -200,11 +200,12 @@ left-as left others next false goes_on is = is
 pub key-settled : (end : CallEnd) (held now : List ℕ) (k n : ℕ) (given waiting : List Request) (request : Request)
     → waiting_behind k (drop n given) ≡ waiting → CallIsDue waiting → request ≡ get_or given n request
     → Appends held now (settled_text end (behind k request)) → is_last end (behind k request) ≡ false
-    → HasSettled end held now waiting (waiting_behind (k + 1) (drop n given))
+    → HasSettledDue end held now waiting (waiting_behind (k + 1) (drop n given))
 key-settled end held now k n given waiting request is due read whole goes_on =
     let fewer : n < length given = fewer-wait k n given waiting is (call-some waiting due) in
     let rest : drop n given ≡ request ∷ drop (n + 1) given = rest_at given n request fewer read in
-    subst (λ (rs : List Request). HasSettled end held now rs (waiting_behind (k + 1) (drop n given))) (sym (first-of k n given waiting request is fewer read)) (
+    subst (λ (rs : List Request). HasSettledDue end held now rs (waiting_behind (k + 1) (drop n given)))
+    (sym (first-of k n given waiting request is fewer read)) (
       whole,
       left-as (waiting_behind (k + 1) (drop n given)) (drop (n + 1) given) (behind 1 (behind k request)) (is_last end (behind k request)) goes_on
           (ap (waiting_behind (k + 1)) rest ∙ ap (λ (r : Request). r ∷ drop (n + 1) given) (behind-behind k request)),

@@ -5,9 +5,9 @@ use Rattle.std.proofs.Math.ListN.{drop_of_length-le}
 use Rattle.std.proofs.lemmas.List.{length-drop}
 use Rattle.memc_proto.specs.declared.request.Request.{Request}
 use Rattle.memc_proto.specs.declared.request.Request.TheVariants.{Get, Change, Version, Quit, Fail, Refused}
-use Rattle.front_end.specs.Answers.{Stand, IsAnswered, IsBroken, AreAnswered, AreBroken}
+use Rattle.front_end.specs.Answers.{Stand, IsRequestAnswered, IsCutByFault, AreAnswered, AreBroken}
 use Rattle.front_end.specs.Calls.{Ways}
-use Rattle.front_end.specs.Progress.{behind, waiting_behind, IsKeyTaken, HasStepped, BreaksAt}
+use Rattle.front_end.specs.Progress.{behind, waiting_behind, IsKeyTaken, HasAnsweredNext, BreaksAt}
 use Rattle.front_end.specs.declared.end.ConnectionFault.{ConnectionFault}
 use Rattle.front_end.proofs.Asking.{answered-more, broken-more}
 use Rattle.front_end.proofs.Handing.{rest_at}
@@ -15,8 +15,8 @@ use Rattle.front_end.proofs.Turning.{answered-none, answered-one, answered-appen
 
 -- what comes of the rest of a request comes of the whole
 pub record AreAsked {C : Type 0} (ways : Ways C) (told : Option ℕ) (before now : Stand C) (whole rest : Request) : Type 0 where
-  pub answered : (after : Stand C) → IsAnswered ways told now after rest → IsAnswered ways told before after whole
-  pub broken : (after : Stand C) (fault : ConnectionFault) → IsBroken ways told now after fault rest → IsBroken ways told before after fault whole
+  pub answered : (after : Stand C) → IsRequestAnswered ways told now after rest → IsRequestAnswered ways told before after whole
+  pub broken : (after : Stand C) (fault : ConnectionFault) → IsCutByFault ways told now after fault rest → IsCutByFault ways told before after fault whole
 
 asked-none : {C : Type 0} (ways : Ways C) (told : Option ℕ) (at : Stand C) (request : Request) → AreAsked ways told at at request request
 asked-none ways told at request = record { answered = λ after answered. answered; broken = λ after fault broken. broken }
@@ -24,12 +24,12 @@ asked-none ways told at request = record { answered = λ after answered. answere
 asked-more : {C : Type 0} (ways : Ways C) (told : Option ℕ) (before now next : Stand C) (whole rest others : Request)
     → AreAsked ways told before now whole rest → IsKeyTaken ways told now next rest others → AreAsked ways told before next whole others
 asked-more ways told before now next whole rest others asked taken = record {
-  answered = λ after answered. asked.answered after (subst (IsAnswered ways told now after) (sym taken.request_is)
+  answered = λ after answered. asked.answered after (subst (IsRequestAnswered ways told now after) (sym taken.request_is)
       (answered-more ways told now next after taken.with_cas taken.key taken.keys taken.answered
-      (subst (IsAnswered ways told next after) taken.next_is answered)));
-  broken = λ after fault broken. asked.broken after fault (subst (IsBroken ways told now after fault) (sym taken.request_is)
+      (subst (IsRequestAnswered ways told next after) taken.next_is answered)));
+  broken = λ after fault broken. asked.broken after fault (subst (IsCutByFault ways told now after fault) (sym taken.request_is)
       (broken-more ways told now next after fault taken.with_cas taken.key taken.keys taken.answered
-      (subst (IsBroken ways told next after fault) taken.next_is broken)));
+      (subst (IsCutByFault ways told next after fault) taken.next_is broken)));
 }
 
 -- of the requests that are left these wait: the first of them is begun
@@ -63,11 +63,11 @@ up_to-none ways told at requests = record {
 }
 
 pub up_to-more : {C : Type 0} (ways : Ways C) (told : Option ℕ) (before now next : Stand C) (requests waiting then : List Request)
-    → AnsweredUpTo ways told before now requests waiting → HasStepped ways told now next waiting then → AnsweredUpTo ways told before next requests then
+    → AnsweredUpTo ways told before now requests waiting → HasAnsweredNext ways told now next waiting then → AnsweredUpTo ways told before next requests then
 up_to-more {C} ways told before now next requests waiting then up_to stepped = by_waiting up_to.left waiting up_to.all up_to.begun stepped
   where
     by_waiting : (left waiting : List Request) → up_to.done ++ left ≡ requests
-        → IsBegun ways told up_to.middle now left waiting → HasStepped ways told now next waiting then
+        → IsBegun ways told up_to.middle now left waiting → HasAnsweredNext ways told now next waiting then
         → AnsweredUpTo ways told before next requests then
     by_waiting left [] all begun stepped = absurd stepped
     by_waiting [] (first ∷ rest) all begun stepped = absurd begun
@@ -174,7 +174,7 @@ steps_of [] = 0
 steps_of (request ∷ others) = keys_of request + 1 + steps_of others
 
 pub fewer_steps : {C : Type 0} (ways : Ways C) (told : Option ℕ) (before after : Stand C) (waiting now : List Request)
-    → HasStepped ways told before after waiting now → steps_of now < steps_of waiting
+    → HasAnsweredNext ways told before after waiting now → steps_of now < steps_of waiting
 fewer_steps ways told before after [] now stepped = absurd stepped
 fewer_steps ways told before after (request ∷ others) now (inl (answered, now_is)) = omega (arith, ap steps_of now_is)
 fewer_steps ways told before after (request ∷ others) now (inr (next, taken, now_is)) =

@@ -2,9 +2,9 @@ use Rattle.std.proofs.Common.{◌≡◌, ℕ, List, [], ◌∷◌, ◌++◌, Opt
 use Rattle.edge_io.proofs.Moving.{Appends-nil, Appends-trans}
 use Rattle.edge_io.specs.Moving.{Appends}
 use Rattle.memc_proto.specs.declared.request.Request.{Request}
-use Rattle.front_end.specs.Answers.{Stand, IsAnswered, AreAnswered}
+use Rattle.front_end.specs.Answers.{Stand, IsRequestAnswered, AreAnswered}
 use Rattle.front_end.specs.Calls.{Call, Ways, Leads}
-use Rattle.front_end.specs.Turns.{Exchange, AreWhole, answer_text, calls_in, text_in, requests_in}
+use Rattle.front_end.specs.Turns.{Exchange, AreWhole, response_text, calls_in, exchanges_text, requests_in}
 
 leads-append : {C : Type 0} (ways : Ways C) (before middle after : C) (calls more : List Call)
     → Leads ways before calls middle → Leads ways middle more after → Leads ways before (calls ++ more) after
@@ -20,12 +20,12 @@ calls_in-append [] more = refl
 calls_in-append (turn ∷ turns) more = ap (λ (calls : List Call). turn.calls ++ calls) (calls_in-append turns more)
     ∙ sym (append_assoc turn.calls (calls_in turns) (calls_in more))
 
-text_in-append : (turns more : List Exchange) → text_in (turns ++ more) ≡ text_in turns ++ text_in more
+text_in-append : (turns more : List Exchange) → exchanges_text (turns ++ more) ≡ exchanges_text turns ++ exchanges_text more
 text_in-append [] more = refl
 text_in-append (turn ∷ turns) more =
-    let text : List ℕ = answer_text turn.request turn.calls in
+    let text : List ℕ = response_text turn.request turn.calls in
     ap (λ (bs : List ℕ). text ++ bs) (text_in-append turns more)
-    ∙ sym (append_assoc text (text_in turns) (text_in more))
+    ∙ sym (append_assoc text (exchanges_text turns) (exchanges_text more))
 
 requests_in-append : (turns more : List Exchange) → requests_in (turns ++ more) ≡ requests_in turns ++ requests_in more
 requests_in-append [] more = refl
@@ -49,19 +49,19 @@ answered-append ways told before middle after requests others more first then = 
       (leads-append ways before.caller middle.caller after.caller (calls_in first.turns) (calls_in then.turns)
       first.leads then.leads);
   bytes = subst (Appends before.held after.held)
-      (ap (λ (bs : List ℕ). bs ++ (text_in then.turns ++ more)) (append-nil (text_in first.turns))
-      ∙ sym (append_assoc (text_in first.turns) (text_in then.turns) more)
+      (ap (λ (bs : List ℕ). bs ++ (exchanges_text then.turns ++ more)) (append-nil (exchanges_text first.turns))
+      ∙ sym (append_assoc (exchanges_text first.turns) (exchanges_text then.turns) more)
       ∙ ap (λ (bs : List ℕ). bs ++ more) (sym (text_in-append first.turns then.turns)))
-      (Appends-trans before.held middle.held after.held (text_in first.turns ++ []) (text_in then.turns ++ more) first.bytes then.bytes);
+      (Appends-trans before.held middle.held after.held (exchanges_text first.turns ++ []) (exchanges_text then.turns ++ more) first.bytes then.bytes);
 }
 
 pub answered-one : {C : Type 0} (ways : Ways C) (told : Option ℕ) (before after : Stand C) (request : Request)
-    → IsAnswered ways told before after request → AreAnswered ways told before after (request ∷ []) []
+    → IsRequestAnswered ways told before after request → AreAnswered ways told before after (request ∷ []) []
 answered-one ways told before after request answered = record {
   turns = record { request = request; calls = answered.calls } ∷ [];
   asked = refl;
   whole = (answered.whole, tt);
   leads = subst (λ (calls : List Call). Leads ways before.caller calls after.caller) (sym (append-nil answered.calls)) answered.leads;
-  bytes = let text : List ℕ = answer_text request answered.calls in
+  bytes = let text : List ℕ = response_text request answered.calls in
       subst (Appends before.held after.held) (sym (append-nil (text ++ []) ∙ append-nil text)) answered.bytes;
 }

@@ -11,27 +11,27 @@ use Rattle.front_end.specs.declared.at_once.OnlyCall.{OnlyCall}
 
 module _ {C : Type 0} (ways : Ways C) (later : C → C → Type 0) where
   -- the caller made a call, and has come here or was led there by it
-  pub record HasMade (before : C) (op : Asked) (end : CallEnd) (now : C) : Type 0 where
+  pub record HasCalledAtOnce (before : C) (op : Asked) (end : CallEnd) (now : C) : Type 0 where
     pub after : C
     pub made : ways.made before op end after
     pub follows : later after now
 
   -- the call was made whose end is kept
-  abbrev pub IsKept : Option Ended → C → Asked → C → Type 0
-  IsKept None before op now = ⊥
-  IsKept (Some kept) before op now = (kept.op ≡ op) × HasMade before op kept.end now
+  abbrev pub IsKeptCall : Option Ended → C → Asked → C → Type 0
+  IsKeptCall None before op now = ⊥
+  IsKeptCall (Some kept) before op now = (kept.op ≡ op) × HasCalledAtOnce before op kept.end now
 
   -- the relations of a gateway that makes each call as it is begun
   abbrev pub at_once : Rules (AtOnce C) OnlyCall
   at_once = record {
     ways = record {
-      made = λ before op end after. HasMade before.caller op end after.caller;
+      made = λ before op end after. HasCalledAtOnce before.caller op end after.caller;
       failed = λ before at keep end after. ways.failed before.caller at keep end after.caller;
       kept = λ before op after. ways.kept before.caller op after.caller;
       unmade = λ before after. ways.unmade before.caller after.caller;
     };
     lent = λ now _. IsSome now.ended;
-    opened = λ now _ op began. IsKept now.ended began.caller op now.caller;
+    opened = λ now _ op began. IsKeptCall now.ended began.caller op now.caller;
     later = λ before after. later before.caller after.caller;
   }
 

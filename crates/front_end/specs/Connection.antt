@@ -14,7 +14,7 @@ use Rattle.front_end.specs.declared.end.End.{End}
 use Rattle.front_end.specs.declared.end.End.TheVariants.{Quit, Ended, Cut, LineTooLong, Worn}
 
 -- the bytes read are these requests and this rest, and nothing in them ends the connection
-pub record IsOpen (read : List ℕ) (requests : List Request) (rest : List ℕ) : Type 0 where
+pub record IsStillOpen (read : List ℕ) (requests : List Request) (rest : List ℕ) : Type 0 where
   pub reads : Reads read requests rest
   pub no_quit : list_any is_quit requests ≡ false
   pub short : ¬ (IsTooLong rest)
@@ -26,7 +26,7 @@ pub record HasCome (input input_now : Input) (first requests : List Request) (re
   pub consumed : Takes input input_now (front ++ piece)
   pub short : length piece ≤ 65536
   pub left_over : List ℕ
-  pub is_open : IsOpen front first left_over
+  pub is_open : IsStillOpen front first left_over
   pub reads : Reads (front ++ piece) requests rest
 
 -- the end of a connection where its input ends with this rest
@@ -47,7 +47,7 @@ module _ {C : Type 0} (ways : Ways C) (told : Option ℕ) where
     pub read : List ℕ
     pub consumed : Takes input input_now read
     pub requests : List Request
-    pub is_open : IsOpen read requests rest
+    pub is_open : IsStillOpen read requests rest
     pub answered : AreAnswered ways told before after requests []
 
   -- the piece that came last was answered as a whole, and behind the answers this was written
@@ -59,7 +59,7 @@ module _ {C : Type 0} (ways : Ways C) (told : Option ℕ) where
     pub answered : AreAnswered ways told before after requests more
 
   -- a write failed while the piece that came last was answered: all requests before it are answered
-  pub record HasHalted (input input_now : Input) (before after : Stand C) : Type 0 where
+  pub record HasFailedWriting (input input_now : Input) (before after : Stand C) : Type 0 where
     pub first : List Request
     pub requests : List Request
     pub rest : List ℕ
@@ -90,5 +90,5 @@ module _ {C : Type 0} (ways : Ways C) (told : Option ℕ) where
       (rest : List ℕ) × (waiting : IsWaiting input input_now before after rest) × (length waiting.read ≡ longest_input)
   HasServed input input_now before after (Err ReadFault) =
       (rest : List ℕ) × IsWaiting input input_now before after rest
-  HasServed input input_now before after (Err WriteFault) = HasHalted input input_now before after
+  HasServed input input_now before after (Err WriteFault) = HasFailedWriting input input_now before after
   HasServed input input_now before after (Err Want) = HasWanted input input_now before after

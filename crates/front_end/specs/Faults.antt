@@ -32,7 +32,7 @@ CutsNext ways told led (Acts asked ∷ _) after = (op : Asked) × (op.act ≡ as
 CutsNext ways told led (Fails _ _ ∷ _) after = ways.unmade led after
 
 -- the caller stands where its calls led, or the next of those that are due found no memory
-abbrev pub StandsAt : {C : Type 0} → Ways C → Option ℕ → C → List Due → C → ConnectionFault → Type 0
-StandsAt ways told led dues after Want = (after ≡ led) ⊎ CutsNext ways told led dues after
-StandsAt ways told led dues after WriteFault = after ≡ led
-StandsAt ways told led dues after ReadFault = after ≡ led
+abbrev pub CallerStandsAt : {C : Type 0} → Ways C → Option ℕ → C → List Due → C → ConnectionFault → Type 0
+CallerStandsAt ways told led dues after Want = (after ≡ led) ⊎ CutsNext ways told led dues after
+CallerStandsAt ways told led dues after WriteFault = after ≡ led
+CallerStandsAt ways told led dues after ReadFault = after ≡ led

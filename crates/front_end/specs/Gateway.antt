@@ -13,21 +13,21 @@ pub record Rules (G K : Type 0) : Type 1 where
   pub later : G → G → Type 0
 
 -- the call is not open
-abbrev pub IsFree : {G K : Type 0} → Rules G K → G → K → Type 0
-IsFree {G} rules now call = (op : Asked) (began : G) → ¬ (rules.opened now call op began)
+abbrev pub IsNotOpen : {G K : Type 0} → Rules G K → G → K → Type 0
+IsNotOpen {G} rules now call = (op : Asked) (began : G) → ¬ (rules.opened now call op began)
 
 -- the calls that are open stay so
 abbrev pub KeepsOpen : {G K : Type 0} → Rules G K → G → G → Type 0
 KeepsOpen {G} {K} rules before after = (call : K) (op : Asked) (began : G) → rules.opened before call op began → rules.opened after call op began
 
 -- those stay so that are others than this one
-abbrev pub KeepsOthers : {G K : Type 0} → Rules G K → K → G → G → Type 0
-KeepsOthers {G} {K} rules one before after =
+abbrev pub KeepsOtherCalls : {G K : Type 0} → Rules G K → K → G → G → Type 0
+KeepsOtherCalls {G} {K} rules one before after =
     (call : K) (op : Asked) (began : G) → call ≢ one → rules.opened before call op began → rules.opened after call op began
 
 -- the end is that of the call
-abbrev pub HasEnded : {G K : Type 0} → Rules G K → G → K → CallEnd → G → Type 0
-HasEnded {G} rules before call end after = (op : Asked) (began : G) → rules.opened before call op began → rules.ways.made began op end after
+abbrev pub IsEndOf : {G K : Type 0} → Rules G K → G → K → CallEnd → G → Type 0
+IsEndOf {G} rules before call end after = (op : Asked) (began : G) → rules.opened before call op began → rules.ways.made began op end after
 
 -- of the calls that have a caller each had one before, or is the one that was begun
 abbrev pub LendsOnly : {G K : Type 0} → Rules G K → Option K → G → G → Type 0

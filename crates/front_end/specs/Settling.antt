@@ -11,7 +11,7 @@ use Rattle.memc_proto.specs.declared.end.CallEnd.{CallEnd}
 use Rattle.memc_proto.specs.declared.request.Request.{Request}
 use Rattle.memc_proto.specs.declared.request.Request.TheVariants.{Get, Change, Version, Quit, Fail, Refused}
 use Rattle.front_end.specs.Progress.{behind}
-use Rattle.front_end.specs.Turns.{IsMoment, answer_text, is_reply, last_text}
+use Rattle.front_end.specs.Turns.{IsMoment, is_reply, last_text, response_text}
 use Rattle.front_end.specs.declared.due.Due.{Due}
 use Rattle.front_end.specs.declared.due.Due.TheVariants as due
 
@@ -74,15 +74,15 @@ first_text end [] = []
 first_text end (request ∷ _) = settled_text end request
 
 -- the call that was due ended so: its text is written, and these wait
-abbrev pub HasSettled : CallEnd → List ℕ → List ℕ → List Request → List Request → Type 0
-HasSettled end before now [] left = ⊥
-HasSettled end before now (request ∷ others) left =
+abbrev pub HasSettledDue : CallEnd → List ℕ → List ℕ → List Request → List Request → Type 0
+HasSettledDue end before now [] left = ⊥
+HasSettledDue end before now (request ∷ others) left =
     Appends before now (settled_text end request) × (left ≡ (if is_last end request then others else behind 1 request ∷ others))
 
 -- the text of the first of the requests that wait, which needs no call
 abbrev pub own_text : List Request → List ℕ
 own_text [] = []
-own_text (request ∷ _) = answer_text request []
+own_text (request ∷ _) = response_text request []
 
 -- the first of the requests that waited is answered by this text
 abbrev pub HasTold : List ℕ → List ℕ → List ℕ → List Request → List Request → Type 0

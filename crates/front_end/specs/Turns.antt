@@ -30,11 +30,11 @@ abbrev pub IsMoment : Option ℕ → ℕ → Type 0
 IsMoment told moment = (moment ≤ 2 ^ 62) × IfSome told (λ t. moment ≡ t)
 
 -- the call is the one that is due, at a moment of the clock
-abbrev pub IsCallOf : Option ℕ → Due → Call → Type 0
-IsCallOf told (Acts asked) (Made op _) = (op.act ≡ asked) × IsMoment told op.moment
-IsCallOf told (Acts _) (Failed _ _ _) = ⊥
-IsCallOf told (Fails _ _) (Made _ _) = ⊥
-IsCallOf told (Fails at keep) (Failed process kept _) = (process ≡ at) × (kept ≡ keep)
+abbrev pub IsDueCall : Option ℕ → Due → Call → Type 0
+IsDueCall told (Acts asked) (Made op _) = (op.act ≡ asked) × IsMoment told op.moment
+IsDueCall told (Acts _) (Failed _ _ _) = ⊥
+IsDueCall told (Fails _ _) (Made _ _) = ⊥
+IsDueCall told (Fails at keep) (Failed process kept _) = (process ≡ at) × (kept ≡ keep)
 
 -- whether a call ended by a reply
 abbrev pub is_reply : CallEnd → Bool
@@ -50,7 +50,7 @@ abbrev pub AreCallsOf : Option ℕ → Bool → List Due → List Call → Type 
 AreCallsOf told all [] [] = ⊤
 AreCallsOf told all [] (_ ∷ _) = ⊥
 AreCallsOf told all (_ ∷ _) [] = all ≡ false
-AreCallsOf told all (due ∷ dues) (call ∷ calls) = IsCallOf told due call × MatchBool (is_replied call) (AreCallsOf told all dues calls) (calls ≡ [])
+AreCallsOf told all (due ∷ dues) (call ∷ calls) = IsDueCall told due call × MatchBool (is_replied call) (AreCallsOf told all dues calls) (calls ≡ [])
 
 -- what is due behind calls that were made: nothing behind one that didn't end by a reply
 abbrev pub dues_behind : List Due → List Call → List Due
@@ -85,13 +85,13 @@ fail_answer (Failed _ _ end ∷ _) = fail_text end
 fail_answer _ = []
 
 -- the text of the answer to a request, as far as its calls were made
-abbrev pub answer_text : Request → List Call → List ℕ
-answer_text (Get keys with_cas) calls = get_text with_cas keys calls
-answer_text (Change asked noreply) calls = change_text asked noreply calls
-answer_text Version _ = version_text
-answer_text Quit _ = []
-answer_text (Fail _ _) calls = fail_answer calls
-answer_text (Refused refusal) _ = refusal_text refusal
+abbrev pub response_text : Request → List Call → List ℕ
+response_text (Get keys with_cas) calls = get_text with_cas keys calls
+response_text (Change asked noreply) calls = change_text asked noreply calls
+response_text Version _ = version_text
+response_text Quit _ = []
+response_text (Fail _ _) calls = fail_answer calls
+response_text (Refused refusal) _ = refusal_text refusal
 
 -- a request that was answered, and the calls made for it
 pub record Exchange : Type 0 where
@@ -109,9 +109,9 @@ calls_in [] = []
 calls_in (turn ∷ turns) = turn.calls ++ calls_in turns
 
 -- the text of turns
-abbrev pub text_in : List Exchange → List ℕ
-text_in [] = []
-text_in (turn ∷ turns) = answer_text turn.request turn.calls ++ text_in turns
+abbrev pub exchanges_text : List Exchange → List ℕ
+exchanges_text [] = []
+exchanges_text (turn ∷ turns) = response_text turn.request turn.calls ++ exchanges_text turns
 
 -- the requests of turns
 abbrev pub requests_in : List Exchange → List Request

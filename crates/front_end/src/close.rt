@@ -5,7 +5,7 @@ ghost use Rattle.memc_proto.specs.Reads.{is_quit};
 ghost use Rattle.memc_proto.specs.declared.request.Request.{Request};
 ghost use Rattle.front_end.specs.Connection.{IsEndAt};
 ghost use Rattle.front_end.specs.Faults.{HasSinkCause};
-ghost use Rattle.front_end.specs.Progress.{IsClosed};
+ghost use Rattle.front_end.specs.Progress.{EndsConnection};
 
 use crate::end::{ConnectionFault, End};
 use crate::text::write_text;
@@ -20,7 +20,7 @@ pub(crate) fn close_at<K: Sink>(
 ) -> Result<Option<End>, ConnectionFault>
     ensures closed { (input : List ℕ) (requests : List Request) → (read : HasRead reader.now input requests)
         → list_any is_quit requests ≡ quits
-        → IsClosed quits read.rest (K.held sink.old) (K.held sink.new) result }
+        → EndsConnection quits read.rest (K.held sink.old) (K.held sink.new) result }
     ensures cause { HasSinkCause (K.faults sink.old) (K.faults sink.new) result }
 {
     if quits {

@@ -5,7 +5,7 @@ ghost use Rattle.memc_proto.specs.Reads.{is_quit};
 ghost use Rattle.memc_proto.specs.declared.request.Request.{Request};
 ghost use Rattle.front_end.specs.Connection.{IsEndAt};
 ghost use Rattle.front_end.specs.Faults.{HasSinkCause};
-ghost use Rattle.front_end.specs.Progress.{IsClosed};
+ghost use Rattle.front_end.specs.Progress.{EndsConnection};
 
 use crate::caller::{Caller, make_call};
 use crate::close::{close_at, end_at, has_quit};
@@ -56,8 +56,8 @@ impl Connection {
     ghost use Rattle.memc_proto.specs.Text.{fail_text};
     ghost use Rattle.front_end.specs.Ahead.{HasNeed, IsDueAhead, NoneIsDueAhead, unneeded_of};
     ghost use Rattle.front_end.specs.Answers.{stand};
-    ghost use Rattle.front_end.specs.Progress.{HasStepped, BreaksAt};
-    ghost use Rattle.front_end.specs.Settling.{CallIsDue, HasSettled, HasTold, IsDue, OrderIsDue, TextIsDue, first_text, own_text};
+    ghost use Rattle.front_end.specs.Progress.{BreaksAt, HasAnsweredNext};
+    ghost use Rattle.front_end.specs.Settling.{CallIsDue, HasSettledDue, HasTold, IsDue, OrderIsDue, TextIsDue, first_text, own_text};
 
     /// A connection of which nothing was read.
     pub fn new(alloc: Global) -> Connection
@@ -118,7 +118,7 @@ impl Connection {
         clock: &T,
     ) -> Result<(), ConnectionFault>
         requires some { self.old.waiting ≢ [] }
-        ensures answer { OnOk result (HasStepped C.ways (T.moment clock.now) (stand caller.old (K.held sink.old))
+        ensures answer { OnOk result (HasAnsweredNext C.ways (T.moment clock.now) (stand caller.old (K.held sink.old))
             (stand caller.new (K.held sink.new)) self.old.waiting self.new.waiting) }
         ensures broken { IfErr result (λ fault. BreaksAt C.ways (T.moment clock.now)
             (stand caller.old (K.held sink.old)) (stand caller.new (K.held sink.new)) fault self.old.waiting) }
@@ -182,7 +182,7 @@ impl Connection {
         sink: &mut K,
     ) -> Result<(), ConnectionFault>
         requires due { CallIsDue self.old.waiting }
-        ensures settled { OnOk result (HasSettled end (K.held sink.old) (K.held sink.new) self.old.waiting self.new.waiting) }
+        ensures settled { OnOk result (HasSettledDue end (K.held sink.old) (K.held sink.new) self.old.waiting self.new.waiting) }
         ensures part { HasWritten (K.held sink.old) (K.held sink.new) (first_text end self.old.waiting) }
         ensures stays { OnErr result (self.new ≡ self.old) }
         ensures kept { self.new.kept ≡ self.old.kept }
@@ -237,7 +237,7 @@ impl Connection {
     pub fn close<K: Sink>(&self, sink: &mut K) -> Result<Option<End>, ConnectionFault>
         ensures closed { (input : List ℕ) (requests : List Request) → (read : HasRead self.now.kept input requests)
             → list_any is_quit requests ≡ self.now.quits
-            → IsClosed self.now.quits read.rest (K.held sink.old) (K.held sink.new) result }
+            → EndsConnection self.now.quits read.rest (K.held sink.old) (K.held sink.new) result }
         ensures cause { HasSinkCause (K.faults sink.old) (K.faults sink.new) result }
     {
         close_at(&self.reader, self.quits, sink)

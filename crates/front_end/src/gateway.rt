@@ -1,5 +1,5 @@
 ghost use Rattle.std.specs.Prelude.{◌≡◌, Ok, None, IfOk, IfSome, IsSome, OnErr};
-ghost use Rattle.front_end.specs.Gateway.{HasEnded, IsFree, KeepsOpen, KeepsOthers, LendsNone, LendsOnly, Rules};
+ghost use Rattle.front_end.specs.Gateway.{IsEndOf, IsNotOpen, KeepsOpen, KeepsOtherCalls, LendsNone, LendsOnly, Rules};
 ghost use Rattle.front_end.specs.Order.{IsOrder};
 
 use group_types::ProcessId;
@@ -27,7 +27,7 @@ pub trait Gateway {
     /// Begins a call. None: no caller is free, and one has to be waited for.
     fn begin(&mut self, op: Op) -> Result<Option<Self::Call>, AllocError>
         ensures begun { IfOk result (λ begun. IfSome begun (λ call. rules.opened self.new call op self.old)) }
-        ensures fresh { IfOk result (λ begun. IfSome begun (λ call. IsFree rules self.old call)) }
+        ensures fresh { IfOk result (λ begun. IfSome begun (λ call. IsNotOpen rules self.old call)) }
         ensures others { KeepsOpen rules self.old self.new }
         ensures lends { IfOk result (λ begun. LendsOnly rules begun self.old self.new) }
         ensures full { result ≡ Ok None → self.new ≡ self.old }
@@ -37,10 +37,10 @@ pub trait Gateway {
 
     /// The end of an open call, if it has come. The call is over then, and its caller free.
     fn take_end(&mut self, call: &Self::Call) -> Option<CallEnd>
-        ensures ended { IfSome result (λ end. HasEnded rules self.old call.now end self.new) }
-        ensures over { IsSome result → IsFree rules self.new call.now }
+        ensures ended { IfSome result (λ end. IsEndOf rules self.old call.now end self.new) }
+        ensures over { IsSome result → IsNotOpen rules self.new call.now }
         ensures free { IsSome result → ¬ (rules.lent self.new call.now) }
-        ensures others { KeepsOthers rules call.now self.old self.new }
+        ensures others { KeepsOtherCalls rules call.now self.old self.new }
         ensures lends { LendsNone rules self.old self.new }
         ensures still { result ≡ None → self.new ≡ self.old }
         ensures later { rules.later self.old self.new };

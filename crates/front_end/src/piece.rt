@@ -5,7 +5,7 @@ ghost use Rattle.memc_proto.specs.Reads.{is_quit};
 ghost use Rattle.memc_proto.specs.declared.request.Request.{Request};
 ghost use Rattle.front_end.specs.Answers.{stand};
 ghost use Rattle.front_end.specs.Faults.{HasSinkCause};
-ghost use Rattle.front_end.specs.Piece.{IsServed};
+ghost use Rattle.front_end.specs.Piece.{IsPieceServed};
 
 use crate::answers::answer_all;
 use crate::caller::Caller;
@@ -27,7 +27,7 @@ pub(crate) fn serve_piece<C: Caller, K: Sink, T: Clock>(
     requires room { connection.old.count + length piece.now ≤ 2 ^ 62 }
     ensures served { (input : List ℕ) (earlier : List Request)
         → HasRead connection.old.kept input earlier → list_any is_quit earlier ≡ false
-        → IsServed C.ways (T.moment clock.now)
+        → IsPieceServed C.ways (T.moment clock.now)
         (stand caller.old (K.held sink.old)) (stand caller.new (K.held sink.new))
         connection.new.kept input earlier piece.now result }
     ensures idle { OnOk result (connection.new.waiting ≡ []) }

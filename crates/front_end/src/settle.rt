@@ -7,7 +7,7 @@ ghost use Rattle.memc_proto.specs.declared.request.Request.TheVariants as reques
 ghost use Rattle.front_end.specs.Faults.{HasSinkCause};
 ghost use Rattle.front_end.specs.Progress.{behind};
 ghost use Rattle.front_end.specs.Settling.{CallIsDue, TextIsDue, is_last, settled_text};
-ghost use Rattle.front_end.specs.Turns.{answer_text};
+ghost use Rattle.front_end.specs.Turns.{response_text};
 
 use crate::end::ConnectionFault;
 use crate::keys::keys_behind;
@@ -104,8 +104,8 @@ pub(crate) fn write_own<K: Sink>(
     answered: usize,
 ) -> Result<(), ConnectionFault>
     requires due { TextIsDue (behind answered request.now ∷ []) }
-    ensures whole { OnOk result (Appends (K.held sink.old) (K.held sink.new) (answer_text (behind answered request.now) [])) }
-    ensures part { HasWritten (K.held sink.old) (K.held sink.new) (answer_text (behind answered request.now) []) }
+    ensures whole { OnOk result (Appends (K.held sink.old) (K.held sink.new) (response_text (behind answered request.now) [])) }
+    ensures part { HasWritten (K.held sink.old) (K.held sink.new) (response_text (behind answered request.now) []) }
     ensures cause { HasSinkCause (K.faults sink.old) (K.faults sink.new) result }
 {
     match request {

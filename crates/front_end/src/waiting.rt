@@ -38,7 +38,7 @@ impl Waiting {
     ghost use Rattle.memc_proto.specs.Text.{fail_text};
     ghost use Rattle.front_end.specs.Ahead.{HasNeed, IsDueAhead, NoneIsDueAhead, unneeded_of};
     ghost use Rattle.front_end.specs.Faults.{HasSinkCause};
-    ghost use Rattle.front_end.specs.Settling.{CallIsDue, HasSettled, HasTold, IsDue, OrderIsDue, TextIsDue, first_text, own_text};
+    ghost use Rattle.front_end.specs.Settling.{CallIsDue, HasSettledDue, HasTold, IsDue, OrderIsDue, TextIsDue, first_text, own_text};
 
     /// None.
     pub(crate) fn none(alloc: Global) -> Waiting
@@ -119,7 +119,7 @@ impl Waiting {
         sink: &mut K,
     ) -> Result<(), ConnectionFault>
         requires due { CallIsDue self.old }
-        ensures settled { OnOk result (HasSettled end.now (K.held sink.old) (K.held sink.new) self.old self.new) }
+        ensures settled { OnOk result (HasSettledDue end.now (K.held sink.old) (K.held sink.new) self.old self.new) }
         ensures part { HasWritten (K.held sink.old) (K.held sink.new) (first_text end.now self.old) }
         ensures stays { OnErr result (self.new ≡ self.old) }
         ensures cause { HasSinkCause (K.faults sink.old) (K.faults sink.new) result }

@@ -29,8 +29,8 @@ abbrev pub name_of : Entry → CallName
 name_of entry = record { caller = entry.caller; call = entry.call }
 
 -- the entry of a call
-abbrev pub entry_of : CallName → Asked → Reply → Entry
-entry_of name op reply = record { caller = name.caller; call = name.call; op = op; reply = reply }
+abbrev pub call_entry : CallName → Asked → Reply → Entry
+call_entry name op reply = record { caller = name.caller; call = name.call; op = op; reply = reply }
 
 -- 1 for an ask of this caller, whatever it is answered
 abbrev pub asks_in : ℕ → Event → ℕ

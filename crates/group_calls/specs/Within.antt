@@ -3,7 +3,7 @@ use Rattle.group_types.specs.Hash.{home_of}
 use Rattle.group_types.specs.declared.process.ProcessId.{ProcessId}
 use Rattle.memc_table.specs.Act.{key_of}
 use Rattle.memc_table.specs.Asked.{Asked}
-use Rattle.group_calls.specs.Turns.{Turn, CallName, log_of, asks_of, name_of, entry_of, accepts}
+use Rattle.group_calls.specs.Turns.{Turn, CallName, log_of, asks_of, name_of, call_entry, accepts}
 use Rattle.group_calls.specs.declared.entry.Entry.{Entry}
 use Rattle.group_calls.specs.declared.event.Answer.{Answer}
 use Rattle.group_calls.specs.declared.event.Answer.TheVariants as answered
@@ -48,7 +48,7 @@ pub record IsLoggedSince (turns : List Turn) (i : ℕ) (name : CallName) (reply 
   pub ask : Turn
   pub asked : IsAsk turns j ask name op
   pub place : ℕ
-  pub entry : slice_get (log_of (take (i + 1) turns)) place ≡ Some (entry_of name op reply)
+  pub entry : slice_get (log_of (take (i + 1) turns)) place ≡ Some (call_entry name op reply)
   pub since : length (log_of (take j turns)) ≤ place
 
 -- answered within its time: each answered call stands in the log once, between its asking and its
@@ -59,7 +59,7 @@ pub record AnswersWithin (k : ℕ) (turns : List Turn) : Type 0 where
   -- each entry has the op of the ask of its name, which is not later than the event that logged it
   pub asked : (i : ℕ) (turn : Turn) (entry : Entry) → slice_get turns i ≡ Some turn → Contains turn.logged entry → (j : ℕ) × (ask : Turn) × (j ≤ i) × IsAsk turns j ask (name_of entry) entry.op
   -- a reply to an ask is the one of its entry, which this event logged
-  pub at_once : (i : ℕ) (turn : Turn) (name : CallName) (op : Asked) (reply : Reply) → IsAsk turns i turn name op → turn.answer ≡ answered.Reply reply → Contains turn.logged (entry_of name op reply)
+  pub at_once : (i : ℕ) (turn : Turn) (name : CallName) (op : Asked) (reply : Reply) → IsAsk turns i turn name op → turn.answer ≡ answered.Reply reply → Contains turn.logged (call_entry name op reply)
   -- a reply to a collect or a trace is the one of its entry
   pub later : (i : ℕ) (turn : Turn) (name : CallName) (reply : Reply) → slice_get turns i ≡ Some turn → Fetches turn.event name → turn.answer ≡ answered.Reply reply → IsLoggedSince turns i name reply
   -- a call that got neither a reply nor a ticket is in no entry

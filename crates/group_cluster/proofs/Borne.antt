@@ -10,13 +10,14 @@ use Rattle.group_types.specs.Names.{index_of, process_at}
 use Rattle.group_types.specs.declared.process.ProcessId.TheVariants.{DataNode}
 use Rattle.group_types.proofs.Lists.{at-put, at-put-other, at-replicate}
 use Rattle.group_types.proofs.Names.{index-process_at}
-use Rattle.membership.specs.Members.{count_dead}
+use Rattle.membership.specs.Members.{count_dead_words}
 use Rattle.group_calls.specs.declared.event.Event.{Event}
 use Rattle.group_calls.specs.declared.event.Event.TheVariants.{Ask, Collect, Deliver, Fail, Flush, Trace}
 use Rattle.group_run.specs.Meaning.{IsDown}
 use Rattle.group_run.specs.Process.{Node}
 use Rattle.group_run.specs.World.{World, dead_nodes, opening, opening_node, step}
-use Rattle.group_layout.specs.Cluster.{Cluster, Groups, IsFailure, MayAllMove, MayHappen, Move, all_moved, failed_after}
+use Rattle.group_run.specs.Causes.{IsFailure}
+use Rattle.group_layout.specs.Cluster.{Cluster, Groups, MayAllMove, MayHappen, Move, all_moved, failed_nodes_after}
 use Rattle.group_layout.specs.Cluster.{failure_of, failures, move_unless, moved, moves_of, node_failure, opening_cluster, other_group, world_in}
 use Rattle.group_layout.specs.Layout.{first_on, node_of, process_on}
 use Rattle.group_layout.specs.declared.event.ClusterEvent.{ClusterEvent}
@@ -27,11 +28,11 @@ use Rattle.group_layout.proofs.Moves.{IsOrNot, is-or-not, other-world, own-world
 use Rattle.group_layout.proofs.Owning.{each-append}
 use Rattle.group_layout.proofs.Places.{one_a_node}
 use Rattle.group_cluster.specs.History.{Happening, HasHistory, MayAll, all_happened, failed_by, first_made, happened, moves_made}
-use Rattle.group_cluster.specs.Promise.{touched}
+use Rattle.group_cluster.specs.Promise.{failing_nodes}
 use Rattle.group_cluster.proofs.Histories.{even-happened, even-has, made-may, nodes-by}
 
 -- words of which each dead node has a true one of its own are no fewer
-one-less : (ts : List Bool) (i : ℕ) → at false ts i ≡ true → count_dead ts ≡ suc (count_dead (put false ts i false))
+one-less : (ts : List Bool) (i : ℕ) → at false ts i ≡ true → count_dead_words ts ≡ suc (count_dead_words (put false ts i false))
 one-less [] i is = absurd (cc is)
 one-less (true ∷ ts) zero is = omega arith
 one-less (false ∷ ts) zero is = absurd (cc is)
@@ -42,20 +43,21 @@ record Apart (d : Node) (xs : List Node) (f : ℕ → ℕ) (ts : List Bool) : Ty
   pub there : (k : ℕ) → (at d xs k).dead ≡ true → at false ts (f k) ≡ true
   pub own : (a b : ℕ) → (at d xs a).dead ≡ true → (at d xs b).dead ≡ true → f a ≡ f b → a ≡ b
 
-few : (d : Node) (xs : List Node) (f : ℕ → ℕ) (ts : List Bool) → Apart d xs f ts → dead_nodes xs ≤ count_dead ts
+few : (d : Node) (xs : List Node) (f : ℕ → ℕ) (ts : List Bool) → Apart d xs f ts → dead_nodes xs ≤ count_dead_words ts
 few d [] f ts apart = omega arith
 few d (x ∷ xs) f ts apart = by x.dead refl (λ us on. few d xs (λ k. f (suc k)) us on) where
   later : (us : List Bool) → ((k : ℕ) → (at d xs k).dead ≡ true → at false us (f (suc k)) ≡ true) → Apart d xs (λ k. f (suc k)) us
   later us there = record { there = there; own = λ a b da db same. (let one = apart.own (suc a) (suc b) da db same in omega (arith, one)) }
 
-  by : (b : Bool) → x.dead ≡ b → ((us : List Bool) → Apart d xs (λ k. f (suc k)) us → dead_nodes xs ≤ count_dead us) → dead_nodes (x ∷ xs) ≤ count_dead ts
+  by : (b : Bool) → x.dead ≡ b → ((us : List Bool) → Apart d xs (λ k. f (suc k)) us → dead_nodes xs ≤ count_dead_words us)
+      → dead_nodes (x ∷ xs) ≤ count_dead_words ts
   by false is on =
       let none : one-if x.dead ≡ 0 = ap one-if is in
       let rest = on ts (later ts (λ k dk. apart.there (suc k) dk)) in
       omega (arith, none, rest)
   by true is on =
       let one : one-if x.dead ≡ 1 = ap one-if is in
-      let less : count_dead ts ≡ suc (count_dead (put false ts (f 0) false)) = one-less ts (f 0) (apart.there 0 is) in
+      let less : count_dead_words ts ≡ suc (count_dead_words (put false ts (f 0) false)) = one-less ts (f 0) (apart.there 0 is) in
       let rest = on (put false ts (f 0) false)
       (later (put false ts (f 0) false)
       (λ k dk. at-put-other false ts (f 0) (f (suc k)) false (λ same. nonzero k (apart.own (suc k) 0 dk is same))
@@ -160,7 +162,7 @@ module _ (s : Dimensions) (n count : ℕ) where
   unless-stands ts j e (Some own) other = tt
 
   event-stands : (ts : List Bool) (c : Cluster) (e : ClusterEvent) → c.groups.shape ≡ s → length c.failed ≡ n
-      → MayHappen c e → Stands (failed_after ts e) (moves_of c e)
+      → MayHappen c e → Stands (failed_nodes_after ts e) (moves_of c e)
   event-stands ts c (InGroup j event) shape long may = unless-stands ts j event (other_group c.groups j event) may.1
   event-stands ts c (FailNode node keep) shape long may = by (at false c.failed node) where
     all : Stands (put false ts node true) (node_failure c node keep)
@@ -190,17 +192,17 @@ module _ (s : Dimensions) (n count : ℕ) where
     by (inl same) = ap (at false (put false ts node true)) same ∙ at-put false false ts node true
     by (inr apart) = at-put-other false ts node x true apart ∙ is
 
-  stand-after : (ts : List Bool) (g : Groups) (e : ClusterEvent) → DeadStand ts g → DeadStand (failed_after ts e) g
+  stand-after : (ts : List Bool) (g : Groups) (e : ClusterEvent) → DeadStand ts g → DeadStand (failed_nodes_after ts e) g
   stand-after ts g (InGroup j event) old = old
   stand-after ts g (FailNode node keep) old = λ j k dead. (let was = old j k dead in (was.0, still-true ts node (node_of n j k) was.1))
 
   stand-history : (ts : List Bool) (c : Cluster) (hs : List Happening) → Even s count c.groups → length c.failed ≡ n → MayAll c hs → DeadStand ts c.groups
-      → DeadStand (touched ts hs) (all_happened c hs).groups
+      → DeadStand (failing_nodes ts hs) (all_happened c hs).groups
   stand-history ts c [] even long may old = old
   stand-history ts c (h ∷ hs) even long may old =
-      stand-history (failed_after ts h.event) (happened c h) hs (even-happened s count c h even may.0) (nodes-by h.made c h.event may.0 ∙ long) may.1
-      (stand-all (failed_after ts h.event) c.groups (moves_made c h) even (made-may s count c h even may.0)
-      (first-stand (failed_after ts h.event) (moves_of c h.event) h.made
+      stand-history (failed_nodes_after ts h.event) (happened c h) hs (even-happened s count c h even may.0) (nodes-by h.made c h.event may.0 ∙ long) may.1
+      (stand-all (failed_nodes_after ts h.event) c.groups (moves_made c h) even (made-may s count c h even may.0)
+      (first-stand (failed_nodes_after ts h.event) (moves_of c h.event) h.made
       (event-stands ts c h.event even.shape long may.0)) (stand-after ts c.groups h.event old))
 
   at-start : (ts : List Bool) → DeadStand ts (opening_cluster s n count).groups
@@ -217,18 +219,18 @@ long : (n : ℕ) → length (replicate n false) ≡ n
 long zero = refl
 long (suc n) = ap suc (long n)
 
-pub borne : (c : Cluster) (led : HasHistory c) → count_dead (touched (replicate led.n false) led.history) ≤ led.s.m
+pub borne : (c : Cluster) (led : HasHistory c) → count_dead_words (failing_nodes (replicate led.n false) led.history) ≤ led.s.m
     → (j : ℕ) → j < led.count → ¬ (IsDown (world_in c.groups j))
 borne c led few-touched j low down =
     let s : Dimensions = led.s in
-    let ts : List Bool = touched (replicate led.n false) led.history in
+    let ts : List Bool = failing_nodes (replicate led.n false) led.history in
     let start : Cluster = opening_cluster s led.n led.count in
     let stand : DeadStand s led.n led.count ts (all_happened start led.history).groups
     = stand-history s led.n led.count (replicate led.n false) start led.history (even-start s led.count) (long led.n)
     led.may (at-start s led.n led.count (replicate led.n false)) in
     let here : DeadStand s led.n led.count ts c.groups = subst (λ (x : Cluster). DeadStand s led.n led.count ts x.groups) (sym led.is) stand in
     let wide = led.layout.wide in
-    let most : dead_nodes (world_in c.groups j).nodes ≤ count_dead ts
+    let most : dead_nodes (world_in c.groups j).nodes ≤ count_dead_words ts
     = few (opening_node s (DataNode 0)) (world_in c.groups j).nodes (node_of led.n j) ts
     (record {
       there = λ k dead. (here j k dead).1;
@@ -240,10 +242,10 @@ borne c led few-touched j low down =
 
 -- where no event was cut short the nodes touched are those that failed
 pub all-failed : (ts : List Bool) (c : Cluster) (hs : List Happening) → c.failed ≡ ts → Each (λ h. h.made ≡ None) hs
-    → (all_happened c hs).failed ≡ touched ts hs
+    → (all_happened c hs).failed ≡ failing_nodes ts hs
 all-failed ts c [] same whole = same
-all-failed ts c (h ∷ hs) same whole = all-failed (failed_after ts h.event) (happened c h) hs
-    (by h.made whole.0 ∙ ap (λ (fs : List Bool). failed_after fs h.event) same) whole.1 where
-      by : (made : Option ℕ) → made ≡ None → failed_by made c.failed h.event ≡ failed_after c.failed h.event
+all-failed ts c (h ∷ hs) same whole = all-failed (failed_nodes_after ts h.event) (happened c h) hs
+    (by h.made whole.0 ∙ ap (λ (fs : List Bool). failed_nodes_after fs h.event) same) whole.1 where
+      by : (made : Option ℕ) → made ≡ None → failed_by made c.failed h.event ≡ failed_nodes_after c.failed h.event
       by None is = refl
       by (Some x) is = absurd (cc is)

@@ -11,7 +11,7 @@ use Rattle.group_types.specs.declared.process.ProcessId.{ProcessId}
 use Rattle.group_calls.specs.declared.entry.Entry.{Entry}
 use Rattle.group_calls.specs.declared.event.Event.TheVariants.{Fail}
 use Rattle.group_run.specs.Applying.{Settlement}
-use Rattle.group_run.specs.World.{Ledger, Ticket, World, all_change, ledger_after, ledger_with, node_of, opening, step, tickets_after}
+use Rattle.group_run.specs.World.{Ledger, Ticket, World, all_change, ledger_after, ledger_with, opening, process_node, step, tickets_after}
 use Rattle.group_layout.specs.Cluster.{ClusterEntry, Groups, MayAllMove, Move, all_moved, failure_of, failures}
 use Rattle.group_layout.specs.Cluster.{logged_in, moved, tagged, turn_of, turns_made, world_in}
 use Rattle.group_layout.specs.Layout.{process_on}
@@ -25,7 +25,7 @@ nothing-new tickets [] ledger none = none
 nothing-new tickets (d ∷ ds) ledger none = nothing-new tickets ds (ledger_with tickets d [] ledger) none
 
 pub fails-silently : (w : World) (p : ProcessId) (keep : ℕ) → (step w (Fail p keep)).turn.logged ≡ []
-fails-silently w p keep = by (node_of w p).dead where
+fails-silently w p keep = by (process_node w p).dead where
   settles : Bool → List Settlement
   settles dead = (all_change dead w.shape w.nodes p keep).settled
 

@@ -6,7 +6,7 @@ use Rattle.group_types.proofs.Lists.{length-put}
 use Rattle.group_calls.specs.declared.event.Event.{Event}
 use Rattle.group_run.specs.World.{opening}
 use Rattle.group_layout.specs.Cluster.{Cluster, GroupTurn, Groups, IsLayout, MayAllMove, MayHappen, Move}
-use Rattle.group_layout.specs.Cluster.{all_moved, failed_after, move_unless, moved, moves_of, opening_cluster, other_group, turns_made}
+use Rattle.group_layout.specs.Cluster.{all_moved, failed_nodes_after, move_unless, moved, moves_of, opening_cluster, other_group, turns_made}
 use Rattle.group_layout.specs.declared.event.ClusterEvent.{ClusterEvent}
 use Rattle.group_layout.specs.declared.event.ClusterEvent.TheVariants.{FailNode, InGroup}
 use Rattle.group_layout.proofs.Happening.{Even, even-after, even-start, may-append, moved-append, moves-may, turns-append}
@@ -39,7 +39,7 @@ even-has c led =
     (even-all led.s led.count (opening_cluster led.s led.n led.count) led.history (even-start led.s led.count) led.may)
 
 -- nodes stay as many
-nodes-after : (c : Cluster) (e : ClusterEvent) → MayHappen c e → length (failed_after c.failed e) ≡ length c.failed
+nodes-after : (c : Cluster) (e : ClusterEvent) → MayHappen c e → length (failed_nodes_after c.failed e) ≡ length c.failed
 nodes-after c (InGroup j event) may = refl
 nodes-after c (FailNode node keep) may = length-put false c.failed node true may
 

@@ -15,7 +15,7 @@ use Rattle.group_run.specs.World.{World, opening, step}
 use Rattle.law_moves.proofs.Reading.{grown-is}
 use Rattle.group_layout.specs.Cluster.{ClusterEntry, moved, tagged}
 use Rattle.group_layout.proofs.Moves.{IsOrNot, is-or-not}
-use Rattle.group_cluster.specs.Parts.{AreWithin, IsWithin, groups_of, log_in, noted, part_in}
+use Rattle.group_cluster.specs.Parts.{AreWithinLogs, IsWithinLog, groups_of, log_in, noted, part_in}
 use Rattle.group_cluster.specs.declared.groups.Part.{Part}
 
 -- the log of a group grows by what an event logs
@@ -48,7 +48,7 @@ module _ (s : Dimensions) (ws : List World) (j : ℕ) (w : World) (more : List E
       ap (λ (x : ℕ). (at (opening s) after x).log) is ∙ ap (λ (v : World). v.log) here ∙ grows
       ∙ ap (λ (x : ℕ). (at (opening s) ws x).log ++ more) (sym is)
 
-  part-keeps : (p : Part) → IsWithin s ws p → part_in s after p ≡ part_in s ws p
+  part-keeps : (p : Part) → IsWithinLog s ws p → part_in s after p ≡ part_in s ws p
   part-keeps p within = by (is-or-not p.group j) where
     by : IsOrNot p.group j → part_in s after p ≡ part_in s ws p
     by (inl (word, is)) =
@@ -56,12 +56,12 @@ module _ (s : Dimensions) (ws : List World) (j : ℕ) (w : World) (more : List E
         ∙ ap (tagged p.group) (part-of-more p.from p.many (at (opening s) ws p.group).log more within.reached)
     by (inr (word, other)) = ap (λ (v : World). tagged p.group (take p.many (drop p.from v.log))) (at-put-other (opening s) ws j p.group w other)
 
-  within-keeps : (p : Part) → IsWithin s ws p → IsWithin s after p
+  within-keeps : (p : Part) → IsWithinLog s ws p → IsWithinLog s after p
   within-keeps p within = by (is-or-not p.group j) where
     long : length after ≡ length ws
     long = length-put (opening s) ws j w low
 
-    by : IsOrNot p.group j → IsWithin s after p
+    by : IsOrNot p.group j → IsWithinLog s after p
     by (inl (word, is)) =
         let grown : length (at (opening s) after p.group).log ≡ length (at (opening s) ws p.group).log + length more
         = ap length (log-at 0 p is) ∙ length-append (at (opening s) ws p.group).log more in
@@ -71,10 +71,10 @@ module _ (s : Dimensions) (ws : List World) (j : ℕ) (w : World) (more : List E
         ap (λ (v : World). length v.log) (at-put-other (opening s) ws j p.group w other) in
         record { group = (let g = within.group in omega (arith, g, long)); reached = (let r = within.reached in omega (arith, r, same)) }
 
-  pub all-keep : (ps : List Part) → AreWithin s ws ps → AreWithin s after ps
+  pub all-keep : (ps : List Part) → AreWithinLogs s ws ps → AreWithinLogs s after ps
   all-keep ps all = λ i d below. within-keeps _ (all i d below)
 
-  pub log-keeps : (ps : List Part) → AreWithin s ws ps → log_in s after ps ≡ log_in s ws ps
+  pub log-keeps : (ps : List Part) → AreWithinLogs s ws ps → log_in s after ps ≡ log_in s ws ps
   log-keeps [] all = refl
   log-keeps (p ∷ ps) all =
       ap (λ (l : List ClusterEntry). l ++ log_in s after ps) (part-keeps p (all 0 p (omega arith)))
@@ -96,12 +96,12 @@ module _ (s : Dimensions) (ws : List World) (j : ℕ) (w : World) (more : List E
         ∙ ap (λ (x : ℕ). tagged j (take p.many (drop x ((at (opening s) ws j).log ++ more)))) from
         ∙ ap (tagged j) (new-part (at (opening s) ws j).log more p.many many)
 
-    pub log-pushed : (ps : List Part) → AreWithin s ws ps → log_in s after (ps ++ p ∷ []) ≡ log_in s ws ps ++ tagged j more
+    pub log-pushed : (ps : List Part) → AreWithinLogs s ws ps → log_in s after (ps ++ p ∷ []) ≡ log_in s ws ps ++ tagged j more
     log-pushed ps all =
         log-behind ps p ∙ ap (λ (l : List ClusterEntry). l ++ part_in s after p) (log-keeps ps all)
         ∙ ap (λ (l : List ClusterEntry). log_in s ws ps ++ l) is-new
 
-    is-within : IsWithin s after p
+    is-within : IsWithinLog s after p
     is-within =
         let long : length after ≡ length ws = length-put (opening s) ws j w low in
         let grown : length (at (opening s) after p.group).log ≡ length (at (opening s) ws j).log + length more
@@ -109,14 +109,14 @@ module _ (s : Dimensions) (ws : List World) (j : ℕ) (w : World) (more : List E
         ∙ ap length grows ∙ length-append (at (opening s) ws j).log more in
         record { group = omega (arith, low, long, own); reached = omega (arith, grown, from, many) }
 
-    pub all-pushed : (ps : List Part) → AreWithin s ws ps → AreWithin s after (ps ++ p ∷ [])
-    all-pushed ps all = All-push (IsWithin s after) ps p (all-keep ps all) is-within
+    pub all-pushed : (ps : List Part) → AreWithinLogs s ws ps → AreWithinLogs s after (ps ++ p ∷ [])
+    all-pushed ps all = All-push (IsWithinLog s after) ps p (all-keep ps all) is-within
 
 none-of : {X : Type 0} (xs : List X) → length xs ≡ 0 → xs ≡ []
 none-of [] none = refl
 none-of (x ∷ xs) none = absurd (omega (arith, none))
 
-module _ (s : Dimensions) (ws : List World) (ps : List Part) (j : ℕ) (e : Event) (w : World) (p : Part) (low : j < length ws) (all : AreWithin s ws ps)
+module _ (s : Dimensions) (ws : List World) (ps : List Part) (j : ℕ) (e : Event) (w : World) (p : Part) (low : j < length ws) (all : AreWithinLogs s ws ps)
     (made : w ≡ (step (at (opening s) ws j) e).world) (own : p.group ≡ j) (from : p.from ≡ length (at (opening s) ws j).log)
     (many : p.many ≡ length (step (at (opening s) ws j) e).turn.logged) where
   abbrev logs : List Entry
@@ -133,14 +133,14 @@ module _ (s : Dimensions) (ws : List World) (ps : List Part) (j : ℕ) (e : Even
         log-keeps s ws j w logs low grows ps all ∙ sym (append-nil (log_in s ws ps)) ∙ ap (λ (es : List Entry). log_in s ws ps ++ tagged j es) (sym none)
     by false word = log-pushed s ws j w logs low grows p own from many ps all
 
-  all-noted : AreWithin s (put (opening s) ws j w) (noted ps p)
+  all-noted : AreWithinLogs s (put (opening s) ws j w) (noted ps p)
   all-noted = by (p.many == 0) where
-    by : (b : Bool) → AreWithin s (put (opening s) ws j w) (if b then ps else (ps ++ p ∷ []))
+    by : (b : Bool) → AreWithinLogs s (put (opening s) ws j w) (if b then ps else (ps ++ p ∷ []))
     by true = all-keep s ws j w logs low grows ps all
     by false = all-pushed s ws j w logs low grows p own from many ps all
 
-  pub stepped-within : AreWithin s (set ws j w) (noted ps p)
-  stepped-within = subst (λ (vs : List World). AreWithin s vs (noted ps p)) (sym (set_put (opening s) ws j w low)) all-noted
+  pub stepped-within : AreWithinLogs s (set ws j w) (noted ps p)
+  stepped-within = subst (λ (vs : List World). AreWithinLogs s vs (noted ps p)) (sym (set_put (opening s) ws j w low)) all-noted
 
   pub stepped : groups_of s (set ws j w) (noted ps p) ≡ moved (groups_of s ws ps) (record { group = j; event = e })
   stepped = both (set ws j w) (set_put (opening s) ws j w low) where

@@ -6,7 +6,7 @@ use Rattle.group_types.specs.Lists.{at}
 use Rattle.group_calls.specs.declared.entry.Entry.{Entry}
 use Rattle.group_run.specs.World.{World, opening}
 use Rattle.group_layout.specs.Cluster.{ClusterEntry, tagged}
-use Rattle.group_cluster.specs.Parts.{AreWithin, IsWithin, log_in, part_in}
+use Rattle.group_cluster.specs.Parts.{AreWithinLogs, IsWithinLog, log_in, part_in}
 use Rattle.group_cluster.specs.declared.groups.Part.{Part}
 use Rattle.group_cluster.proofs.Parted.{read-at}
 
@@ -44,7 +44,7 @@ next-drop (x ∷ ps) zero d low = refl
 next-drop (x ∷ ps) (suc i) d low =
     next-drop ps i d (omega (arith, low)) ∙ (let same : suc (i + 1) ≡ suc i + 1 = omega arith in ap (λ (y : ℕ). slice_index_or ps i d ∷ drop y (x ∷ ps)) same)
 
-module _ (s : Dimensions) (ws : List World) (ps : List Part) (all : AreWithin s ws ps) (place i left : ℕ) (d : Part) (low : i < length ps)
+module _ (s : Dimensions) (ws : List World) (ps : List Part) (all : AreWithinLogs s ws ps) (place i left : ℕ) (d : Part) (low : i < length ps)
     (was : slice_get (log_in s ws ps) place ≡ slice_get (log_in s ws (drop i ps)) left) where
   abbrev p : Part
   p = slice_index_or ps i d
@@ -55,18 +55,18 @@ module _ (s : Dimensions) (ws : List World) (ps : List Part) (all : AreWithin s 
   -- the part's group, as it is read
   pub reached : (w : World) → w ≡ slice_index_or ws p.group w → p.from + p.many ≤ length w.log
   reached w read =
-      let within : IsWithin s ws p = all i d low in
+      let within : IsWithinLog s ws p = all i d low in
       subst (λ (v : World). p.from + p.many ≤ length v.log) (sym (read-at s ws p.group w within.group read)) within.reached
 
   pub found : (w : World) (e : Entry) → w ≡ slice_index_or ws p.group w → e ≡ slice_index_or w.log (p.from + left) e
       → left < p.many → slice_get (log_in s ws ps) place ≡ Some (p.group, e)
   found w e read here few =
-      let within : IsWithin s ws p = all i d low in
+      let within : IsWithinLog s ws p = all i d low in
       was ∙ parts ∙ in-tagged p.group p.from p.many left (at (opening s) ws p.group).log (log_in s ws (drop (i + 1) ps)) e few within.reached
       ∙ ap (λ (v : World). Some (p.group, slice_index_or v.log (p.from + left) e)) (sym (read-at s ws p.group w within.group read))
       ∙ ap (λ (x : Entry). Some (p.group, x)) (sym here)
 
   pub left-behind : p.many ≤ left → slice_get (log_in s ws ps) place ≡ slice_get (log_in s ws (drop (i + 1) ps)) (left - p.many)
   left-behind le =
-      let within : IsWithin s ws p = all i d low in
+      let within : IsWithinLog s ws p = all i d low in
       was ∙ parts ∙ behind-tagged p.group p.from p.many left (at (opening s) ws p.group).log (log_in s ws (drop (i + 1) ps)) le within.reached

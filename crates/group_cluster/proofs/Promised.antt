@@ -19,7 +19,7 @@ use Rattle.group_layout.proofs.Owning.{AreOwn, AsksOwn, TurnsOwn, each-append, m
 use Rattle.group_layout.proofs.Runs.{makes-a-run, moves_are_runs}
 use Rattle.group_layout.proofs.Tables.{each-of}
 use Rattle.group_cluster.specs.History.{Happening, HasHistory, MayAll, all_turns, first_made, happened, moves_made}
-use Rattle.group_cluster.specs.Promise.{HasPromise, nodes_touched, turns_to}
+use Rattle.group_cluster.specs.Promise.{HasClusterPromise, nodes_touched, turns_to}
 use Rattle.group_cluster.proofs.Borne.{all-failed, borne}
 use Rattle.group_cluster.proofs.Histories.{all_made, all-may-made, even-happened, groups-made, turns-of-made}
 
@@ -90,5 +90,5 @@ module _ (c : Cluster) (led : HasHistory c) where
   failed : Each (λ h. h.made ≡ None) led.history → c.failed ≡ nodes_touched c led
   failed whole = ap (λ (x : Cluster). x.failed) led.is ∙ all-failed (replicate led.n false) start led.history refl whole
 
-  pub promised : HasPromise c
+  pub promised : HasClusterPromise c
   promised = record { led = led; runs = runs; legal = legal; own = own; within = within; borne = borne c led; failed = failed }

@@ -3,7 +3,7 @@ use Rattle.std.specs.Prelude.{ℕ, ◌≡◌, ◌<◌, ◌^◌, Bool, List, [], 
 use Rattle.group_types.specs.Dimensions.{Dimensions}
 use Rattle.group_types.specs.Shape.{IsShape}
 use Rattle.group_calls.specs.declared.event.Event.{Event}
-use Rattle.group_layout.specs.Cluster.{Cluster, ClusterStep, GroupTurn, Groups, IsLayout, MayHappen, Move, all_moved, failed_after, logged_in, moves_of, opening_cluster, turns_made, world_in}
+use Rattle.group_layout.specs.Cluster.{Cluster, ClusterStep, GroupTurn, Groups, IsLayout, MayHappen, Move, all_moved, failed_nodes_after, logged_in, moves_of, opening_cluster, turns_made, world_in}
 use Rattle.group_layout.specs.declared.event.ClusterEvent.{ClusterEvent}
 use Rattle.group_layout.specs.declared.event.ClusterEvent.TheVariants.{FailNode, InGroup}
 
@@ -40,7 +40,7 @@ moves_made c h = first_made h.made (moves_of c h.event)
 
 -- a node counts as failed only where its failure happened
 abbrev pub failed_by : Option ℕ → List Bool → ClusterEvent → List Bool
-failed_by None failed e = failed_after failed e
+failed_by None failed e = failed_nodes_after failed e
 failed_by (Some made) failed e = failed
 
 abbrev pub happened : Cluster → Happening → Cluster

@@ -24,9 +24,9 @@ abbrev pub groups_of : Dimensions → List World → List Part → Groups
 groups_of s worlds parts = record { shape = s; worlds = worlds; log = log_in s worlds parts }
 
 -- the log of the part's group reaches over it
-pub record IsWithin (s : Dimensions) (worlds : List World) (p : Part) : Type 0 where
+pub record IsWithinLog (s : Dimensions) (worlds : List World) (p : Part) : Type 0 where
   pub group : p.group < length worlds
   pub reached : p.from + p.many ≤ length (at (opening s) worlds p.group).log
 
-abbrev pub AreWithin : Dimensions → List World → List Part → Type 0
-AreWithin s worlds parts = All (IsWithin s worlds) parts
+abbrev pub AreWithinLogs : Dimensions → List World → List Part → Type 0
+AreWithinLogs s worlds parts = All (IsWithinLog s worlds) parts

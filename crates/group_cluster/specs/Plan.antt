@@ -16,8 +16,8 @@ pub record Plan : Type 0 where
 abbrev pub most_bytes : ℕ
 most_bytes = 2147483648
 
-abbrev pub bytes_of : Plan → ℕ
-bytes_of p = p.groups * (p.shape.k + p.shape.m) * space_of p.shape
+abbrev pub cluster_bytes : Plan → ℕ
+cluster_bytes p = p.groups * (p.shape.k + p.shape.m) * space_of p.shape
 
 abbrev pub AreGroups : Plan → Type 0
 AreGroups p = (1 ≤ p.groups) × (p.groups ≤ 16)
@@ -30,10 +30,10 @@ pub record IsPlan (p : Plan) : Type 0 where
   pub groups : AreGroups p
   pub nodes : AreNodes p
   pub shape : IsShape p.shape
-  pub bytes : bytes_of p ≤ most_bytes
+  pub bytes : cluster_bytes p ≤ most_bytes
 
 -- the field is the first out of range; the bound on all bytes, as one on the number of blocks, is judged last
 abbrev pub IsFirstBad : Plan → LayoutField → Type 0
 IsFirstBad p field.Groups = ¬ (AreGroups p)
 IsFirstBad p field.Nodes = AreGroups p × (¬ (AreNodes p))
-IsFirstBad p (field.Shape f) = AreGroups p × AreNodes p × (IsFirstOutOfRange p.shape f ⊎ ((f ≡ Blocks) × IsShape p.shape × (most_bytes < bytes_of p)))
+IsFirstBad p (field.Shape f) = AreGroups p × AreNodes p × (IsFirstOutOfRange p.shape f ⊎ ((f ≡ Blocks) × IsShape p.shape × (most_bytes < cluster_bytes p)))

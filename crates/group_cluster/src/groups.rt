@@ -31,13 +31,13 @@ pub struct ClusterEntries {
 
 impl Model for ClusterEntries {
     ghost use Rattle.group_layout.specs.Cluster.{Groups};
-    ghost use Rattle.group_cluster.specs.Parts.{AreWithin, groups_of};
+    ghost use Rattle.group_cluster.specs.Parts.{AreWithinLogs, groups_of};
 
     ghost Value = { Groups };
 
     ghost view = { λ g. groups_of g.shape g.worlds.items g.parts.items };
 
-    ghost invariant = { λ g. AreWithin g.shape g.worlds.items g.parts.items };
+    ghost invariant = { λ g. AreWithinLogs g.shape g.worlds.items g.parts.items };
 }
 
 impl ClusterEntries {

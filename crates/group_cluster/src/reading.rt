@@ -1,10 +1,11 @@
 ghost use Rattle.std.specs.Prelude.{◌≡◌, ◌<◌, ◌↔◌, IsTrue, false, length, slice_get, Some, None, MatchOption};
 ghost use Rattle.group_types.specs.Lists.{at};
-ghost use Rattle.group_layout.specs.Cluster.{IsFailure, MayHappen, world_in};
+ghost use Rattle.group_run.specs.Causes.{IsFailure};
+ghost use Rattle.group_layout.specs.Cluster.{MayHappen, world_in};
 ghost use Rattle.group_run.specs.Headline.{MayCome};
 ghost use Rattle.group_cluster.specs.History.{AllHaveFew, HasFewEvents, HaveFewEvents};
-ghost use Rattle.group_cluster.specs.Parts.{AreWithin, log_in};
-ghost use Rattle.group_cluster.specs.Promise.{HasPromise};
+ghost use Rattle.group_cluster.specs.Parts.{AreWithinLogs, log_in};
+ghost use Rattle.group_cluster.specs.Promise.{HasClusterPromise};
 
 use crate::cluster::Cluster;
 use crate::groups::{ClusterEntries, Part};
@@ -16,7 +17,7 @@ use group_types::Shape;
 impl Cluster {
     /// Events led to the cluster, some of them cut short, and all holds of it that is promised of them.
     pub fn run(&self)
-        ensures { HasPromise self.now }
+        ensures { HasClusterPromise self.now }
     {
         let _failed = &self.failed;
     }
@@ -24,7 +25,7 @@ impl Cluster {
     /// The groups, and their log.
     pub fn log(&self) -> &ClusterEntries
         ensures log { result.now ≡ self.now.groups }
-        ensures promise { HasPromise self.now }
+        ensures promise { HasClusterPromise self.now }
     {
         &self.groups
     }
@@ -149,7 +150,7 @@ fn entry_at<'a>(
     parts: &[Part],
     place: usize,
 ) -> Option<(u32, &'a Entry)>
-    requires { AreWithin shape worlds.now parts.now }
+    requires { AreWithinLogs shape worlds.now parts.now }
     ensures { MatchOption result (slice_get (log_in shape worlds.now parts.now) place ≡ None)
         (λ e. slice_get (log_in shape worlds.now parts.now) place ≡ Some (e.0, e.1.now)) }
 {

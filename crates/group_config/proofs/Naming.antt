@@ -7,7 +7,7 @@ use Rattle.toml.specs.Data.{Data, Items, item}
 use Rattle.toml.specs.View.{items_view, view}
 use Rattle.toml.specs.declared.value.Value.{Value}
 use Rattle.group_config.proofs.Answering.{answered, fails}
-use Rattle.group_config.specs.MemberReading.{Answers}
+use Rattle.group_config.specs.MemberReading.{IsMemberOutcome}
 use Rattle.group_config.specs.MemberTable.{entries_of, entry_of, index_of}
 use Rattle.group_config.specs.Reading.{follow}
 use Rattle.group_config.specs.declared.member_entry.MemberEntry.{MemberEntry}
@@ -45,7 +45,7 @@ joined before e (Ok es) = ap (λ (l : List MemberEntry). Ok l) (sym (append_asso
 joined before e (Err key) = refl
 
 -- one more
-pub behind-next : (before : List MemberEntry) (d : Data) (ds : Items) (e : MemberEntry) → Answers (entry_of d) (Ok e)
+pub behind-next : (before : List MemberEntry) (d : Data) (ds : Items) (e : MemberEntry) → IsMemberOutcome (entry_of d) (Ok e)
     → behind before (entries_of (item d ds)) ≡ behind (before ++ e ∷ []) (entries_of ds)
 behind-next before d ds e answers =
     ap (λ (wanted : Result MemberEntry MemberKey).
@@ -54,7 +54,7 @@ behind-next before d ds e answers =
 
 -- one that isn't given
 pub behind-fails : (before : List MemberEntry) (d : Data) (ds : Items) (fault : MemberFault)
-    → Answers (entry_of d) (Err fault) → Answers (behind before (entries_of (item d ds))) (Err fault)
+    → IsMemberOutcome (entry_of d) (Err fault) → IsMemberOutcome (behind before (entries_of (item d ds))) (Err fault)
 behind-fails before d ds fault answers = fails (follow (entry_of d) (λ e. follow (entries_of ds) (λ es. Ok (e ∷ es))))
     (λ es. Ok (before ++ es)) fault (fails (entry_of d) (λ e. follow (entries_of ds) (λ es. Ok (e ∷ es))) fault answers)
 
@@ -62,15 +62,15 @@ behind-fails before d ds fault answers = fails (follow (entry_of d) (λ e. follo
 pub left-next : (before : List MemberEntry) (left rest : List Value) (first : Value)
     (all : Result (List MemberEntry) MemberKey) (e : MemberEntry) → left ≡ first ∷ rest
     → behind before (entries_of (items_view left)) ≡ all
-    → Answers (entry_of (view first)) (Ok e) → behind (before ++ e ∷ []) (entries_of (items_view rest)) ≡ all
+    → IsMemberOutcome (entry_of (view first)) (Ok e) → behind (before ++ e ∷ []) (entries_of (items_view rest)) ≡ all
 left-next before left rest first all e is kept answers =
     sym (behind-next before (view first) (items_view rest) e answers) ∙ sym (ap (λ (vs : List Value). behind before (entries_of (items_view vs))) is) ∙ kept
 
 pub left-fails : (before : List MemberEntry) (left rest : List Value) (first : Value)
     (all : Result (List MemberEntry) MemberKey) (fault : MemberFault) → left ≡ first ∷ rest
     → behind before (entries_of (items_view left)) ≡ all
-    → Answers (entry_of (view first)) (Err fault) → Answers all (Err fault)
+    → IsMemberOutcome (entry_of (view first)) (Err fault) → IsMemberOutcome all (Err fault)
 left-fails before left rest first all fault is kept answers =
-    subst (λ (wanted : Result (List MemberEntry) MemberKey). Answers wanted (Err fault))
+    subst (λ (wanted : Result (List MemberEntry) MemberKey). IsMemberOutcome wanted (Err fault))
     (sym (ap (λ (vs : List Value). behind before (entries_of (items_view vs))) is) ∙ kept)
     (behind-fails before (view first) (items_view rest) fault answers)

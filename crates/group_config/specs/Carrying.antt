@@ -27,9 +27,9 @@ abbrev pub group_in : ℕ → Option Data → Result (List MemberEntry) MemberKe
 group_in k found = check key.Members (option_and_then as_array found) (λ ds. follow (entries_of ds) (enough k))
 
 -- the checks of one of both groups, whose keys are told with it
-abbrev pub of_group : {A B : Type 0} → (MemberKey → CarryKey) → Result A MemberKey → (A → Result B CarryKey) → Result B CarryKey
-of_group name (Ok a) next = next a
-of_group name (Err k) next = Err (name k)
+abbrev pub check_in_group : {A B : Type 0} → (MemberKey → CarryKey) → Result A MemberKey → (A → Result B CarryKey) → Result B CarryKey
+check_in_group name (Ok a) next = next a
+check_in_group name (Err k) next = Err (name k)
 
 -- the checks behind those of both groups
 abbrev pub behind_groups : Members → ℕ → List MemberEntry → List MemberEntry → Result CarrySettings CarryKey
@@ -43,14 +43,14 @@ behind_groups ms k old new =
 abbrev pub carry_of : Members → Result CarrySettings CarryKey
 carry_of ms =
     check carry.K (k_in ms) (λ k.
-    of_group carry.From (group_in k (get_member (codes "from") ms)) (λ old.
-    of_group carry.To (group_in k (get_member (codes "to") ms)) (λ new.
+    check_in_group carry.From (group_in k (get_member (codes "from") ms)) (λ old.
+    check_in_group carry.To (group_in k (get_member (codes "to") ms)) (λ new.
     behind_groups ms k old new)))
 
 -- a fault of the members of one of both groups
-abbrev pub fault_in : (MemberKey → CarryKey) → MemberFault → CarryKeyFault
-fault_in name (BadKey k) = fault.BadKey (name k)
-fault_in name Want = fault.Want
+abbrev pub carry_fault_of : (MemberKey → CarryKey) → MemberFault → CarryKeyFault
+carry_fault_of name (BadKey k) = fault.BadKey (name k)
+carry_fault_of name Want = fault.Want
 
 -- a result is what the checks give, or there was no memory
 abbrev pub Settles : {A : Type 0} → Result A CarryKey → Result A CarryKeyFault → Type 0

@@ -48,8 +48,8 @@ k_in ms = number 1 16 (get_member (codes "k") ms)
 abbrev pub m_in : Members → Option ℕ
 m_in ms = number 0 4 (get_member (codes "m") ms)
 
-abbrev pub block_in : Members → Option ℕ
-block_in ms = only is_power_of_two (number 16 65536 (get_member (codes "block") ms))
+abbrev pub block_length_in : Members → Option ℕ
+block_length_in ms = only is_power_of_two (number 16 65536 (get_member (codes "block") ms))
 
 -- the number of blocks of this length
 abbrev pub blocks_in : ℕ → Members → Option ℕ

@@ -7,7 +7,7 @@ use Rattle.group_config.specs.Bases.{bases_in}
 use Rattle.group_config.specs.Keys.{all_among}
 use Rattle.group_config.specs.MemberKeys.{group_in, groups_in, one_word_in, order_in, patience_in, settings_keys}
 use Rattle.group_config.specs.MemberTable.{members_of, own_of}
-use Rattle.group_config.specs.Reading.{IsDocument, IsNoDocument, check, follow, shape_of}
+use Rattle.group_config.specs.Reading.{IsDocument, IsNoDocument, check, checked_shape, follow}
 use Rattle.group_config.specs.declared.member_entry.MemberEntry.{MemberEntry}
 use Rattle.group_config.specs.declared.member_fault.MemberFault.{MemberFault}
 use Rattle.group_config.specs.declared.member_fault.MemberFault.TheVariants.{BadKey, Want}
@@ -37,14 +37,14 @@ behind_members word ms group shape members =
 abbrev pub settings_of : Option (List ℕ) → Members → Result MemberSettings MemberKey
 settings_of word ms =
     check key.Group (group_in ms) (λ group.
-    with_shape (shape_of ms) (λ shape.
+    with_shape (checked_shape ms) (λ shape.
     follow (members_of (processes_of shape) (get_member (codes "members") ms)) (λ members.
     behind_members word ms group shape members)))
 
 -- a result is what the checks give, or there was no memory
-abbrev pub Answers : {A : Type 0} → Result A MemberKey → Result A MemberFault → Type 0
-Answers (Ok given) result = (result ≡ Ok given) ⊎ (result ≡ Err Want)
-Answers (Err key) result = (result ≡ Err (BadKey key)) ⊎ (result ≡ Err Want)
+abbrev pub IsMemberOutcome : {A : Type 0} → Result A MemberKey → Result A MemberFault → Type 0
+IsMemberOutcome (Ok given) result = (result ≡ Ok given) ⊎ (result ≡ Err Want)
+IsMemberOutcome (Err key) result = (result ≡ Err (BadKey key)) ⊎ (result ≡ Err Want)
 
 -- the text gives these settings
 pub record GivesMember (word : Option (List ℕ)) (text : List ℕ) (settings : MemberSettings) : Type 0 where

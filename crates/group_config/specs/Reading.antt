@@ -3,7 +3,7 @@ use Rattle.std.specs.Prelude.{ℕ, ◌≡◌, ◌⊎◌, List, if◌then◌else�
 use Rattle.toml.specs.Data.{Members}
 use Rattle.toml.specs.Parse.{parse_document}
 use Rattle.group_types.specs.Dimensions.{Dimensions}
-use Rattle.group_config.specs.Keys.{k_in, m_in, block_in, blocks_in, address_in, workers_in, connections_in, control_in, all_known}
+use Rattle.group_config.specs.Keys.{k_in, m_in, block_length_in, blocks_in, address_in, workers_in, connections_in, control_in, all_known}
 use Rattle.group_config.specs.declared.fault.ConfigFault.{ConfigFault}
 use Rattle.group_config.specs.declared.fault.ConfigFault.TheVariants.{BadConfig, Want}
 use Rattle.group_types.specs.declared.config_key.ConfigKey.{ConfigKey}
@@ -29,11 +29,11 @@ follow (Ok a) next = next a
 follow (Err key) next = Err key
 
 -- the checks of the shape, in their order
-abbrev pub shape_of : Members → Result Dimensions ConfigKey
-shape_of ms =
+abbrev pub checked_shape : Members → Result Dimensions ConfigKey
+checked_shape ms =
     check K (k_in ms) (λ k.
     check M (m_in ms) (λ m.
-    check Block (block_in ms) (λ block.
+    check Block (block_length_in ms) (λ block.
     check Blocks (blocks_in block ms) (λ blocks.
     Ok (record { k = k; m = m; blocks = blocks; block = block })))))
 
@@ -50,25 +50,25 @@ behind_shape ms shape =
 
 -- what a document gives: the first key whose check fails, or settings
 abbrev pub settings_of : Members → Result Settings ConfigKey
-settings_of ms = follow (shape_of ms) (behind_shape ms)
+settings_of ms = follow (checked_shape ms) (behind_shape ms)
 
 -- a result is what the checks give, or there was no memory
-abbrev pub Tells : Result Settings ConfigFault → Result Settings ConfigKey → Type 0
-Tells result (Ok settings) = (result ≡ Ok settings) ⊎ (result ≡ Err Want)
-Tells result (Err key) = (result ≡ Err (BadConfig key)) ⊎ (result ≡ Err Want)
+abbrev pub IsConfigOutcome : Result Settings ConfigFault → Result Settings ConfigKey → Type 0
+IsConfigOutcome result (Ok settings) = (result ≡ Ok settings) ⊎ (result ≡ Err Want)
+IsConfigOutcome result (Err key) = (result ≡ Err (BadConfig key)) ⊎ (result ≡ Err Want)
 
 -- the text gives these settings
-pub record Gives (text : List ℕ) (settings : Settings) : Type 0 where
+pub record GivesSettings (text : List ℕ) (settings : Settings) : Type 0 where
   pub members : Members
   pub document : IsDocument text members
   pub are : settings_of members ≡ Ok settings
 
 -- the first check of the text that fails is that of this key
-abbrev pub Refuses : List ℕ → ConfigKey → Type 0
-Refuses text key = (IsNoDocument text × (key ≡ Syntax)) ⊎ ((ms : Members) × IsDocument text ms × (settings_of ms ≡ Err key))
+abbrev pub RefusesAtKey : List ℕ → ConfigKey → Type 0
+RefusesAtKey text key = (IsNoDocument text × (key ≡ Syntax)) ⊎ ((ms : Members) × IsDocument text ms × (settings_of ms ≡ Err key))
 
 -- what a result says of its text
 abbrev pub ComesOf : List ℕ → Result Settings ConfigFault → Type 0
-ComesOf text (Ok settings) = Gives text settings
-ComesOf text (Err (BadConfig key)) = Refuses text key
+ComesOf text (Ok settings) = GivesSettings text settings
+ComesOf text (Err (BadConfig key)) = RefusesAtKey text key
 ComesOf text (Err Want) = ⊤

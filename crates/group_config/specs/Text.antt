@@ -12,7 +12,7 @@ abbrev pub longest_settings : ℕ
 longest_settings = 65536
 
 -- the text is what a source gave up to its end
-pub record HasRead (before now : Input) (text : List ℕ) : Type 0 where
+pub record HasReadSettings (before now : Input) (text : List ℕ) : Type 0 where
   pub taken : Takes before now text
   pub ended : IsEnded now
   pub short : length text ≤ longest_settings

@@ -20,9 +20,9 @@ with_address None rest = rest
 with_address (Some a) rest = a ∷ rest
 
 -- the addresses among the values of a list
-abbrev pub addresses : Items → List (List ℕ)
-addresses no_items = []
-addresses (item d ds) = with_address (short_text (Some d)) (addresses ds)
+abbrev pub member_addresses : Items → List (List ℕ)
+member_addresses no_items = []
+member_addresses (item d ds) = with_address (short_text (Some d)) (member_addresses ds)
 
 -- each value of a list is an address
 abbrev pub all_addresses : Items → Bool
@@ -35,7 +35,7 @@ are_few found = nat_le 1 (length found) && nat_le (length found) 16
 
 -- where etcd is
 abbrev pub etcd : Option Data → Option (List (List ℕ))
-etcd found = only are_few (option_map addresses (only all_addresses (option_and_then as_array found)))
+etcd found = only are_few (option_map member_addresses (only all_addresses (option_and_then as_array found)))
 
 abbrev pub etcd_in : Members → Option (List (List ℕ))
 etcd_in ms = etcd (get_member (codes "etcd") ms)

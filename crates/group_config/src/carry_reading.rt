@@ -1,8 +1,8 @@
 ghost use Rattle.std.specs.Prelude.{◌≡◌, ◌≤◌};
 ghost use Rattle.toml.specs.View.{table_view};
 ghost use Rattle.group_config.specs.Keys.{data_of};
-ghost use Rattle.group_config.specs.MemberReading.{Answers};
-ghost use Rattle.group_config.specs.Carrying.{CarryComesOf, Settles, behind_groups, carry_of, enough, fault_in, group_in};
+ghost use Rattle.group_config.specs.MemberReading.{IsMemberOutcome};
+ghost use Rattle.group_config.specs.Carrying.{CarryComesOf, Settles, behind_groups, carry_fault_of, carry_of, enough, group_in};
 ghost use Rattle.group_config.specs.declared.carry_fault.CarryKeyFault.TheVariants.{BadKey};
 ghost use Rattle.group_config.specs.declared.carry_key.CarryKey.TheVariants as carry;
 
@@ -81,7 +81,7 @@ fn behind_groups(
 
 /// At least so many members with names that differ.
 fn group_in(alloc: Global, value: Option<&Value>, k: usize) -> Result<MemberTable, MemberFault>
-    ensures { Answers (group_in k (data_of value.entry)) result }
+    ensures { IsMemberOutcome (group_in k (data_of value.entry)) result }
 {
     let Some(items) = items_of(value) else {
         return Err(bad(MemberKey::Members));
@@ -91,7 +91,7 @@ fn group_in(alloc: Global, value: Option<&Value>, k: usize) -> Result<MemberTabl
 
 /// These members, if there are enough and not too many, and their names differ.
 fn enough(members: MemberTable, k: usize) -> Result<MemberTable, MemberFault>
-    ensures { Answers (enough k members) result }
+    ensures { IsMemberOutcome (enough k members) result }
 {
     let count = members.entries().len();
     if count < k || MOST_MEMBERS < count {
@@ -105,7 +105,7 @@ fn enough(members: MemberTable, k: usize) -> Result<MemberTable, MemberFault>
 
 /// A fault of the old group's members.
 fn in_from(fault: MemberFault) -> CarryKeyFault
-    ensures { result ≡ fault_in carry.From fault }
+    ensures { result ≡ carry_fault_of carry.From fault }
 {
     match fault {
         MemberFault::BadKey { key } => wrong(CarryKey::From(key)),
@@ -115,7 +115,7 @@ fn in_from(fault: MemberFault) -> CarryKeyFault
 
 /// A fault of the new group's members.
 fn in_to(fault: MemberFault) -> CarryKeyFault
-    ensures { result ≡ fault_in carry.To fault }
+    ensures { result ≡ carry_fault_of carry.To fault }
 {
     match fault {
         MemberFault::BadKey { key } => wrong(CarryKey::To(key)),

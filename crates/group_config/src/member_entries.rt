@@ -2,7 +2,7 @@ ghost use Rattle.std.specs.Prelude.{◌≡◌, length, option_map, option_and_th
 ghost use Rattle.toml.specs.Data.{as_array};
 ghost use Rattle.toml.specs.View.{array_view, items_view, table_view, view};
 ghost use Rattle.group_config.specs.Keys.{data_of};
-ghost use Rattle.group_config.specs.MemberReading.{Answers};
+ghost use Rattle.group_config.specs.MemberReading.{IsMemberOutcome};
 ghost use Rattle.group_config.specs.MemberTable.{counted, entries_of, entry_in, entry_of, members_of};
 ghost use Rattle.group_config.specs.declared.member_fault.MemberFault.TheVariants.{BadKey};
 
@@ -29,7 +29,7 @@ pub(crate) fn members_of(
     value: Option<&Value>,
     count: usize,
 ) -> Result<MemberTable, MemberFault>
-    ensures told { Answers (members_of count (data_of value.entry)) result }
+    ensures told { IsMemberOutcome (members_of count (data_of value.entry)) result }
     ensures count { IfOk result (λ members. length members ≡ count) }
 {
     let Some(items) = items_of(value) else {
@@ -47,7 +47,7 @@ pub(crate) fn items_of(value: Option<&Value>) -> Option<&Array>
 
 /// These members, if there are so many, and their names differ.
 fn counted(members: MemberTable, count: usize) -> Result<MemberTable, MemberFault>
-    ensures told { Answers (counted count members) result }
+    ensures told { IsMemberOutcome (counted count members) result }
     ensures count { IfOk result (λ members. length members ≡ count) }
 {
     if members.entries().len() != count {
@@ -61,7 +61,7 @@ fn counted(members: MemberTable, count: usize) -> Result<MemberTable, MemberFaul
 
 /// A member for each value.
 pub(crate) fn entries_of(alloc: Global, items: &[Value]) -> Result<MemberTable, MemberFault>
-    ensures { Answers (entries_of (items_view items.now)) result }
+    ensures { IsMemberOutcome (entries_of (items_view items.now)) result }
 {
     let mut members = MemberTable::new(alloc);
     let mut left = items;
@@ -74,7 +74,7 @@ pub(crate) fn entries_of(alloc: Global, items: &[Value]) -> Result<MemberTable, 
 
 /// The member that a value is.
 fn entry_of(alloc: Global, value: &Value) -> Result<MemberEntry, MemberFault>
-    ensures { Answers (entry_of (view value.now)) result }
+    ensures { IsMemberOutcome (entry_of (view value.now)) result }
 {
     match value.as_table() {
         Some(table) => entry_in(alloc, table),
@@ -84,7 +84,7 @@ fn entry_of(alloc: Global, value: &Value) -> Result<MemberEntry, MemberFault>
 
 /// The member that a table says.
 fn entry_in(alloc: Global, table: &Table) -> Result<MemberEntry, MemberFault>
-    ensures { Answers (entry_in (table_view table.now)) result }
+    ensures { IsMemberOutcome (entry_in (table_view table.now)) result }
 {
     let Some(name) = name_of(value_at(table, "name")) else {
         return Err(bad(MemberKey::MemberName));
@@ -112,7 +112,7 @@ fn new_entry(
     client: &str,
     control: &str,
 ) -> Result<MemberEntry, MemberFault>
-    ensures { Answers (Ok (record {
+    ensures { IsMemberOutcome (Ok (record {
       name = name.now;
       link = link.now;
       client = client.now;

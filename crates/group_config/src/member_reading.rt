@@ -2,7 +2,7 @@ ghost use Rattle.std.specs.Prelude.{◌≡◌, ◌<◌, ◌||◌, nat_lt, false,
 ghost use Rattle.toml.specs.View.{table_view};
 ghost use Rattle.group_types.specs.Dimensions.{processes_of};
 ghost use Rattle.group_config.specs.Keys.{data_of, only, or_else, truth};
-ghost use Rattle.group_config.specs.MemberReading.{Answers, HasMembers, MemberComesOf, behind_members, settings_of};
+ghost use Rattle.group_config.specs.MemberReading.{HasMembers, IsMemberOutcome, MemberComesOf, behind_members, settings_of};
 ghost use Rattle.group_config.specs.MemberTable.{own_of};
 
 use crate::base_values::bases_or_none;
@@ -49,7 +49,7 @@ fn settings_in(
     table: &Table,
     word: Option<&str>,
 ) -> Result<MemberSettings, MemberFault>
-    ensures told { Answers (settings_of (option_copied word.entry) (table_view table.now)) result }
+    ensures told { IsMemberOutcome (settings_of (option_copied word.entry) (table_view table.now)) result }
     ensures members { IfOk result HasMembers }
 {
     let Some(group) = group_of(value_at(table, "group")) else {
@@ -77,7 +77,7 @@ fn behind_members(
     members: MemberTable,
 ) -> Result<MemberSettings, MemberFault>
     requires { length members ≡ processes_of shape }
-    ensures told { Answers
+    ensures told { IsMemberOutcome
         (behind_members (option_copied word.entry) (table_view table.now) group shape members) result }
     ensures members { IfOk result HasMembers }
 {

@@ -2,7 +2,7 @@ ghost use Rattle.std.specs.Prelude.{◌≡◌, ◌⊎◌, Err, IfOk};
 ghost use Rattle.toml.specs.Data.{Members};
 ghost use Rattle.toml.specs.View.{table_view};
 ghost use Rattle.group_config.specs.Keys.{HasWorkers};
-ghost use Rattle.group_config.specs.Reading.{ComesOf, IsDocument, IsNoDocument, Tells, behind_shape, settings_of};
+ghost use Rattle.group_config.specs.Reading.{ComesOf, IsConfigOutcome, IsDocument, IsNoDocument, behind_shape, settings_of};
 ghost use Rattle.group_config.specs.declared.fault.ConfigFault.TheVariants.{BadConfig, Want};
 ghost use Rattle.group_types.specs.declared.config_key.ConfigKey.TheVariants.{Syntax};
 
@@ -35,7 +35,7 @@ pub(crate) const KEYS: [&str; 8] = [
 /// blocks, address, workers, connections and control, each there if it is required, of its kind and within its
 /// range; then no other key.
 pub fn read_settings(alloc: Global, text: &[u8]) -> Result<Settings, ConfigFault>
-    ensures document { (ms : Members) → IsDocument text.now ms → Tells result (settings_of ms) }
+    ensures document { (ms : Members) → IsDocument text.now ms → IsConfigOutcome result (settings_of ms) }
     ensures syntax { IsNoDocument text.now → (result ≡ Err (BadConfig Syntax)) ⊎ (result ≡ Err Want) }
     ensures comes { ComesOf text.now result }
     ensures workers { IfOk result (λ s. HasWorkers s.workers) }
@@ -48,7 +48,7 @@ pub fn read_settings(alloc: Global, text: &[u8]) -> Result<Settings, ConfigFault
 }
 
 fn settings_in(alloc: Global, table: &Table) -> Result<Settings, ConfigFault>
-    ensures told { Tells result (settings_of (table_view table.now)) }
+    ensures told { IsConfigOutcome result (settings_of (table_view table.now)) }
     ensures workers { IfOk result (λ s. HasWorkers s.workers) }
 {
     match shape_in(table) {
@@ -59,7 +59,7 @@ fn settings_in(alloc: Global, table: &Table) -> Result<Settings, ConfigFault>
 
 /// The settings of a table that gives this shape.
 fn behind_shape_in(alloc: Global, table: &Table, shape: Shape) -> Result<Settings, ConfigFault>
-    ensures told { Tells result (behind_shape (table_view table.now) shape) }
+    ensures told { IsConfigOutcome result (behind_shape (table_view table.now) shape) }
     ensures workers { IfOk result (λ s. HasWorkers s.workers) }
 {
     let Some(address) = short_text_of(value_at(table, "address")) else {

@@ -3,7 +3,7 @@ ghost use Rattle.std.specs.Int.{is_power_of_two};
 ghost use Rattle.toml.specs.View.{table_view};
 ghost use Rattle.group_types.specs.Shape.{most_space};
 ghost use Rattle.group_config.specs.Keys.{data_of, number, only};
-ghost use Rattle.group_config.specs.Reading.{shape_of};
+ghost use Rattle.group_config.specs.Reading.{checked_shape};
 
 use crate::values::{number_of, value_at};
 use group_types::{ConfigKey, Shape};
@@ -14,7 +14,7 @@ const MOST_SPACE: u64 = 67_108_864;
 
 /// The shape that a table gives, or the first of its keys that is wrong.
 pub(crate) fn shape_in(table: &Table) -> Result<Shape, ConfigKey>
-    ensures { result ≡ shape_of (table_view table.now) }
+    ensures { result ≡ checked_shape (table_view table.now) }
 {
     let Some(k) = number_of(value_at(table, "k"), 1, 16) else {
         return Err(ConfigKey::K);

@@ -1,6 +1,6 @@
 ghost use Rattle.std.specs.Prelude.{◌≤◌, IfOk};
 ghost use Rattle.toml.specs.View.{table_view};
-ghost use Rattle.group_config.specs.MemberReading.{Answers};
+ghost use Rattle.group_config.specs.MemberReading.{IsMemberOutcome};
 ghost use Rattle.group_config.specs.Watching.{HasLease, WatchComesOf, watch_in, watch_of};
 
 use crate::known::all_known_in;
@@ -32,7 +32,7 @@ pub fn read_watch_settings(alloc: Global, text: &[u8]) -> Result<WatchSettings, 
 
 /// What a table's own table says.
 fn watch_of(alloc: Global, table: &Table) -> Result<WatchSettings, MemberFault>
-    ensures told { Answers (watch_of (table_view table.now)) result }
+    ensures told { IsMemberOutcome (watch_of (table_view table.now)) result }
     ensures lease { IfOk result (λ s. HasLease s.seconds) }
 {
     match table_of(value_at(table, "watch")) {
@@ -43,7 +43,7 @@ fn watch_of(alloc: Global, table: &Table) -> Result<WatchSettings, MemberFault>
 
 /// What that table says.
 fn watch_in(alloc: Global, watch: &Table) -> Result<WatchSettings, MemberFault>
-    ensures told { Answers (watch_in (table_view watch.now)) result }
+    ensures told { IsMemberOutcome (watch_in (table_view watch.now)) result }
     ensures lease { IfOk result (λ s. HasLease s.seconds) }
 {
     let Some(etcd) = etcd_of(alloc, value_at(watch, "etcd"))? else {

@@ -3,7 +3,7 @@ ghost use Rattle.toml.specs.View.{items_view, table_view};
 ghost use Rattle.toml.specs.Data.{as_table};
 ghost use Rattle.std.specs.Prelude.{option_and_then};
 ghost use Rattle.group_config.specs.Keys.{data_of};
-ghost use Rattle.group_config.specs.Watching.{addresses, all_addresses, etcd};
+ghost use Rattle.group_config.specs.Watching.{all_addresses, etcd, member_addresses};
 
 use crate::address::Address;
 use crate::address_list::AddressList;
@@ -60,7 +60,7 @@ fn are_addresses(items: &[Value]) -> bool
 
 /// Copies of the addresses among the values.
 fn copied(alloc: Global, items: &[Value]) -> Result<AddressList, AllocError>
-    ensures { IfOk result (λ list. list ≡ addresses (items_view items.now)) }
+    ensures { IfOk result (λ list. list ≡ member_addresses (items_view items.now)) }
 {
     let mut list = AddressList::new(alloc);
     let mut left = items;

@@ -12,7 +12,7 @@ use Rattle.group_node.specs.Delivering.{Comes}
 use Rattle.group_node.specs.Standing.{NodeStanding}
 use Rattle.group_node.specs.Steps as node
 use Rattle.group_node.specs.declared.node.NodeOut.{NodeOut}
-use Rattle.group_core.specs.Pairs.{CanCome, Delivered, Exchanged, IsAt}
+use Rattle.group_core.specs.Pairs.{Delivered, Exchanged, FirstCanCome, IsNodeAt}
 use Rattle.group_core.specs.Seats.{AreSeated, made, nodes_of, seat, seats_of, two_changed}
 use Rattle.group_core.proofs.Changed.{nodes-changed, seat-is, shape-is, still-seated, within}
 
@@ -31,10 +31,10 @@ module _ (s : Dimensions) (xs : List NodeStanding) (seated : AreSeated s xs) (fr
   abbrev b : NodeStanding
   b = get_or xs j (record { shape = s; node = opening_node s to })
 
-  a-there : IsAt xs i a
+  a-there : IsNodeAt xs i a
   a-there d = any-at xs i d _ (within s xs seated from fin i i_is)
 
-  b-there : IsAt xs j b
+  b-there : IsNodeAt xs j b
   b-there d = any-at xs j d _ (within s xs seated to tin j j_is)
 
   a-node : a.node ≡ seat (seats_of s xs) from
@@ -56,7 +56,7 @@ module _ (s : Dimensions) (xs : List NodeStanding) (seated : AreSeated s xs) (fr
   b-name = ap (λ (n : Node). n.process.name) b-node ∙ to_name
 
   pub can-come : ((seat (seats_of s xs) to).down ≡ false → (seat (seats_of s xs) to).dead ≡ false → (m : Message) (rest : List Message)
-      → at [] (seat (seats_of s xs) from).links (index_of s to) ≡ m ∷ rest → Comes s from m (seat (seats_of s xs) to).process) → CanCome xs i j
+      → at [] (seat (seats_of s xs) from).links (index_of s to) ≡ m ∷ rest → Comes s from m (seat (seats_of s xs) to).process) → FirstCanCome xs i j
   can-come comes = record { sender = a; receiver = b; from = a-there; to = b-there; same = a-shape ∙ sym b-shape; comes = coming } where
     coming : b.node.down ≡ false → b.node.dead ≡ false → (m : Message) (rest : List Message)
         → at [] a.node.links (index_of b.shape b.node.process.name) ≡ m ∷ rest

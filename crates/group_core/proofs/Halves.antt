@@ -9,7 +9,7 @@ use Rattle.group_node.specs.Delivering.{Comes}
 use Rattle.group_node.specs.Standing.{NodeStanding}
 use Rattle.group_node.specs.Steps as node
 use Rattle.group_node.specs.declared.node.NodeOut.{NodeOut}
-use Rattle.group_core.specs.Pairs.{CanCome, Delivered, Exchanged, IsAt}
+use Rattle.group_core.specs.Pairs.{Delivered, Exchanged, FirstCanCome, IsNodeAt}
 use Rattle.group_core.proofs.Paired.{back-at, front-at, set-either, two-set}
 
 abbrev pub ComesTo : NodeStanding → NodeStanding → Type 0
@@ -36,23 +36,23 @@ one-made a b a2 b2 x y out a_is b_is sa sb is = record {
 
 module _ (xs front back : List NodeStanding) (i j : ℕ) (e d : NodeStanding) (low : i < j) (within : j < length xs)
     (front_is : front ≡ take j xs) (back_is : back ≡ drop j xs) where
-  at-low : (x : NodeStanding) → IsAt xs i x → get_or front i e ≡ x
+  at-low : (x : NodeStanding) → IsNodeAt xs i x → get_or front i e ≡ x
   at-low x is = ap (λ (l : List NodeStanding). get_or l i e) front_is ∙ front-at xs i j e low ∙ is e
 
-  at-high : (y : NodeStanding) → IsAt xs j y → get_or back 0 d ≡ y
+  at-high : (y : NodeStanding) → IsNodeAt xs j y → get_or back 0 d ≡ y
   at-high y is = ap (λ (l : List NodeStanding). get_or l 0 d) back_is ∙ back-at xs j d ∙ is d
 
   joined : (a b : NodeStanding) → set front i a ++ set back 0 b ≡ set (set xs i a) j b
   joined a b = (λ k. set (front_is k) i a ++ set (back_is k) 0 b) ∙ two-set xs i j a b low within
 
-  pub comes-up : CanCome xs i j → ComesTo (get_or front i e) (get_or back 0 d)
+  pub comes-up : FirstCanCome xs i j → ComesTo (get_or front i e) (get_or back 0 d)
   comes-up can = same-comes _ _ can.sender can.receiver (at-low can.sender can.from) (at-high can.receiver can.to) can.comes
 
-  pub same-up : CanCome xs i j → (get_or front i e).shape ≡ (get_or back 0 d).shape
+  pub same-up : FirstCanCome xs i j → (get_or front i e).shape ≡ (get_or back 0 d).shape
   same-up can = ap (λ (z : NodeStanding). z.shape) (at-low can.sender can.from) ∙ can.same
       ∙ sym (ap (λ (z : NodeStanding). z.shape) (at-high can.receiver can.to))
 
-  pub comes-down : CanCome xs j i → ComesTo (get_or back 0 d) (get_or front i e)
+  pub comes-down : FirstCanCome xs j i → ComesTo (get_or back 0 d) (get_or front i e)
   comes-down can = same-comes _ _ can.sender can.receiver (at-high can.sender can.from) (at-low can.receiver can.to) can.comes
 
   pub exchanged-up : (ys : List NodeStanding) (a2 b2 : NodeStanding) (r : Result NodeOut AllocError)

@@ -14,7 +14,7 @@ use Rattle.group_run.specs.Headline.{AgreeOnStamp, Headline}
 use Rattle.group_run.specs.Keeping.{NodesKnowDown}
 use Rattle.group_run.specs.Meaning.{IsDown, Lives, link, process_of}
 use Rattle.group_run.specs.Process.{Node}
-use Rattle.group_run.specs.World.{World, dead_nodes, node_of}
+use Rattle.group_run.specs.World.{World, dead_nodes, process_node}
 use Rattle.group_run.specs.Replica.{last_of}
 use Rattle.group_run.specs.Rows.{parity_number}
 use Rattle.law_moves.proofs.Downs.{words_always}
@@ -35,10 +35,10 @@ less-word : (m n : ℕ) → (IsTrue (nat_lt m n) → m < n) × (m < n → IsTrue
 less-word m n = ((λ yes. grind (arith, common_steps)), (λ less. grind (arith, common_steps)))
 
 module _ (w : World) (has : HasRun w) where
-  pub word-is : (p : ProcessId) → IsProcess w.shape p → (node_of w p).down ≡ nat_lt w.shape.m (dead_nodes w.nodes)
+  pub word-is : (p : ProcessId) → IsProcess w.shape p → (process_node w p).down ≡ nat_lt w.shape.m (dead_nodes w.nodes)
   word-is = subst NodesKnowDown (sym has.is) (words_always w.shape has.events has.run)
 
-  pub told-down : (b : Bool) → b ≡ (node_of w (DataNode 0)).down → (IsTrue b → IsDown w) × (IsDown w → IsTrue b)
+  pub told-down : (b : Bool) → b ≡ (process_node w (DataNode 0)).down → (IsTrue b → IsDown w) × (IsDown w → IsTrue b)
   told-down b is = subst (λ (x : Bool). (IsTrue x → IsDown w) × (IsDown w → IsTrue x))
       (sym (is ∙ word-is (DataNode 0) has.run.0.k.0)) (less-word w.shape.m (dead_nodes w.nodes))
 
@@ -55,15 +55,15 @@ module _ (w : World) (has : HasRun w) where
   agree-on-stamp = subst (λ (v : World). ¬ (IsDown v) → AgreeOnStamp v) (sym has.is) headline.agree
 
   -- what a node shows is what its process shows in the group
-  pub stamp-read : (p : ProcessId) → IsProcess w.shape p → (n : NodeStanding) → n.shape ≡ w.shape → n.node ≡ node_of w p
+  pub stamp-read : (p : ProcessId) → IsProcess w.shape p → (n : NodeStanding) → n.shape ≡ w.shape → n.node ≡ process_node w p
       → process_stamp n.shape n.node.process.name n.node.process ≡ stamp_of w p
   stamp-read p pin n shape same =
       let name : n.node.process.name ≡ p = ap (λ (x : Node). x.process.name) same ∙ named w has p pin in
       (λ i. process_stamp (shape i) (name i) (same i).process)
 
-  up : (p : ProcessId) → IsProcess w.shape p → (node_of w p).down ≡ false → ¬ (IsDown w)
+  up : (p : ProcessId) → IsProcess w.shape p → (process_node w p).down ≡ false → ¬ (IsDown w)
   up p pin is down =
-      let word : (node_of w p).down ≡ nat_lt w.shape.m (dead_nodes w.nodes) = word-is p pin in
+      let word : (process_node w p).down ≡ nat_lt w.shape.m (dead_nodes w.nodes) = word-is p pin in
       let above : w.shape.m < dead_nodes w.nodes = down in
       let is_up : nat_lt w.shape.m (dead_nodes w.nodes) ≡ false = sym word ∙ is in
       grind (arith, common_steps)
@@ -77,7 +77,7 @@ module _ (w : World) (has : HasRun w) where
   fit = subst (FirstsFit w.shape) (sym has.is) (fits_always w.shape has.events has.run)
 
   module _ (from to : ProcessId) (m : Message) (rest : List Message) (fin : IsProcess w.shape from) (tin : IsProcess w.shape to) (apart : from ≢ to)
-      (named : (process_of w to).name ≡ to) (is_up : (node_of w to).down ≡ false) (lives : (node_of w to).dead ≡ false)
+      (named : (process_of w to).name ≡ to) (is_up : (process_node w to).down ≡ false) (lives : (process_node w to).dead ≡ false)
       (first : link w from to ≡ m ∷ rest) where
     of-group : (x : Message) → m ≡ x → IsOfGroup w.shape x (process_of w to)
     of-group (tells.Notice dead) is =
@@ -103,7 +103,8 @@ module _ (w : World) (has : HasRun w) where
       group = of-group m refl;
     }
 
-  pub known-low : w.events < 4611686018427387904 → (p : ProcessId) → IsProcess w.shape p → (node_of w p).dead ≡ false → IsKnownLow (node_of w p).process
+  pub known-low : w.events < 4611686018427387904 → (p : ProcessId) → IsProcess w.shape p → (process_node w p).dead ≡ false
+      → IsKnownLow (process_node w p).process
   known-low few p pin lives = record {
     updates = All-weaker (λ r. last_of r ≤ w.events) (λ r. last_of r < 4611686018427387904)
         (λ r low. omega (arith, low, few)) (process_of w p).replicas ((numbers-low w has).updates p (pin, lives));

@@ -8,7 +8,7 @@ use Rattle.group_calls.specs.Turns.{name_of}
 use Rattle.group_calls.specs.declared.event.Event.{Event}
 use Rattle.group_run.specs.Headline.{MayCome}
 use Rattle.group_run.specs.History.{no_history}
-use Rattle.group_run.specs.World.{World, node_of, opening, step}
+use Rattle.group_run.specs.World.{World, opening, process_node, step}
 use Rattle.law_moves.proofs.Runs.{world-from}
 use Rattle.law_moves.proofs.Keeping.{members_always}
 use Rattle.law_answers.specs.Numbers.{NumbersAreLow}
@@ -40,7 +40,7 @@ entries-differ w e has may = subst (λ (v : World). AllPairs (λ a b. name_of a 
 
 -- each node is that of its process
 abbrev pub AreNamed : Dimensions → World → Type 0
-AreNamed s w = (p : ProcessId) → IsProcess s p → (node_of w p).process.name ≡ p
+AreNamed s w = (p : ProcessId) → IsProcess s p → (process_node w p).process.name ≡ p
 
 pub named : (w : World) → HasRun w → AreNamed w.shape w
 named w has = subst (AreNamed w.shape) (world-from (no_history w.shape) has.events ∙ sym has.is)

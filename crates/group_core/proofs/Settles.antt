@@ -15,7 +15,7 @@ use Rattle.group_run.specs.Applying.{Settlement, head_at}
 use Rattle.group_run.specs.Asking.{ask_process, collect_from, fate_of}
 use Rattle.group_run.specs.Process.{Node}
 use Rattle.group_run.specs.World.{World, all_change, ask_node, collect_node, deliver_nodes, delivered, flush_node}
-use Rattle.group_run.specs.World.{flush_process, group_step, if_up, node_of, treated}
+use Rattle.group_run.specs.World.{flush_process, group_step, if_up, process_node, treated}
 use Rattle.law_answers.specs.Steps.{waiting}
 use Rattle.law_answers.proofs.Settling.{settles_few}
 
@@ -55,29 +55,30 @@ module _ (s : Dimensions) (node : Node) where
     by false false (m ∷ rest) = (settles_few s node.process).received from m
 
 module _ (w : World) where
-  pub ask-settles : (caller n : ℕ) (op : Asked) (p : ProcessId) → n ≡ waiting (node_of w p).process.replicas
+  pub ask-settles : (caller n : ℕ) (op : Asked) (p : ProcessId) → n ≡ waiting (process_node w p).process.replicas
       → length (group_step w (Ask caller op p)).settled ≤ n + 1
-  ask-settles caller n op p is = let few = asked w.shape (node_of w p) (record { caller = caller; call = at 0 w.asked caller }) op in omega (arith, few, is)
+  ask-settles caller n op p is = let few =
+      asked w.shape (process_node w p) (record { caller = caller; call = at 0 w.asked caller }) op in omega (arith, few, is)
 
-  pub delivery-settles : (n : ℕ) (from to : ProcessId) → n ≡ waiting (node_of w to).process.replicas → length (group_step w (Deliver from to)).settled ≤ n
-  delivery-settles n from to is = let few = received w.shape (node_of w to) from to (node_of w from) in omega (arith, few, is)
+  pub delivery-settles : (n : ℕ) (from to : ProcessId) → n ≡ waiting (process_node w to).process.replicas → length (group_step w (Deliver from to)).settled ≤ n
+  delivery-settles n from to is = let few = received w.shape (process_node w to) from to (process_node w from) in omega (arith, few, is)
 
   pub collect-settles : (caller call : ℕ) (p : ProcessId) → length (group_step w (Collect caller call p)).settled ≤ 0
-  collect-settles caller call p = let none = ap (λ (xs : List Settlement). length xs) (collected w.shape (node_of w p) caller call) in omega (arith, none)
+  collect-settles caller call p = let none = ap (λ (xs : List Settlement). length xs) (collected w.shape (process_node w p) caller call) in omega (arith, none)
 
   pub flush-settles : (p : ProcessId) → length (group_step w (Flush p)).settled ≤ 0
-  flush-settles p = let none = ap (λ (xs : List Settlement). length xs) (flushed w.shape (node_of w p)) in omega (arith, none)
+  flush-settles p = let none = ap (λ (xs : List Settlement). length xs) (flushed w.shape (process_node w p)) in omega (arith, none)
 
   pub trace-settles : (caller call : ℕ) (d : Partition) (p : ProcessId) → length (group_step w (Trace caller call d p)).settled ≤ 0
   trace-settles caller call d p =
       let none = ap (λ (xs : List Settlement). length xs)
-      (traced w.shape (node_of w p)
-      (fate_of w.shape caller call d.0 (node_of w p).process (head_at (node_of w p).process d.0)) (node_of w p).down
-      (node_of w p).dead) in
+      (traced w.shape (process_node w p)
+      (fate_of w.shape caller call d.0 (process_node w p).process (head_at (process_node w p).process d.0)) (process_node w p).down
+      (process_node w p).dead) in
       omega (arith, none)
 
   pub fail-settles : (p : ProcessId) (keep : ℕ) → length (group_step w (Fail p keep)).settled ≤ 0
-  fail-settles p keep = by (node_of w p).dead where
+  fail-settles p keep = by (process_node w p).dead where
     by : (dead : Bool) → length (all_change dead w.shape w.nodes p keep).settled ≤ 0
     by true = omega arith
     by false = omega arith

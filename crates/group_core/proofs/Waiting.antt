@@ -11,7 +11,7 @@ use Rattle.group_message.specs.declared.message.Message.{Message}
 use Rattle.group_run.specs.Draining.{event_or, is_waiting, next_among, next_delivery, next_from, next_target, node_at, some_message}
 use Rattle.group_run.specs.Meaning.{IsDrained}
 use Rattle.group_run.specs.Process.{Node}
-use Rattle.group_run.specs.World.{World, node_of}
+use Rattle.group_run.specs.World.{World, process_node}
 use Rattle.group_core.specs.Links.{delivery}
 
 unrolled : (x n : ℕ) → x < n → range_with_len x (n - x) ≡ x ∷ range_with_len (x + 1) (n - (x + 1))
@@ -92,8 +92,8 @@ module _ (w : World) where
       let y-low = index-below w.shape to lives.0 in
       let target = none-from count 0 x none (omega arith) (omega (arith, x-low)) in
       let quiet : is_waiting w x y ≡ false = none-target x count 0 y target (omega arith) (omega (arith, y-low)) in
-      let there : node_at w y ≡ node_of w to = ap (node_of w) (process_at-index w.shape to lives.0) in
-      let here : node_at w x ≡ node_of w from = ap (node_of w) (process_at-index w.shape from fin) in
+      let there : node_at w y ≡ process_node w to = ap (process_node w) (process_at-index w.shape to lives.0) in
+      let here : node_at w x ≡ process_node w from = ap (process_node w) (process_at-index w.shape from fin) in
       let no_message : some_message (at [] (node_at w x).links y) ≡ false
       = not-waiting (node_at w y).dead _ (ap (λ (n : Node). n.dead) there ∙ lives.1) quiet in
       ap (λ (n : Node). at [] n.links y) (sym here) ∙ silent (at [] (node_at w x).links y) no_message

@@ -9,11 +9,11 @@ use Rattle.group_run.specs.World.{World}
 use Rattle.group_core.specs.declared.items.ItemHead.{ItemHead}
 
 -- an item by its key and its slot
-abbrev pub head_of : List ℕ × Slot → ItemHead
-head_of item = record { key = item.0; len = item.1.len; flags = item.1.flags; until = item.1.until }
+abbrev pub item_head_of : List ℕ × Slot → ItemHead
+item_head_of item = record { key = item.0; len = item.1.len; flags = item.1.flags; until = item.1.until }
 
 abbrev pub heads_of : Items → List ItemHead
-heads_of items = map head_of items
+heads_of items = map item_head_of items
 
 -- the list has each settled item of the partition's head, in the order of keys
 pub record ListsItems (w : World) (d : ℕ) (list : List ItemHead) : Type 0 where

@@ -10,15 +10,15 @@ use Rattle.group_node.specs.Steps as node
 use Rattle.group_node.specs.declared.node.NodeOut.{NodeOut}
 
 -- the node at a place of the list
-abbrev pub IsAt : List NodeStanding → ℕ → NodeStanding → Type 0
-IsAt xs i x = (d : NodeStanding) → slice_index_or xs i d ≡ x
+abbrev pub IsNodeAt : List NodeStanding → ℕ → NodeStanding → Type 0
+IsNodeAt xs i x = (d : NodeStanding) → slice_index_or xs i d ≡ x
 
 -- what comes first from one node to the other may come
-pub record CanCome (xs : List NodeStanding) (i j : ℕ) : Type 0 where
+pub record FirstCanCome (xs : List NodeStanding) (i j : ℕ) : Type 0 where
   pub sender : NodeStanding
   pub receiver : NodeStanding
-  pub from : IsAt xs i sender
-  pub to : IsAt xs j receiver
+  pub from : IsNodeAt xs i sender
+  pub to : IsNodeAt xs j receiver
   pub same : sender.shape ≡ receiver.shape
   pub comes : receiver.node.down ≡ false → receiver.node.dead ≡ false → (m : Message) (rest : List Message)
       → at [] sender.node.links (index_of receiver.shape receiver.node.process.name) ≡ m ∷ rest
@@ -36,4 +36,4 @@ pub record Exchanged (xs ys : List NodeStanding) (i j : ℕ) (out : NodeOut) : T
   pub sender : NodeStanding
   pub receiver : NodeStanding
   pub items : ys ≡ set (set xs i sender) j receiver
-  pub delivered : (x y : NodeStanding) → IsAt xs i x → IsAt xs j y → Delivered x y sender receiver out
+  pub delivered : (x y : NodeStanding) → IsNodeAt xs i x → IsNodeAt xs j y → Delivered x y sender receiver out

@@ -18,10 +18,10 @@ pub record HasHeadline (w : World) : Type 0 where
   pub headline : Headline w.shape led.events
 
 -- the nodes and what is kept beside them, as a group
-abbrev pub group_of : Seats → Books → World
-group_of v b = record { shape = v.shape; nodes = v.nodes; events = b.events; asked = b.asked; log = b.log; places = b.places; tickets = b.tickets }
+abbrev pub group_from : Seats → Books → World
+group_from v b = record { shape = v.shape; nodes = v.nodes; events = b.events; asked = b.asked; log = b.log; places = b.places; tickets = b.tickets }
 
 -- the nodes and the books are of one group, and a run led to it
 pub record IsGroup (v : Seats) (b : Books) : Type 0 where
   pub shape : v.shape ≡ b.shape
-  pub run : HasRun (group_of v b)
+  pub run : HasRun (group_from v b)

@@ -20,12 +20,12 @@ abbrev pub seats_of : Dimensions → List NodeStanding → Seats
 seats_of s xs = record { shape = s; nodes = nodes_of xs }
 
 -- all are nodes of a group of this shape
-abbrev pub AreOf : Dimensions → List NodeStanding → Type 0
-AreOf s xs = All (λ x. x.shape ≡ s) xs
+abbrev pub AreNodesOf : Dimensions → List NodeStanding → Type 0
+AreNodesOf s xs = All (λ x. x.shape ≡ s) xs
 
 pub record AreSeated (s : Dimensions) (xs : List NodeStanding) : Type 0 where
   pub many : length xs ≡ s.k + s.m
-  pub shapes : AreOf s xs
+  pub shapes : AreNodesOf s xs
 
 -- the node of a process
 abbrev pub seat : Seats → ProcessId → Node

@@ -2,8 +2,8 @@ ghost use Rattle.std.specs.Prelude.{◌≡◌, ◌<◌, ◌^◌, false, [], All,
 ghost use Rattle.group_types.specs.Names.{IsProcess};
 ghost use Rattle.group_run.specs.Replica.{callers, last_of};
 ghost use Rattle.group_run.specs.World.{ask_node, collect_node, flush_node, trace_node, unchanged};
-ghost use Rattle.head_service.specs.Acting.{name_of};
-ghost use Rattle.group_node.specs.Steps.{IsRefusal};
+ghost use Rattle.head_service.specs.Acting.{name_of_call};
+ghost use Rattle.group_node.specs.Steps.{IsRefusalAnswer};
 ghost use Rattle.group_core.specs.Seats.{IsKnownLow, made, one_changed, seat};
 
 use crate::members::Members;
@@ -22,8 +22,8 @@ impl Members {
             → IsKnownLow (seat self.old at).process }
         ensures shape { self.new.shape ≡ self.old.shape }
         ensures step { IfOk result (λ out. one_changed self.old at
-            (ask_node self.old.shape (name_of call) op.now (seat self.old at)) ≡ made self.new out) }
-        ensures refusal { IfOk result (λ out. IsRefusal out.answer → self.new ≡ self.old) }
+            (ask_node self.old.shape (name_of_call call) op.now (seat self.old at)) ≡ made self.new out) }
+        ensures refusal { IfOk result (λ out. IsRefusalAnswer out.answer → self.new ≡ self.old) }
         ensures err { OnErr result (self.new ≡ self.old) }
     {
         let at = index_of(self.shape, at) as usize;

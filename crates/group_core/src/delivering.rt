@@ -5,7 +5,7 @@ ghost use Rattle.group_types.specs.Names.{IsProcess};
 ghost use Rattle.group_message.specs.declared.message.Message as told;
 ghost use Rattle.group_run.specs.World.{deliver_nodes};
 ghost use Rattle.group_node.specs.Delivering.{Comes};
-ghost use Rattle.group_core.specs.Pairs.{CanCome, Exchanged};
+ghost use Rattle.group_core.specs.Pairs.{Exchanged, FirstCanCome};
 ghost use Rattle.group_core.specs.Seats.{AreSeated, made, seat, seats_of, two_changed};
 
 use crate::members::Members;
@@ -64,7 +64,7 @@ fn deliver_in(
 fn deliver_up(nodes: &mut [Node], from: usize, to: usize) -> Result<NodeOut, AllocError>
     requires order { from < to }
     requires within { to < length nodes.old }
-    requires can { CanCome nodes.old from to }
+    requires can { FirstCanCome nodes.old from to }
     ensures step { IfOk result (λ out. Exchanged nodes.old nodes.new from to out) }
     ensures err { OnErr result (nodes.new ≡ nodes.old) }
 {
@@ -76,7 +76,7 @@ fn deliver_up(nodes: &mut [Node], from: usize, to: usize) -> Result<NodeOut, All
 fn deliver_down(nodes: &mut [Node], from: usize, to: usize) -> Result<NodeOut, AllocError>
     requires order { to < from }
     requires within { from < length nodes.old }
-    requires can { CanCome nodes.old from to }
+    requires can { FirstCanCome nodes.old from to }
     ensures step { IfOk result (λ out. Exchanged nodes.old nodes.new from to out) }
     ensures err { OnErr result (nodes.new ≡ nodes.old) }
 {

@@ -2,7 +2,7 @@ ghost use Rattle.std.specs.Prelude.{◌≡◌, ◌≤◌, [], length, map};
 ghost use Rattle.group_types.specs.Dimensions.{Dimensions};
 ghost use Rattle.group_types.specs.Names.{IsProcess};
 ghost use Rattle.group_run.specs.World.{all_change, dead_nodes, with_down};
-ghost use Rattle.group_core.specs.Seats.{AreOf, AreSeated, made, nodes_of, seat, seats_of};
+ghost use Rattle.group_core.specs.Seats.{AreNodesOf, AreSeated, made, nodes_of, seat, seats_of};
 
 use crate::members::Members;
 use crate::nodes::Nodes;
@@ -73,7 +73,7 @@ fn count_dead(nodes: &[Node]) -> u32
 
 fn tell_all(nodes: &mut [Node], down: bool)
     ensures nodes { nodes_of nodes.new ≡ map (with_down down) (nodes_of nodes.old) }
-    ensures shapes { (s : Dimensions) → AreOf s nodes.old → AreOf s nodes.new }
+    ensures shapes { (s : Dimensions) → AreNodesOf s nodes.old → AreNodesOf s nodes.new }
     ensures many { length nodes.new ≡ length nodes.old }
 {
     'nodes: for x in 0..nodes.len() {

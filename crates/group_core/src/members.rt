@@ -4,7 +4,7 @@ ghost use Rattle.group_types.specs.Names as names;
 ghost use Rattle.group_types.specs.Names.{IsProcess};
 ghost use Rattle.group_types.specs.Shape.{IsShape};
 ghost use Rattle.group_run.specs.World.{opening, opening_node};
-ghost use Rattle.group_core.specs.Seats.{AreOf, nodes_of, seat};
+ghost use Rattle.group_core.specs.Seats.{AreNodesOf, nodes_of, seat};
 
 use group_node::{Node, index_of, process_at};
 use group_types::{ProcessId, Shape};
@@ -69,7 +69,7 @@ pub(crate) fn nodes_at_start(
     requires { count ≤ shape.k + shape.m }
     ensures nodes { IfOk result (λ nodes. nodes_of nodes.items
         ≡ map (λ x. opening_node shape (names.process_at shape x)) (range_with_len 0 count)) }
-    ensures shapes { IfOk result (λ nodes. AreOf shape nodes.items) }
+    ensures shapes { IfOk result (λ nodes. AreNodesOf shape nodes.items) }
     ensures many { IfOk result (λ nodes. length nodes.items ≡ count) }
 {
     let mut nodes = Vec::with_capacity(alloc, count as usize)?;

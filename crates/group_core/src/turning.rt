@@ -5,8 +5,8 @@ ghost use Rattle.group_run.specs.Headline.{MayCome};
 ghost use Rattle.group_run.specs.Replica.{callers};
 ghost use Rattle.group_run.specs.World.{call_of, group_step};
 ghost use Rattle.group_ledger.specs.Books.{call_in, refusal_in};
-ghost use Rattle.group_core.specs.Runs.{HasRun, group_of};
-ghost use Rattle.group_node.specs.Steps.{IsRefusal};
+ghost use Rattle.group_core.specs.Runs.{HasRun, group_from};
+ghost use Rattle.group_node.specs.Steps.{IsRefusalAnswer};
 ghost use Rattle.group_core.specs.Seats.{made};
 
 use crate::members::Members;
@@ -29,11 +29,11 @@ pub(crate) struct Turn {
 impl Members {
     /// What an event that asks no call makes of the nodes. After want of memory nothing but room has changed.
     pub(crate) fn pass(&mut self, ledger: &Ledger, event: &Event) -> Result<NodeOut, AllocError>
-        requires run { HasRun (group_of self.old ledger.now.books) }
-        requires may { MayCome (group_of self.old ledger.now.books) event.now }
-        requires no_call { call_of (group_of self.old ledger.now.books) event.now ≡ None }
+        requires run { HasRun (group_from self.old ledger.now.books) }
+        requires may { MayCome (group_from self.old ledger.now.books) event.now }
+        requires no_call { call_of (group_from self.old ledger.now.books) event.now ≡ None }
         ensures shape { self.new.shape ≡ self.old.shape }
-        ensures step { IfOk result (λ out. group_step (group_of self.old ledger.now.books) event.now
+        ensures step { IfOk result (λ out. group_step (group_from self.old ledger.now.books) event.now
             ≡ made self.new out) }
         ensures err { OnErr result (self.new ≡ self.old) }
     {
@@ -60,15 +60,15 @@ impl Members {
         op: &Op,
         at: ProcessId,
     ) -> Result<Turn, AllocError>
-        requires run { HasRun (group_of self.old ledger.now.books) }
+        requires run { HasRun (group_from self.old ledger.now.books) }
         requires events { ledger.now.books.events < 2 ^ 62 }
         requires caller { caller < callers }
         requires process { IsProcess self.old.shape at }
         ensures shape { self.new.shape ≡ self.old.shape }
-        ensures step { IfOk result (λ turn. group_step (group_of self.old ledger.now.books)
+        ensures step { IfOk result (λ turn. group_step (group_from self.old ledger.now.books)
             (happens.Ask caller op.now at) ≡ made self.new turn.out) }
         ensures call { IfOk result (λ turn. call_in ledger.now.books.asked turn.call
-            ≡ call_of (group_of self.old ledger.now.books) (happens.Ask caller op.now at)) }
+            ≡ call_of (group_from self.old ledger.now.books) (happens.Ask caller op.now at)) }
         ensures caller { IfOk result (λ turn. IfSome turn.call (λ c. c.caller < callers)) }
         ensures refusal { IfOk result (λ turn. IfSome turn.call (λ c. c.refusal ≡ refusal_in turn.out.answer)) }
         ensures err { OnErr result (self.new ≡ self.old) }
@@ -87,7 +87,7 @@ fn new_call(caller: u32, op: Op, out: NodeOut) -> Result<Turn, AllocError>
           (record { caller = caller; op = op; refusal = refusal_in out.answer });
       out = out;
     }) }
-    ensures err { OnErr result (IsRefusal out.answer) }
+    ensures err { OnErr result (IsRefusalAnswer out.answer) }
 {
     match refusal(&out.answer) {
         Ok(refusal) => Ok(Turn {

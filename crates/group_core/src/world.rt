@@ -17,12 +17,12 @@ pub struct World {
 }
 
 impl Model for World {
-    ghost use Rattle.group_core.specs.Runs.{IsGroup, group_of};
+    ghost use Rattle.group_core.specs.Runs.{IsGroup, group_from};
     ghost use Rattle.group_run.specs.World as machine;
 
     ghost Value = { machine.World };
 
-    ghost view = { λ w. group_of w.nodes w.ledger.books };
+    ghost view = { λ w. group_from w.nodes w.ledger.books };
 
     ghost invariant = { λ w. IsGroup w.nodes w.ledger.books };
 }

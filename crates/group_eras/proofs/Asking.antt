@@ -11,7 +11,7 @@ use Rattle.group_run.specs.World.{World, step, turns_from, world_after}
 use Rattle.law_moves.proofs.Reading.{some-same}
 use Rattle.law_log.proofs.Turnings.{asks-self}
 use Rattle.group_eras.specs.Promise.{asks_among}
-use Rattle.group_eras.specs.Told.{Bases, event_in, op_in}
+use Rattle.group_eras.specs.Told.{Bases, event_in, op_for_era}
 
 pub turns-long : (w : World) (es : List Event) → length (turns_from w es) ≡ length es
 turns-long w [] = refl
@@ -66,13 +66,13 @@ module _ (bases : Bases) (k : ℕ) where
   pub record WasAsked (es : List Event) (j caller : ℕ) (op : Asked) (p : ProcessId) : Type 0 where
     pub asked : Asked
     pub there : slice_get es j ≡ Some (Ask caller asked p)
-    pub changed : op ≡ op_in bases k asked
+    pub changed : op ≡ op_for_era bases k asked
 
   one-asked : (e : Event) (caller : ℕ) (op : Asked) (p : ProcessId) → event_in bases k e ≡ Ask caller op p
-      → (asked : Asked) × (e ≡ Ask caller asked p) × (op ≡ op_in bases k asked)
+      → (asked : Asked) × (e ≡ Ask caller asked p) × (op ≡ op_for_era bases k asked)
   one-asked (Ask who asked q) caller op p is =
       let a : who ≡ caller = cc is in
-      let b : op_in bases k asked ≡ op = ap (λ (e : Event). op-of e) is in
+      let b : op_for_era bases k asked ≡ op = ap (λ (e : Event). op-of e) is in
       let c : q ≡ p = cc is in
       (asked, ap (λ (n : ℕ). Ask n asked q) a ∙ ap (λ (x : ProcessId). Ask caller asked x) c, sym b)
     where

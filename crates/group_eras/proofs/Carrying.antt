@@ -33,9 +33,9 @@ use Rattle.law_headline.proofs.Promises.{stands-always}
 use Rattle.law_moves.proofs.Reading.{some-same}
 use Rattle.group_eras.specs.Carry.{Parcel, begun, carried, expiry_of, read_era, reading, setting}
 use Rattle.group_eras.specs.Eras.{EraEntry, Eras, eras_after, next_bases, next_era}
-use Rattle.group_eras.specs.Items.{Load, bytes_in, loads, loads_of, settled_items}
+use Rattle.group_eras.specs.Items.{Load, bytes_in_partition, loads, loads_of, settled_items}
 use Rattle.group_eras.specs.Moments.{AreGot}
-use Rattle.group_eras.specs.Promise.{AreTold, HasCarried, IsEra, IsKept, WasThere, one_log, table_over}
+use Rattle.group_eras.specs.Promise.{AreTold, HasCarried, IsEra, IsItemKept, WasThere, one_log, table_over}
 use Rattle.group_eras.specs.Refusal.{CanCarry, IsAtRest, IsSuccessor}
 use Rattle.group_eras.specs.Told.{with_base}
 use Rattle.group_eras.proofs.Draining.{after-is, shape-after}
@@ -192,7 +192,7 @@ module _ (e : Eras) (stands : Stands e) (rest : IsAtRest e.world) where
     room d low =
         let below : d < s.k = subst (λ (k : ℕ). d < k) successor.partitions low in
         let most = can.space d below in
-        let is = weight-is s es rests d below ∙ ap (λ (v : World). bytes_in v d) (sym world) in
+        let is = weight-is s es rests d below ∙ ap (λ (v : World). bytes_in_partition v d) (sym world) in
         omega (arith, most, is)
 
     pub all-set : AllSet s' parcels [] [] parcels
@@ -447,14 +447,14 @@ module _ (e : Eras) (stands : Stands e) (rest : IsAtRest e.world) where
               cas = of.cas;
             }
 
-      kept3 : IsKept (table_over e) key h (table_over e3)
+      kept3 : IsItemKept (table_over e) key h (table_over e3)
       kept3 = by ((stands3.joined many3).items key) where
         home3 : home_of key e3.world.shape.k ≡ home_of key s.k
         home3 = ap (λ (v : World). home_of key v.shape.k) follows3.world_is ∙ ap (λ (t : Dimensions). home_of key t.k)
             (shape-after (opening s') sets) ∙ ap (home_of key) successor.partitions
 
         alike : (o : Option Holding) → (own_table e3).items key ≡ o → (table_over e3).items key
-            ≡ shift e3.bases (home_of key e3.world.shape.k) o → IsKept (table_over e) key h (table_over e3)
+            ≡ shift e3.bases (home_of key e3.world.shape.k) o → IsItemKept (table_over e) key h (table_over e3)
         alike None own is = absurd (cc (now.own, own))
         alike (Some x) own is =
             let same : x ≡ now.new = some-same x now.new (sym own ∙ now.own) in
@@ -475,7 +475,7 @@ module _ (e : Eras) (stands : Stands e) (rest : IsAtRest e.world) where
             }
 
         by : Meets e3.bases e3.world.shape.k many3 NoKey key ((table_over e3).items key) ((own_table e3).items key)
-            → IsKept (table_over e) key h (table_over e3)
+            → IsItemKept (table_over e) key h (table_over e3)
         by (inl (Alike is has)) = alike ((own_table e3).items key) refl is
         by (inl (Gone x is ends none)) = absurd (cc (now.own, none))
         by (inr both) = absurd both.0
@@ -549,6 +549,6 @@ module _ (e : Eras) (stands : Stands e) (rest : IsAtRest e.world) where
       shape = shape3;
       whole = λ p pin. ap (λ (v : World). is_dead v p) world3 ∙ setup.live p;
       drained = subst IsDrained (sym world3) setup.rests.drained;
-      kept = λ key h there live. subst (λ (x : Eras). IsKept (table_over e) key h (table_over x)) (sym carried-is) (kept3 key h there live);
+      kept = λ key h there live. subst (λ (x : Eras). IsItemKept (table_over e) key h (table_over x)) (sym carried-is) (kept3 key h there live);
       none_new = λ key h there live. was3 key h (ap (λ (x : Eras). (table_over x).items key) (sym carried-is) ∙ there) live;
     }

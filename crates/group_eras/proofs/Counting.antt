@@ -27,7 +27,7 @@ use Rattle.group_calls.specs.declared.event.Event.{Event}
 use Rattle.group_run.specs.Headline.{IsRun}
 use Rattle.group_run.specs.Meaning.{count_logged, updates_of}
 use Rattle.group_run.specs.Replica.{Items, item_settled, items_after, slot_after, slot_in, with_slot}
-use Rattle.group_run.specs.World.{Call, World, after, call_of, group_step, is_issued, opening, step, update_name, world_after}
+use Rattle.group_run.specs.World.{AskedCall, World, after, call_of, group_step, is_issued, opening, step, update_name, world_after}
 use Rattle.law_updates.specs.Fine.{ComesBefore, Fine}
 use Rattle.law_updates.specs.Store.{no_store}
 use Rattle.law_updates.proofs.Histories.{steps-each}
@@ -38,7 +38,7 @@ use Rattle.law_log.proofs.Values.{shown-long}
 use Rattle.law_log.proofs.Written.{log_shows_settled}
 use Rattle.law_headline.proofs.All.{whole-always}
 use Rattle.law_headline.proofs.Promises.{stands-always}
-use Rattle.group_eras.specs.Items.{load_from, loads, loads_in, loads_of, settled_items}
+use Rattle.group_eras.specs.Items.{load_of_slot, loads, loads_in, loads_of, settled_items}
 use Rattle.group_eras.specs.Moments.{CountsAreLow, LoadsAreFew}
 use Rattle.group_eras.proofs.Carrying as carrying
 use Rattle.group_eras.proofs.Draining.{shape-after}
@@ -54,7 +54,7 @@ events-are w [] = omega arith
 events-are w (e ∷ es) = let rest = events-are (step w e).world es in omega (arith, rest)
 
 -- no more calls are issued
-one-call : (o : Option Call) (answer : Answer) → length (issued_by o answer) ≤ 1
+one-call : (o : Option AskedCall) (answer : Answer) → length (issued_by o answer) ≤ 1
 one-call None answer = omega arith
 one-call (Some c) answer = by (is_issued answer) where
   by : (b : Bool) → length (call_if b c) ≤ 1
@@ -109,13 +109,13 @@ two-weak R T weak (x ∷ xs) two = (each xs two.0, two-weak R T weak xs two.1) w
   each [] all = tt
   each (y ∷ ys) all = (weak x y all.0, each ys all.1)
 
-in-names : (calls : List Call) (c : Call) → Contains calls c → Contains (map (λ x. x.name) calls) c.name
+in-names : (calls : List AskedCall) (c : AskedCall) → Contains calls c → Contains (map (λ x. x.name) calls) c.name
 in-names [] c there = absurd (let low = there.1 in omega (arith, low))
-in-names (x ∷ xs) c (zero, low, is) = (zero, omega arith, ap (λ (y : Call). y.name) is)
+in-names (x ∷ xs) c (zero, low, is) = (zero, omega arith, ap (λ (y : AskedCall). y.name) is)
 in-names (x ∷ xs) c (suc i, low, is) = let rest = in-names xs c (i, omega (arith, low), is) in (suc rest.0, (let less = rest.1 in omega (arith, less)), rest.2)
 
 module _ (s : Dimensions) (es : List Event) (run : IsRun s es) where
-  abbrev calls : List Call
+  abbrev calls : List AskedCall
   calls = (book_of s es).issued
 
   abbrev names : ℕ → List CallName
@@ -123,7 +123,7 @@ module _ (s : Dimensions) (es : List Event) (run : IsRun s es) where
 
   -- the call of a name of partition d
   record OfCall (d : ℕ) (name : CallName) : Type 0 where
-    pub call : Call
+    pub call : AskedCall
     pub there : Contains calls call
     pub named : call.name ≡ name
     pub home : home_of (key_of call.op.act) s.k ≡ d
@@ -152,7 +152,7 @@ module _ (s : Dimensions) (es : List Event) (run : IsRun s es) where
   homes-differ d e a b one two same =
       let calls-same : one.call ≡ two.call = same-issued calls one.call two.call (logs-of s es run).differ one.there
       two.there (one.named ∙ same ∙ sym two.named) in
-      sym one.home ∙ ap (λ (c : Call). home_of (key_of c.op.act) s.k) calls-same ∙ two.home
+      sym one.home ∙ ap (λ (c : AskedCall). home_of (key_of c.op.act) s.k) calls-same ∙ two.home
 
   -- the names of all settled updates
   all-names : ℕ → ℕ → List CallName
@@ -182,11 +182,11 @@ module _ (s : Dimensions) (es : List Event) (run : IsRun s es) where
 
   few-names : length (all-names 0 s.k) ≤ length es
   few-names =
-      let most = no-more (all-names 0 s.k) (map (λ (c : Call). c.name) calls) (all-differ s.k 0 (omega arith))
-      (each-weaker (FromOn 0) (Contains (map (λ (c : Call). c.name) calls))
-      (λ name of. subst (Contains (map (λ (c : Call). c.name) calls)) of.2.named
+      let most = no-more (all-names 0 s.k) (map (λ (c : AskedCall). c.name) calls) (all-differ s.k 0 (omega arith))
+      (each-weaker (FromOn 0) (Contains (map (λ (c : AskedCall). c.name) calls))
+      (λ name of. subst (Contains (map (λ (c : AskedCall). c.name) calls)) of.2.named
       (in-names calls of.2.call of.2.there)) (all-names 0 s.k) (are-from s.k 0 (omega arith))) in
-      let long = length-map calls (λ (c : Call). c.name) in
+      let long = length-map calls (λ (c : AskedCall). c.name) in
       let few = issued-few (no_book s) es in
       omega (arith, most, long, few)
 
@@ -246,11 +246,11 @@ items-few items (u ∷ us) =
     let one = with-few u.key (slot_after u.number u.body (slot_in items u.key)) items in
     omega (arith, rest, one)
 
-filter-few : (d : ℕ) (items : Items) → length (map (load_from d) (filter (λ x. is_live 0 x.1.until) items)) ≤ length items
+filter-few : (d : ℕ) (items : Items) → length (map (load_of_slot d) (filter (λ x. is_live 0 x.1.until) items)) ≤ length items
 filter-few d [] = omega arith
 filter-few d (x ∷ xs) = by (is_live 0 x.1.until) (filter-few d xs) where
-  by : (b : Bool) → length (map (load_from d) (filter (λ y. is_live 0 y.1.until) xs)) ≤ length xs
-      → length (map (load_from d) (cond b (x ∷ filter (λ y. is_live 0 y.1.until) xs) (filter (λ y. is_live 0 y.1.until) xs))) ≤ suc (length xs)
+  by : (b : Bool) → length (map (load_of_slot d) (filter (λ y. is_live 0 y.1.until) xs)) ≤ length xs
+      → length (map (load_of_slot d) (cond b (x ∷ filter (λ y. is_live 0 y.1.until) xs) (filter (λ y. is_live 0 y.1.until) xs))) ≤ suc (length xs)
   by true rest = omega (arith, rest)
   by false rest = omega (arith, rest)
 

@@ -10,7 +10,7 @@ use Rattle.group_types.specs.Names.{IsProcess, index_of, of_rank}
 use Rattle.group_types.specs.Shape.{IsShape}
 use Rattle.group_types.specs.declared.process.ProcessId.{ProcessId}
 use Rattle.group_types.specs.declared.process.ProcessId.TheVariants.{DataNode, ParityNode}
-use Rattle.memc_table.specs.Act.{value_of}
+use Rattle.memc_table.specs.Act.{act_value}
 use Rattle.memc_table.specs.Asked.{Asked}
 use Rattle.group_message.specs.declared.message.Message.{Message}
 use Rattle.group_message.specs.declared.update.Update.{Update}
@@ -24,9 +24,9 @@ use Rattle.group_run.specs.History.{History, history, prolonged}
 use Rattle.group_run.specs.Process.{Head}
 use Rattle.group_run.specs.Receiving.{receive}
 use Rattle.group_run.specs.Replica.{items_after}
-use Rattle.group_run.specs.World.{next_name, node_of}
+use Rattle.group_run.specs.World.{next_name, process_node}
 use Rattle.law_moves.proofs.Moves.{Acted, Asks, Popped}
-use Rattle.law_moves.specs.State.{IsUp, State, state_of}
+use Rattle.law_moves.specs.State.{IsGroupUp, State, state_of}
 use Rattle.law_moves.proofs.Events.{FramedHistory}
 use Rattle.law_moves.proofs.Members.{Members}
 use Rattle.law_moves.proofs.Keeping.{keeps}
@@ -67,15 +67,15 @@ module _ (limit : ℕ → List Update) where
           (keeper-rank d has.head.rank p (head-from s w d members below p has.head pin living has.heads).0) in
           begins-trans (w.settled d) (history (w.settled d) (replica_of (w.process p) d)) (limit d) kept.prolongs kept.fine.1
 
-    asks : (v w : State) (p : ProcessId) (name : CallName) (op : Asked) → IsProcess s p → IsUp s v → v.dead p ≡ false
-        → All (λ b. b < 256) (value_of op.act) → IssueKeeps (Upto limit) s v p name op
+    asks : (v w : State) (p : ProcessId) (name : CallName) (op : Asked) → IsProcess s p → IsGroupUp s v → v.dead p ≡ false
+        → All (λ b. b < 256) (act_value op.act) → IssueKeeps (Upto limit) s v p name op
         → AllUpto s v → Acted s v w p (ask_process s name op (v.process p)).step → AllUpto s w
     asks v w p name op pin up lives bytes issues all acts =
         upto-after v w p (reaching.asks-both (Upto limit) upto-laws s shaped v w p name op pin up lives bytes issues all.0 all.1 acts)
         ((keeps s shaped).treats v w p (ask_process s name op (v.process p)).step pin up lives (Asks name op bytes)
         all.0 acts) pin (acts.dead p pin ∙ lives) all
 
-    receives : (v u w : State) (x p : ProcessId) (m : Message) → IsProcess s x → IsProcess s p → x ≢ p → IsUp s v → v.dead p ≡ false → AllUpto s v
+    receives : (v u w : State) (x p : ProcessId) (m : Message) → IsProcess s x → IsProcess s p → x ≢ p → IsGroupUp s v → v.dead p ≡ false → AllUpto s v
         → Popped s v u x p m → Acted s u w p (receive s x m (v.process p)) → AllUpto s w
     receives v u w x p m xin pin apart up lives all pops acts =
         upto-after v w p (reaching.receives-both (Upto limit) upto-laws s shaped v u w x p m xin pin apart up lives all.0 all.1 pops acts)
@@ -87,10 +87,10 @@ module _ (limit : ℕ → List Update) where
       → AllUpto h.world.shape (state_of h) → AllUpto h.world.shape (state_of (prolonged h (Ask caller op p)))
   upto-ask h caller op p framed shaped may issues all =
       by (call-comes h.world.shape h.world.nodes h.settled framed p
-      (ask_process h.world.shape (next_name h.world caller) op (node_of h.world p).process) may.1
-      (node_of h.world p).down (node_of h.world p).dead refl refl) where
+      (ask_process h.world.shape (next_name h.world caller) op (process_node h.world p).process) may.1
+      (process_node h.world p).down (process_node h.world p).dead refl refl) where
         by : {w : State} {answer : Answer}
-            → Answers h.world.shape (state_of h) w p (ask_process h.world.shape (next_name h.world caller) op (node_of h.world p).process) answer
+            → Answers h.world.shape (state_of h) w p (ask_process h.world.shape (next_name h.world caller) op (process_node h.world p).process) answer
             → AllUpto h.world.shape w
         by (Idle same idle) = subst (AllUpto h.world.shape) (sym same) all
         by {w} (Acts up lives acts is) = asks h.world.shape shaped (state_of h) w p (next_name h.world caller) op may.1 up lives may.2 issues all acts
@@ -98,8 +98,8 @@ module _ (limit : ℕ → List Update) where
   pub upto-deliver : (h : History) (from to : ProcessId) → FramedHistory h → IsShape h.world.shape → MayCome h.world (Deliver from to)
       → AllUpto h.world.shape (state_of h) → AllUpto h.world.shape (state_of (prolonged h (Deliver from to)))
   upto-deliver h from to framed shaped may all =
-      by (message-comes h.world.shape h.world.nodes h.settled framed from to may.0 may.1 may.2 (node_of h.world to).down
-      (node_of h.world to).dead refl refl (at [] (node_of h.world from).links (index_of h.world.shape to)) refl) where
+      by (message-comes h.world.shape h.world.nodes h.settled framed from to may.0 may.1 may.2 (process_node h.world to).down
+      (process_node h.world to).dead refl refl (at [] (process_node h.world from).links (index_of h.world.shape to)) refl) where
         by : {w : State} → Delivers h.world.shape (state_of h) w from to → AllUpto h.world.shape w
         by (Nothing same) = subst (AllUpto h.world.shape) (sym same) all
         by {w} (Takes u m up lives pops acts) = receives h.world.shape shaped (state_of h) u w from to m may.0 may.1 may.2 up lives all pops acts

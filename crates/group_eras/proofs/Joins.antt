@@ -26,7 +26,7 @@ use Rattle.law_updates.proofs.Keys.{key-eq}
 use Rattle.law_log.proofs.Tables.{home-below}
 use Rattle.group_eras.specs.Eras.{EraEntry}
 use Rattle.group_eras.specs.Promise.{AreTold}
-use Rattle.group_eras.specs.Told.{Bases, op_in, told_reply, with_base, with_cas, without_base}
+use Rattle.group_eras.specs.Told.{Bases, op_for_era, told_reply, with_base, with_cas, without_base}
 use Rattle.group_eras.proofs.Shifts.{Alike, Gone, HasCas, IsSet, LeavesCas, Same, cas-live, ruling-cas, ruling-shift, same-live, set-shift, shift, shift_ruling}
 
 pub key-cas : (f : ℕ → ℕ) (act : Act) → key_of (with_cas f act) ≡ key_of act
@@ -144,12 +144,12 @@ module _ (bases : Bases) (k : ℕ) (some : 1 ≤ k) (Free : List ℕ → Type 0)
         by (inr both) = set-shift bases (home key) op.moment (count_of own key + 1) op.act
             (live_at op.moment (all.items key)) (live_at op.moment (own.items key)) (sets both.0)
 
-      own-ruling : ruling_on own (op_in bases k op) ≡ ruling_of op.moment (count_of own key + 1) act (live_at op.moment (own.items key))
+      own-ruling : ruling_on own (op_for_era bases k op) ≡ ruling_of op.moment (count_of own key + 1) act (live_at op.moment (own.items key))
       own-ruling = ap (λ (x : List ℕ). ruling_of op.moment (count_of own x + 1) act (live_at op.moment (own.items x)))
           (key-cas (without_base bases (home key)) op.act)
 
       -- what comes of the op is what comes of it in the era
-      pub ruling-joined : ruling_on all op ≡ shift_ruling bases (home key) (ruling_on own (op_in bases k op))
+      pub ruling-joined : ruling_on all op ≡ shift_ruling bases (home key) (ruling_on own (op_for_era bases k op))
       ruling-joined =
           ap (λ (n : ℕ). ruling_of op.moment n op.act (live_at op.moment (all.items key))) number
           ∙ meets ∙ ap (shift_ruling bases (home key)) (sym own-ruling)
@@ -161,17 +161,17 @@ module _ (bases : Bases) (k : ℕ) (some : 1 ≤ k) (Free : List ℕ → Type 0)
         by (inl (Gone h is ends none)) = subst HasCas (sym none) tt
         by (inr both) = subst HasCas (sym both.1) tt
 
-      leaves : LeavesCas (ruling_on own (op_in bases k op))
+      leaves : LeavesCas (ruling_on own (op_for_era bases k op))
       leaves = subst LeavesCas (sym own-ruling)
           (ruling-cas op.moment (count_of own key + 1) act (live_at op.moment (own.items key)) (omega arith)
           (cas-live bases (home key) op.moment (own.items key) own-cas))
 
-      pub reply-joined : reply_of all op ≡ told_reply bases (home key) (reply_of own (op_in bases k op))
-      reply-joined = ap reply_in ruling-joined ∙ by (ruling_on own (op_in bases k op)) (accepting own) where
+      pub reply-joined : reply_of all op ≡ told_reply bases (home key) (reply_of own (op_for_era bases k op))
+      reply-joined = ap reply_in ruling-joined ∙ by (ruling_on own (op_for_era bases k op)) (accepting own) where
         -- a reply that accepts has no number
-        accepting : (t : Contents) → Tells (ruling_on t (op_in bases k op))
-        accepting t = tells op.moment (count_of t (key_of (op_in bases k op).act) + 1) (op_in bases k op).act
-            (live_at op.moment (t.items (key_of (op_in bases k op).act)))
+        accepting : (t : Contents) → Tells (ruling_on t (op_for_era bases k op))
+        accepting t = tells op.moment (count_of t (key_of (op_for_era bases k op).act) + 1) (op_for_era bases k op).act
+            (live_at op.moment (t.items (key_of (op_for_era bases k op).act)))
 
         by : (r : Ruling) → Tells r → reply_in (shift_ruling bases (home key) r) ≡ told_reply bases (home key) (reply_in r)
         by (Refused reply) tells = refl
@@ -224,12 +224,12 @@ module _ (bases : Bases) (k : ℕ) (some : 1 ≤ k) (Free : List ℕ → Type 0)
           (if t then left else own.items other)) (sym is) (joined.items other)
 
     -- so they are joined after it
-    pub after-joined : (op : Asked) → SetsFree op → Joined (table_after all op) (table_after own (op_in bases k op))
+    pub after-joined : (op : Asked) → SetsFree op → Joined (table_after all op) (table_after own (op_for_era bases k op))
     after-joined op sets =
-        let r : Ruling = ruling_on own (op_in bases k op) in
+        let r : Ruling = ruling_on own (op_for_era bases k op) in
         let next : Joined (after_ruling all (key_of op.act) (shift_ruling bases (home (key_of op.act)) r))
         (after_ruling own (key_of op.act) r) = after (key_of op.act) r (leaves op sets) in
-        subst (λ (x : Ruling). Joined (after_ruling all (key_of op.act) x) (table_after own (op_in bases k op))) (sym (ruling-joined op sets))
+        subst (λ (x : Ruling). Joined (after_ruling all (key_of op.act) x) (table_after own (op_for_era bases k op))) (sym (ruling-joined op sets))
         (subst (λ (q : List ℕ). Joined (after_ruling all (key_of op.act) (shift_ruling bases (home (key_of op.act)) r))
         (after_ruling own q r)) (sym (key-cas (without_base bases (home (key_of op.act))) op.act)) next)
 
@@ -243,7 +243,7 @@ module _ (bases : Bases) (k : ℕ) (some : 1 ≤ k) (Free : List ℕ → Type 0)
   told-legal asked era all own (x ∷ xs) (y ∷ ys) joined legal are sets =
       let told = are.1 in
       let op : Asked = y.1.op in
-      let is : x.op ≡ op_in bases k op = told.op in
+      let is : x.op ≡ op_for_era bases k op = told.op in
       let next : Joined (table_after all op) (table_after own x.op) =
       subst (λ (o : Asked). Joined (table_after all op) (table_after own o)) (sym is)
       (after-joined all own joined op sets.0) in

@@ -11,20 +11,20 @@ use Rattle.memc_table.specs.Expiry.{is_live, longest_offset, until_of}
 use Rattle.group_run.specs.Replica.{Items}
 use Rattle.group_run.specs.World.{World}
 use Rattle.group_eras.specs.Carry.{expiry_of}
-use Rattle.group_eras.specs.Items.{Load, load_from, loads_in, loads_of}
+use Rattle.group_eras.specs.Items.{Load, load_of_slot, loads_in, loads_of}
 
 -- an item that lives is carried
 pub live-load : (d : ℕ) (items : Items) (x : List ℕ × Slot) → Contains items x → is_live 0 x.1.until ≡ true
-    → Contains (map (load_from d) (filter (λ y. is_live 0 y.1.until) items)) (load_from d x)
+    → Contains (map (load_of_slot d) (filter (λ y. is_live 0 y.1.until) items)) (load_of_slot d x)
 live-load d [] x there live = absurd (let low = there.1 in omega (arith, low))
 live-load d (y ∷ ys) x there live = by there (is_live 0 y.1.until) refl (λ rest. live-load d ys x rest live) where
   tail : List Load
-  tail = map (load_from d) (filter (λ z. is_live 0 z.1.until) ys)
+  tail = map (load_of_slot d) (filter (λ z. is_live 0 z.1.until) ys)
 
   by : Contains (y ∷ ys) x → (b : Bool) → is_live 0 y.1.until ≡ b
-      → (Contains ys x → Contains (map (load_from d) (filter (λ z. is_live 0 z.1.until) ys)) (load_from d x))
-      → Contains (map (load_from d) (cond b (y ∷ filter (λ z. is_live 0 z.1.until) ys) (filter (λ z. is_live 0 z.1.until) ys))) (load_from d x)
-  by (zero, low, is) true same later = (0, omega arith, ap (load_from d) is)
+      → (Contains ys x → Contains (map (load_of_slot d) (filter (λ z. is_live 0 z.1.until) ys)) (load_of_slot d x))
+      → Contains (map (load_of_slot d) (cond b (y ∷ filter (λ z. is_live 0 z.1.until) ys) (filter (λ z. is_live 0 z.1.until) ys))) (load_of_slot d x)
+  by (zero, low, is) true same later = (0, omega arith, ap (load_of_slot d) is)
   by (zero, low, is) false same later = absurd (cc (same, is, live))
   by (suc i, low, is) true same later = let rest = later (i, omega (arith, low), is) in (suc rest.0, (let less = rest.1 in omega (arith, less)), rest.2)
   by (suc i, low, is) false same later = later (i, omega (arith, low), is)

@@ -17,7 +17,7 @@ use Rattle.group_calls.specs.declared.event.Event.{Event}
 use Rattle.group_run.specs.Replica.{Items}
 use Rattle.group_run.specs.World.{World, after, opening}
 use Rattle.group_eras.specs.Carry.{Parcel}
-use Rattle.group_eras.specs.Items.{Load, bytes_in, load_from, loads, loads_in, loads_of, settled_items}
+use Rattle.group_eras.specs.Items.{Load, bytes_in_partition, load_of_slot, loads, loads_in, loads_of, settled_items}
 use Rattle.group_eras.proofs.Draining.{shape-after}
 use Rattle.group_eras.proofs.Finding as finding
 use Rattle.group_eras.proofs.Readings.{IsLoad, parcel_for, some-loads}
@@ -49,19 +49,20 @@ module _ (s : Dimensions) (es : List Event) (rests : Rests s es) where
   w = after s es
 
   -- of one partition
-  kept-two : (d : ℕ) (items : Items) → EachTwo (λ x y. x.0 ≢ y.0) items → EachTwo KeysApart (map (load_from d) (filter (λ x. is_live 0 x.1.until) items))
+  kept-two : (d : ℕ) (items : Items) → EachTwo (λ x y. x.0 ≢ y.0) items → EachTwo KeysApart (map (load_of_slot d) (filter (λ x. is_live 0 x.1.until) items))
   kept-two d [] two = tt
   kept-two d (x ∷ xs) two = by (is_live 0 x.1.until) (kept-two d xs two.1) where
-    others : (ys : Items) → Each (λ y. x.0 ≢ y.0) ys → Each (KeysApart (load_from d x)) (map (load_from d) (filter (λ y. is_live 0 y.1.until) ys))
+    others : (ys : Items) → Each (λ y. x.0 ≢ y.0) ys → Each (KeysApart (load_of_slot d x)) (map (load_of_slot d) (filter (λ y. is_live 0 y.1.until) ys))
     others [] all = tt
     others (y ∷ ys) all = keep (is_live 0 y.1.until) (others ys all.1) where
-      keep : (b : Bool) → Each (KeysApart (load_from d x)) (map (load_from d) (filter (λ z. is_live 0 z.1.until) ys))
-          → Each (KeysApart (load_from d x)) (map (load_from d) (cond b (y ∷ filter (λ z. is_live 0 z.1.until) ys) (filter (λ z. is_live 0 z.1.until) ys)))
+      keep : (b : Bool) → Each (KeysApart (load_of_slot d x)) (map (load_of_slot d) (filter (λ z. is_live 0 z.1.until) ys))
+          → Each (KeysApart (load_of_slot d x))
+          (map (load_of_slot d) (cond b (y ∷ filter (λ z. is_live 0 z.1.until) ys) (filter (λ z. is_live 0 z.1.until) ys)))
       keep true rest = (all.0, rest)
       keep false rest = rest
 
-    by : (b : Bool) → EachTwo KeysApart (map (load_from d) (filter (λ y. is_live 0 y.1.until) xs))
-        → EachTwo KeysApart (map (load_from d) (cond b (x ∷ filter (λ y. is_live 0 y.1.until) xs) (filter (λ y. is_live 0 y.1.until) xs)))
+    by : (b : Bool) → EachTwo KeysApart (map (load_of_slot d) (filter (λ y. is_live 0 y.1.until) xs))
+        → EachTwo KeysApart (map (load_of_slot d) (cond b (x ∷ filter (λ y. is_live 0 y.1.until) xs) (filter (λ y. is_live 0 y.1.until) xs)))
     by true rest = (others xs two.0, rest)
     by false rest = rest
 
@@ -70,12 +71,12 @@ module _ (s : Dimensions) (es : List Event) (rests : Rests s es) where
   OfPartition d x = (x.partition ≡ d) × (home_of x.key s.k ≡ d)
 
   of-one : (d : ℕ) (below : d < s.k) (items : Items) → ((x : List ℕ × Slot) → Contains items x → Contains (settled_items w d) x)
-      → Each (OfPartition d) (map (load_from d) (filter (λ x. is_live 0 x.1.until) items))
+      → Each (OfPartition d) (map (load_of_slot d) (filter (λ x. is_live 0 x.1.until) items))
   of-one d below [] within = tt
   of-one d below (x ∷ xs) within =
       by (is_live 0 x.1.until) (of-one d below xs (λ y there. within y (suc there.0, (let low = there.1 in omega (arith, low)), there.2))) where
-        by : (b : Bool) → Each (OfPartition d) (map (load_from d) (filter (λ y. is_live 0 y.1.until) xs))
-            → Each (OfPartition d) (map (load_from d) (cond b (x ∷ filter (λ y. is_live 0 y.1.until) xs) (filter (λ y. is_live 0 y.1.until) xs)))
+        by : (b : Bool) → Each (OfPartition d) (map (load_of_slot d) (filter (λ y. is_live 0 y.1.until) xs))
+            → Each (OfPartition d) (map (load_of_slot d) (cond b (x ∷ filter (λ y. is_live 0 y.1.until) xs) (filter (λ y. is_live 0 y.1.until) xs)))
         by true rest = ((refl, (finding.in-table s es rests d below x (within x (0, omega arith, refl))).home), rest)
         by false rest = rest
 
@@ -152,7 +153,7 @@ module _ (s : Dimensions) (es : List Event) (rests : Rests s es) where
       let rest = no-weight e n (a + 1) (omega (arith, above)) (omega (arith, low)) in
       omega (arith, both, here, rest)
 
-  weight-loads : (e n a : ℕ) → a ≤ e → e < a + n → a + n ≤ s.k → weight e (parcels_of (loads_of w (range_with_len a n))) ≡ bytes_in w e
+  weight-loads : (e n a : ℕ) → a ≤ e → e < a + n → a + n ≤ s.k → weight e (parcels_of (loads_of w (range_with_len a n))) ≡ bytes_in_partition w e
   weight-loads e zero a from to low = absurd (omega (arith, from, to))
   weight-loads e (suc n) a from to low = by (cases_eq a e) (λ above. weight-loads e n (a + 1) above (omega (arith, to)) (omega (arith, low))) where
     both : weight e (parcels_of (loads_of w (range_with_len a (suc n)))) ≡ weight e (parcels_of (loads_in w a)) + weight
@@ -163,14 +164,14 @@ module _ (s : Dimensions) (es : List Event) (rests : Rests s es) where
     one : weight e (parcels_of (loads_in w a)) ≡ weight_if (a == e) (sum_by (λ x. x.slot.len) (loads_in w a))
     one = weight-one a e (loads_in w a) (some-loads s w a (omega (arith, low)) (settled_items w a) (λ x there. there)) (of-partition a (omega (arith, low)))
 
-    by : (a ≡ e) ⊎ (a ≢ e) → (a + 1 ≤ e → weight e (parcels_of (loads_of w (range_with_len (a + 1) n))) ≡ bytes_in w e)
-        → weight e (parcels_of (loads_of w (range_with_len a (suc n)))) ≡ bytes_in w e
+    by : (a ≡ e) ⊎ (a ≢ e) → (a + 1 ≤ e → weight e (parcels_of (loads_of w (range_with_len (a + 1) n))) ≡ bytes_in_partition w e)
+        → weight e (parcels_of (loads_of w (range_with_len a (suc n)))) ≡ bytes_in_partition w e
     by (inl same) later =
-        let here : weight_if (a == e) (sum_by (λ x. x.slot.len) (loads_in w a)) ≡ bytes_in w a =
+        let here : weight_if (a == e) (sum_by (λ x. x.slot.len) (loads_in w a)) ≡ bytes_in_partition w a =
         ap (λ (b : Bool). weight_if b (sum_by (λ x. x.slot.len) (loads_in w a))) (eq-eqb a e same) in
         let rest = no-weight e n (a + 1) (omega (arith, same)) (omega (arith, low)) in
-        let all : weight e (parcels_of (loads_of w (range_with_len a (suc n)))) ≡ bytes_in w a = omega (arith, both, one, here, rest) in
-        all ∙ ap (bytes_in w) same
+        let all : weight e (parcels_of (loads_of w (range_with_len a (suc n)))) ≡ bytes_in_partition w a = omega (arith, both, one, here, rest) in
+        all ∙ ap (bytes_in_partition w) same
     by (inr other) later =
         let none : weight_if (a == e) (sum_by (λ x. x.slot.len) (loads_in w a)) ≡ 0 =
         ap (λ (b : Bool). weight_if b (sum_by (λ x. x.slot.len) (loads_in w a))) (ne_eqb a e other) in
@@ -178,6 +179,6 @@ module _ (s : Dimensions) (es : List Event) (rests : Rests s es) where
         omega (arith, both, one, none, rest)
 
   -- all values of a partition have as many bytes as its items
-  pub weight-is : (d : ℕ) → d < s.k → weight d (parcels_of (loads w)) ≡ bytes_in w d
+  pub weight-is : (d : ℕ) → d < s.k → weight d (parcels_of (loads w)) ≡ bytes_in_partition w d
   weight-is d below = ap (λ (k : ℕ). weight d (parcels_of (loads_of w (range_with_len 0 k)))) partitions
       ∙ weight-loads d s.k 0 (omega arith) (omega (arith, below)) (omega arith)

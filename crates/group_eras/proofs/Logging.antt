@@ -26,7 +26,7 @@ use Rattle.group_calls.specs.declared.event.Answer.{Answer}
 use Rattle.group_calls.specs.declared.event.Answer.TheVariants as says
 use Rattle.group_calls.specs.declared.event.Event.{Event}
 use Rattle.group_run.specs.Applying.{Settlement}
-use Rattle.group_run.specs.World.{Call, Ledger, Ticket, World, call_of, entries_for, entry_then, group_step, grown}
+use Rattle.group_run.specs.World.{AskedCall, Ledger, Ticket, World, call_of, entries_for, entry_then, group_step, grown}
 use Rattle.group_run.specs.World.{ledger_after, ledger_with, logged_at_once, new_ones, op_in, refusal_logged}
 use Rattle.group_run.specs.World.{settled_in, step, tickets_after, update_name}
 use Rattle.law_moves.proofs.Reading.{grown-is}
@@ -62,7 +62,7 @@ in-ledger tickets settled (d ∷ ds) ledger e there = by (in-ledger tickets sett
   by (inl here) = split (news d) here
   by (inr accepted) = inr accepted
 
-at-once : (o : Option Call) (answer : Answer) (e : Entry) → Contains (logged_at_once o answer) e → (c : Call) × (o ≡ Some c) × (name_of e ≡ c.name)
+at-once : (o : Option AskedCall) (answer : Answer) (e : Entry) → Contains (logged_at_once o answer) e → (c : AskedCall) × (o ≡ Some c) × (name_of e ≡ c.name)
 at-once None answer e there = absurd (let low = there.1 in omega (arith, low))
 at-once (Some c) answer e there = (c, refl, by answer there) where
   refusal : (b : Bool) (r : Reply) → Contains (refusal_logged b c r) e → name_of e ≡ c.name
@@ -88,7 +88,7 @@ at-once (Some c) answer e there = (c, refl, by answer there) where
 
 -- an entry that an event logs is of the call that it asks, or accepted
 pub own-or-accepted : (w : World) (e : Event) (entry : Entry) → Contains (step w e).turn.logged entry
-    → ((c : Call) × (call_of w e ≡ Some c) × (name_of entry ≡ c.name)) ⊎ (accepts entry.reply ≡ true)
+    → ((c : AskedCall) × (call_of w e ≡ Some c) × (name_of entry ≡ c.name)) ⊎ (accepts entry.reply ≡ true)
 own-or-accepted w e entry there = by (in-ledger tickets (group_step w e).settled (range_with_len 0 w.shape.k) start entry there) where
   tickets : List Ticket
   tickets = tickets_after (length w.log) (call_of w e) (group_step w e).answer w.tickets
@@ -97,7 +97,7 @@ own-or-accepted w e entry there = by (in-ledger tickets (group_step w e).settled
   start = record { logged = logged_at_once (call_of w e) (group_step w e).answer; places = w.places }
 
   by : Contains (logged_at_once (call_of w e) (group_step w e).answer) entry ⊎ (accepts entry.reply ≡ true)
-      → ((c : Call) × (call_of w e ≡ Some c) × (name_of entry ≡ c.name)) ⊎ (accepts entry.reply ≡ true)
+      → ((c : AskedCall) × (call_of w e ≡ Some c) × (name_of entry ≡ c.name)) ⊎ (accepts entry.reply ≡ true)
   by (inl here) = inl (at-once (call_of w e) (group_step w e).answer entry here)
   by (inr accepted) = inr accepted
 

@@ -11,7 +11,7 @@ use Rattle.group_types.specs.Dimensions.{Dimensions}
 use Rattle.group_types.specs.Hash.{home_of}
 use Rattle.group_types.specs.Lists.{at}
 use Rattle.group_types.specs.declared.process.ProcessId.{ProcessId}
-use Rattle.memc_table.specs.Act.{key_of, value_of}
+use Rattle.memc_table.specs.Act.{act_value, key_of}
 use Rattle.memc_table.specs.Asked.{Asked}
 use Rattle.memc_table.specs.Contents.{empty_table}
 use Rattle.memc_table.specs.declared.act.Act.{Act}
@@ -23,7 +23,7 @@ use Rattle.group_calls.specs.declared.entry.Entry.{Entry}
 use Rattle.group_calls.specs.declared.event.Event.{Event}
 use Rattle.group_calls.specs.declared.event.Event.TheVariants.{Ask, Collect, Deliver, Fail, Flush, Trace}
 use Rattle.group_run.specs.Headline.{Headline, IsRun, MayCome}
-use Rattle.group_run.specs.World.{Call, World, after, call_of, next_name, opening, same_call, step, turns_of}
+use Rattle.group_run.specs.World.{AskedCall, World, after, call_of, next_name, opening, same_call, step, turns_of}
 use Rattle.law_moves.proofs.Reading.{grown-is, some-same}
 use Rattle.law_log.specs.Book.{no_book}
 use Rattle.law_log.proofs.Books.{book-turns, book-world}
@@ -33,7 +33,7 @@ use Rattle.law_headline.proofs.Headlines.{headline_always}
 use Rattle.law_answers.proofs.Entries.{after-more, run-more, turns-more}
 use Rattle.group_eras.specs.Eras.{EraEntry, Eras, era_step, logged_in_era}
 use Rattle.group_eras.specs.Promise.{AreTold, IsAskOf, IsEra, TellsEntry, asks_among}
-use Rattle.group_eras.specs.Told.{Bases, event_in, op_in, op_out, told_entry, told_op, told_reply, with_base, with_cas, without_base}
+use Rattle.group_eras.specs.Told.{Bases, event_in, op_for_era, op_out, told_entry, told_op, told_reply, with_base, with_cas, without_base}
 use Rattle.group_eras.proofs.Asking.{WasAsked, among-all, among-before, among-in, among-map, turn-event, turns-asks, turns-long, was-asked}
 use Rattle.group_eras.proofs.Joins.{key-cas}
 use Rattle.group_eras.proofs.Logging.{AllHaveCas, BringsCas, accepted-brings, own-or-accepted}
@@ -45,7 +45,7 @@ asked-among s es run caller =
     ∙ ap (asks_of caller) (book-turns (no_book s) es) ∙ among-all caller (opening s) es
 
 -- an event comes in as it is asked, but for its cas number
-value-cas : (f : ℕ → ℕ) (act : Act) → value_of (with_cas f act) ≡ value_of act
+value-cas : (f : ℕ → ℕ) (act : Act) → act_value (with_cas f act) ≡ act_value act
 value-cas f (Get key) = refl
 value-cas f (Set key flags expiry value) = refl
 value-cas f (Add key flags expiry value) = refl
@@ -86,9 +86,9 @@ cas-back bases d (Prepend key value) some = refl
 cas-back bases d (Incr key by) some = refl
 cas-back bases d (Decr key by) some = refl
 
-op-back : (bases : Bases) (k : ℕ) (op : Asked) → BringsCas (op_in bases k op).act → op_out bases k (op_in bases k op) ≡ op
+op-back : (bases : Bases) (k : ℕ) (op : Asked) → BringsCas (op_for_era bases k op).act → op_out bases k (op_for_era bases k op) ≡ op
 op-back bases k op some =
-    ap (λ (d : ℕ). record { moment = op.moment; act = with_cas (with_base bases d) (op_in bases k op).act })
+    ap (λ (d : ℕ). record { moment = op.moment; act = with_cas (with_base bases d) (op_for_era bases k op).act })
     (ap (λ (key : List ℕ). home_of key k) (key-cas (without_base bases (home_of (key_of op.act) k)) op.act))
     ∙ ap (λ (act : Act). record { moment = op.moment; act = act }) (cas-back bases (home_of (key_of op.act) k) op.act some)
 
@@ -195,7 +195,7 @@ module _ (e : Eras) (era : IsEra e) (event : Event) (may : MayCome e.world event
       pub low : place ≤ length era.asked
       pub op : Asked
       pub there : slice_get asked place ≡ Some (Ask entry.caller op at)
-      pub came_in : entry.op ≡ op_in e.bases k op
+      pub came_in : entry.op ≡ op_for_era e.bases k op
       pub counted : asks_among entry.caller (take place asked) ≡ entry.call
 
     found : Found
@@ -242,11 +242,11 @@ module _ (e : Eras) (era : IsEra e) (event : Event) (may : MayCome e.world event
           let all = counted-all entry.caller in
           omega (arith, before, same, all)
 
-      not-own : (o : Event) → (c : Call) → call_of e.world o ≡ Some c → name_of entry ≡ c.name → ⊥
+      not-own : (o : Event) → (c : AskedCall) → call_of e.world o ≡ Some c → name_of entry ≡ c.name → ⊥
       not-own (Ask who op p) c is same =
           let call : record { name = next_name e.world who; op = op } ≡ c = some-same (record { name = next_name e.world who; op = op }) c is in
-          let one : entry.caller ≡ who = ap (λ (n : CallName). n.caller) (same ∙ ap (λ (x : Call). x.name) (sym call)) in
-          let two : entry.call ≡ at 0 e.world.asked who = ap (λ (n : CallName). n.call) (same ∙ ap (λ (x : Call). x.name) (sym call)) in
+          let one : entry.caller ≡ who = ap (λ (n : CallName). n.caller) (same ∙ ap (λ (x : AskedCall). x.name) (sym call)) in
+          let two : entry.call ≡ at 0 e.world.asked who = ap (λ (n : CallName). n.call) (same ∙ ap (λ (x : AskedCall). x.name) (sym call)) in
           let three : at 0 e.world.asked entry.caller ≡ at 0 e.world.asked who = ap (at 0 e.world.asked) one in
           omega (arith, fewer, two, three)
       not-own (Collect who call p) c is same = absurd (cc is)
@@ -255,7 +255,7 @@ module _ (e : Eras) (era : IsEra e) (event : Event) (may : MayCome e.world event
       not-own (Flush p) c is same = absurd (cc is)
       not-own (Trace who call d p) c is same = absurd (cc is)
 
-      by : ((c : Call) × (call_of e.world came ≡ Some c) × (name_of entry ≡ c.name)) ⊎ (accepts entry.reply ≡ true) → op_out e.bases k entry.op ≡ f.op
+      by : ((c : AskedCall) × (call_of e.world came ≡ Some c) × (name_of entry ≡ c.name)) ⊎ (accepts entry.reply ≡ true) → op_out e.bases k entry.op ≡ f.op
       by (inl own) = absurd (not-own came own.0 own.1 own.2)
       by (inr accepted) = ap (op_out e.bases k) f.came_in ∙ op-back e.bases k f.op (subst (λ (x : Asked). BringsCas x.act) f.came_in (brings-cas accepted))
 
@@ -304,9 +304,9 @@ module _ (e : Eras) (era : IsEra e) (event : Event) (may : MayCome e.world event
         record {
           name = refl;
           was_asked = subst (IsAskOf asked name) (sym is) (record { place = f.place; at = f.at; there = f.there; counted = f.counted });
-          op = f.came_in ∙ ap (op_in e.bases k) (sym is);
+          op = f.came_in ∙ ap (op_for_era e.bases k) (sym is);
           reply = ap (λ (key : List ℕ). told_reply e.bases (home_of key k) entry.reply)
-              (ap (λ (x : Asked). key_of x.act) (f.came_in ∙ ap (op_in e.bases k) (sym is))
+              (ap (λ (x : Asked). key_of x.act) (f.came_in ∙ ap (op_for_era e.bases k) (sym is))
               ∙ key-cas (without_base e.bases (home_of (key_of (told_op e.bases k (call_of e.world event) entry).act)
               k)) (told_op e.bases k (call_of e.world event) entry).act);
         }

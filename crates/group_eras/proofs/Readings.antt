@@ -27,7 +27,7 @@ use Rattle.group_run.specs.World.{World, after, opening, step, turns_from, world
 use Rattle.law_updates.specs.Store.{store_after}
 use Rattle.group_eras.specs.Carry.{Getting, Parcel, Reading, get_with, got, parcel_of, read_all, reading}
 use Rattle.group_eras.specs.Eras.{carrier}
-use Rattle.group_eras.specs.Items.{Load, load_from, loads, loads_in, loads_of, settled_items}
+use Rattle.group_eras.specs.Items.{Load, load_of_slot, loads, loads_in, loads_of, settled_items}
 use Rattle.group_eras.specs.Moments.{AreGot, HasItem}
 use Rattle.group_eras.proofs.Draining.{after-is, shape-after}
 use Rattle.group_eras.proofs.Finding as finding
@@ -63,12 +63,12 @@ pub record IsLoad (s : Dimensions) (w : World) (x : Load) : Type 0 where
 module _ (s : Dimensions) (w : World) where
   pub some-loads : (d : ℕ) → d < s.k → (items : Items)
       → ((x : List ℕ × Slot) → Contains items x → Contains (settled_items w d) x)
-      → Each (IsLoad s w) (map (load_from d) (filter (λ x. is_live 0 x.1.until) items))
+      → Each (IsLoad s w) (map (load_of_slot d) (filter (λ x. is_live 0 x.1.until) items))
   some-loads d below [] within = tt
   some-loads d below (x ∷ xs) within =
       by (is_live 0 x.1.until) refl (some-loads d below xs (λ y there. within y (suc there.0, (let low = there.1 in omega (arith, low)), there.2))) where
-        by : (b : Bool) → is_live 0 x.1.until ≡ b → Each (IsLoad s w) (map (load_from d) (filter (λ y. is_live 0 y.1.until) xs))
-            → Each (IsLoad s w) (map (load_from d) (cond b (x ∷ filter (λ y. is_live 0 y.1.until) xs) (filter (λ y. is_live 0 y.1.until) xs)))
+        by : (b : Bool) → is_live 0 x.1.until ≡ b → Each (IsLoad s w) (map (load_of_slot d) (filter (λ y. is_live 0 y.1.until) xs))
+            → Each (IsLoad s w) (map (load_of_slot d) (cond b (x ∷ filter (λ y. is_live 0 y.1.until) xs) (filter (λ y. is_live 0 y.1.until) xs)))
         by true live rest = (record { below = below; there = within x (0, omega arith, refl); live = live }, rest)
         by false live rest = rest
 

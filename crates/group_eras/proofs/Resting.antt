@@ -31,7 +31,7 @@ use Rattle.group_calls.specs.declared.event.Event.TheVariants.{Ask, Collect, Del
 use Rattle.group_run.specs.Applying.{head_at, replica_of}
 use Rattle.group_run.specs.Asking.{found_at}
 use Rattle.group_run.specs.Deciding.{Bytes, Found, Missing, blind_reply, decide, decide_blind, decide_found}
-use Rattle.group_run.specs.Deciding.{decide_ruled, decide_waiting, item_found, length_of, run_needed, ruling_with}
+use Rattle.group_run.specs.Deciding.{decide_ruled, decide_waiting, item_found, slot_length, run_needed, ruling_with}
 use Rattle.group_run.specs.Deciding.{unseen, waits_for}
 use Rattle.group_run.specs.Headline.{IsRun, MayCome}
 use Rattle.group_run.specs.History.{History, history, prolonged}
@@ -99,7 +99,7 @@ get-decides space inherited r op read get = by (waits_for inherited op.act (numb
 
   by : (o : Option ℕ) → NotIssued (decide_waiting space r op read slot o)
   by (Some n) = tt
-  by None = blind (blind_reply (length_of slot) (ruling_with r op slot (unseen slot)))
+  by None = blind (blind_reply (slot_length slot) (ruling_with r op slot (unseen slot)))
 
 pub get-keeps : (F : ℕ → ℕ → List Update → Type 0) (s : Dimensions) (v : State) (p : ProcessId) (name : CallName)
     (op : Asked) → IsGet op.act → IssueKeeps F s v p name op

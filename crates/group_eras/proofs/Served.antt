@@ -20,7 +20,7 @@ use Rattle.memc_table.specs.Expiry.{until_of}
 use Rattle.memc_table.specs.declared.holding.Holding.{Holding}
 use Rattle.memc_table.specs.declared.reply.Reply.TheVariants as reply
 use Rattle.group_message.specs.declared.update.Update.{Update}
-use Rattle.group_calls.specs.Turns.{CallName, Turn, asks_of, entry_of}
+use Rattle.group_calls.specs.Turns.{CallName, Turn, asks_of, call_entry}
 use Rattle.group_calls.specs.Within.{IsAsk}
 use Rattle.group_calls.specs.declared.entry.Entry.{Entry}
 use Rattle.group_calls.specs.declared.event.Answer.{Answer}
@@ -313,21 +313,21 @@ module _ (s : Dimensions) (es : List Event) (rests : Rests s es) (live : AllLive
               ∙ ap (asks_of carrier) (take-whole (turns_of s es) (length es) (let long = turns-long (opening s) es in omega (arith, long)))
               ∙ among-all carrier (opening s) es ∙ sym (asked-among s es rests.run carrier);
         } in
-        let logged : Contains (step w put_event).turn.logged (entry_of put_name op reply.Stored) =
+        let logged : Contains (step w put_event).turn.logged (call_entry put_name op reply.Stored) =
         within.at_once (length es) (step w put_event).turn put_name op reply.Stored ask is in
-        let in-log : Contains (step w put_event).world.log (entry_of put_name op reply.Stored)
-        = subst (λ (log : List Entry). Contains log (entry_of put_name op reply.Stored))
+        let in-log : Contains (step w put_event).world.log (call_entry put_name op reply.Stored)
+        = subst (λ (log : List Entry). Contains log (call_entry put_name op reply.Stored))
         (sym (grown-is w.log (step w put_event).turn.logged))
-        (Contains-append_right w.log (step w put_event).turn.logged (entry_of put_name op reply.Stored) logged) in
-        let at-end : Contains (after s done_put).log (entry_of put_name op reply.Stored)
-        = subst (λ (v : World). Contains v.log (entry_of put_name op reply.Stored)) (sym (ap (after s) (sym there) ∙ after-is s after_put drain))
-        (log-grows (after s after_put) drain (entry_of put_name op reply.Stored)
-        (subst (λ (v : World). Contains v.log (entry_of put_name op reply.Stored)) (sym next) in-log)) in
+        (Contains-append_right w.log (step w put_event).turn.logged (call_entry put_name op reply.Stored) logged) in
+        let at-end : Contains (after s done_put).log (call_entry put_name op reply.Stored)
+        = subst (λ (v : World). Contains v.log (call_entry put_name op reply.Stored)) (sym (ap (after s) (sym there) ∙ after-is s after_put drain))
+        (log-grows (after s after_put) drain (call_entry put_name op reply.Stored)
+        (subst (λ (v : World). Contains v.log (call_entry put_name op reply.Stored)) (sym next) in-log)) in
         let world : (book_of s done_put).history.world ≡ after s done_put = book-world s done_put in
         let all = (logs-of s done_put rests-put.run).stands.entries in
         let stands = each-contained (EntryStands (book_of s done_put).history.world.shape (book_of s done_put).issued
         (book_of s done_put).history.settled) (book_of s done_put).history.world.log
-        (entry_of put_name op reply.Stored) all (subst (λ (v : World). Contains v.log (entry_of put_name op reply.Stored)) (sym world) at-end) in
+        (call_entry put_name op reply.Stored) all (subst (λ (v : World). Contains v.log (call_entry put_name op reply.Stored)) (sym world) at-end) in
         entry-named stands
       where
         home-end : home_of key (book_of s done_put).history.world.shape.k ≡ d
@@ -335,7 +335,7 @@ module _ (s : Dimensions) (es : List Event) (rests : Rests s es) (live : AllLive
             ∙ ap (λ (t : Dimensions). home_of key t.k) (shape-after (opening s) done_put) ∙ home
 
         entry-named : EntryStands (book_of s done_put).history.world.shape (book_of s done_put).issued
-            (book_of s done_put).history.settled (entry_of put_name op reply.Stored)
+            (book_of s done_put).history.settled (call_entry put_name op reply.Stored)
             → HasNamed (settled_of s done_put d) put_name
         entry-named (inl entry) = record {
           update = entry.update;

@@ -13,7 +13,7 @@ use Rattle.group_message.specs.declared.update.Outcome.TheVariants as ends
 use Rattle.group_message.specs.declared.update.Update.{Update}
 use Rattle.group_calls.specs.declared.decision.Decision.TheVariants as decides
 use Rattle.group_run.specs.Deciding.{Bytes, Found, decide, decide_accepted, decide_blind, decide_left, decide_placed}
-use Rattle.group_run.specs.Deciding.{decide_waiting, decide_written, blind_reply, length_of, ruling_with, unseen}
+use Rattle.group_run.specs.Deciding.{decide_waiting, decide_written, blind_reply, slot_length, ruling_with, unseen}
 use Rattle.group_run.specs.Deciding.{waits_for, window}
 use Rattle.group_run.specs.Free.{place_for}
 use Rattle.group_run.specs.Replica.{Replica, last_of, number_on, slot_in}
@@ -33,7 +33,7 @@ module _ (key : List ℕ) (flags : ℕ) (expiry : ℤ) (value : List ℕ) where
     pub decide-put : decide space inherited r put_op read ≡ decides.Issue (body_with run under) ends.Stored
     decide-put =
         ap (λ (log : List Update). decide_waiting space r put_op read (slot_in r.items key) (waits_for inherited put_op.act (number_on log key))) quiet
-        ∙ ap (λ (slot : Option Slot). decide_blind space r put_op read slot (blind_reply (length_of slot) (ruling_with r put_op slot (unseen slot)))) new
+        ∙ ap (λ (slot : Option Slot). decide_blind space r put_op read slot (blind_reply (slot_length slot) (ruling_with r put_op slot (unseen slot)))) new
         ∙ ap (λ (log : List Update). decide_accepted (nat_le window (length log)) r (decide_left space r read ends.Stored false (Some h))) quiet
         ∙ ap (decide_placed read ends.Stored h) place
         ∙ ap (decide_written ends.Stored h run) reads

@@ -12,7 +12,7 @@ use Rattle.memc_table.specs.Asked.{Asked}
 use Rattle.memc_table.specs.Contents.{count_of, empty_table}
 use Rattle.memc_table.specs.declared.reply.Reply.{Reply}
 use Rattle.group_calls.specs.Log.{table_of}
-use Rattle.group_calls.specs.Turns.{CallName, Turn, entry_of}
+use Rattle.group_calls.specs.Turns.{CallName, Turn, call_entry}
 use Rattle.group_calls.specs.Within.{IsAsk}
 use Rattle.group_calls.specs.declared.entry.Entry.{Entry}
 use Rattle.group_calls.specs.declared.event.Answer.{Answer}
@@ -25,7 +25,7 @@ use Rattle.group_run.specs.Causes.{AskCause, home_in}
 use Rattle.group_run.specs.Headline.{KeepsAll, MayCome}
 use Rattle.group_run.specs.Meaning.{IsDown, count_logged, is_dead, process_of, updates_of}
 use Rattle.group_run.specs.Replica.{last_of}
-use Rattle.group_run.specs.World.{Call, World, after, next_name, opening, step, turns_of}
+use Rattle.group_run.specs.World.{AskedCall, World, after, next_name, opening, step, turns_of}
 use Rattle.law_updates.specs.Store.{no_store}
 use Rattle.law_log.proofs.Entries.{call-refl}
 use Rattle.law_log.proofs.Tables.{home-below}
@@ -38,7 +38,7 @@ use Rattle.law_answers.proofs.Asks.{asks_always}
 use Rattle.group_eras.specs.Eras.{EraEntry, Eras, era_step, turn_in}
 use Rattle.group_eras.specs.Numbers.{RepliesAreLogged, TicketsAreNew}
 use Rattle.group_eras.specs.Promise.{asks_among, table_over}
-use Rattle.group_eras.specs.Told.{Bases, op_in, op_out, told_answer, told_entry, told_reply, with_base, without_base}
+use Rattle.group_eras.specs.Told.{Bases, op_for_era, op_out, told_answer, told_entry, told_reply, with_base, without_base}
 use Rattle.group_eras.proofs.Asking.{turns-asks}
 use Rattle.group_eras.proofs.Joins.{key-cas}
 use Rattle.group_eras.proofs.Making as making
@@ -97,7 +97,7 @@ module _ (e : Eras) (stands : Stands e) (caller : ℕ) (op : Asked) (p : Process
   event = Ask caller op p
 
   abbrev came : Asked
-  came = op_in e.bases e.world.shape.k op
+  came = op_for_era e.bases e.world.shape.k op
 
   abbrev name : CallName
   name = next_name e.world caller
@@ -106,7 +106,7 @@ module _ (e : Eras) (stands : Stands e) (caller : ℕ) (op : Asked) (p : Process
   turn = turn_in e (Ask caller op p)
 
   asks : IsAsk (turns_of s (making.events e stands.era event may)) (length stands.era.events)
-      (turn_in e (Ask caller op p)) (next_name e.world caller) (op_in e.bases e.world.shape.k op)
+      (turn_in e (Ask caller op p)) (next_name e.world caller) (op_for_era e.bases e.world.shape.k op)
   asks = record {
     there = making.last-turn e stands.era event may;
     at = p;
@@ -118,17 +118,17 @@ module _ (e : Eras) (stands : Stands e) (caller : ℕ) (op : Asked) (p : Process
   }
 
   pub replied : (r : Reply) → (era_step e (Ask caller op p)).answer ≡ says.Reply r
-      → Contains (era_step e (Ask caller op p)).logged (e.era, entry_of (next_name e.world caller) op r)
+      → Contains (era_step e (Ask caller op p)).logged (e.era, call_entry (next_name e.world caller) op r)
   replied r is =
       let was = told-replied e.bases d turn.answer r is in
       let x : Reply = was.0 in
-      let entry : Entry = entry_of name came x in
+      let entry : Entry = call_entry name came x in
       let logged : Contains turn.logged entry = (making.headline e stands.era event may).one_log.within.at_once
       (length stands.era.events) turn name came x asks was.1 in
-      let c : Call = record { name = name; op = op } in
+      let c : AskedCall = record { name = name; op = op } in
       let tell : Entry → EraEntry = λ y. (e.era, told_entry e.bases k (Some c) y) in
-      let told : told_entry e.bases k (Some c) entry ≡ entry_of name op r
-      = ap₂ (λ (o : Asked) (y : Reply). entry_of name o y) (ap (λ (b : Bool). if b then op else op_out e.bases k came) (call-refl name))
+      let told : told_entry e.bases k (Some c) entry ≡ call_entry name op r
+      = ap₂ (λ (o : Asked) (y : Reply). call_entry name o y) (ap (λ (b : Bool). if b then op else op_out e.bases k came) (call-refl name))
       (ap (λ (key : List ℕ). told_reply e.bases (home_of key k) x) (key-cas (without_base e.bases d) op.act) ∙ was.2) in
       subst (λ (y : Entry). Contains (map tell turn.logged) (e.era, y)) told (contains-map tell turn.logged entry logged)
 
@@ -170,11 +170,11 @@ module _ (e : Eras) (stands : Stands e) (caller : ℕ) (op : Asked) (p : Process
         at-run up zero pin lives low = ((headline_always s stands.era.events stands.era.run).not_undone up).at_data d (pin, lives)
         at-run up (suc i) pin lives low = ((headline_always s stands.era.events stands.era.run).not_undone up).at_parity i d low (pin, lives)
 
-    home-same : home_in e.world (op_in e.bases e.world.shape.k op) ≡ d
+    home-same : home_in e.world (op_for_era e.bases e.world.shape.k op) ≡ d
     home-same = ap (λ (key : List ℕ). home_of key k) (key-cas (without_base e.bases d) op.act)
 
-    causes : AskCause e.world (step e.world (Ask caller (op_in e.bases e.world.shape.k op) p)).world p
-        (op_in e.bases e.world.shape.k op) (turn_in e (Ask caller op p)).answer
+    causes : AskCause e.world (step e.world (Ask caller (op_for_era e.bases e.world.shape.k op) p)).world p
+        (op_for_era e.bases e.world.shape.k op) (turn_in e (Ask caller op p)).answer
     causes = subst (λ (v : World). MayCome v (Ask caller came p) → AskCause v (step v (Ask caller came p)).world p came
         (step v (Ask caller came p)).turn.answer) (sym stands.era.stands)
         (asks_always s stands.era.events stands.era.run caller came p) (may-in e.bases k e.world event may)

@@ -25,7 +25,7 @@ use Rattle.group_run.specs.Meaning.{is_dead, link, process_of}
 use Rattle.group_run.specs.Process.{Head, Node, Process}
 use Rattle.group_run.specs.Progress.{load_of, weight_of}
 use Rattle.group_run.specs.Replica.{with_update}
-use Rattle.group_run.specs.World.{World, after, if_up, next_name, node_after, node_in, node_of, opening, sent_to, step, treated, with_node}
+use Rattle.group_run.specs.World.{World, after, if_up, next_name, node_after, node_in, opening, process_node, sent_to, step, treated, with_node}
 use Rattle.law_moves.specs.State.{State, state_from}
 use Rattle.law_moves.proofs.Reading.{node-back}
 use Rattle.law_bytes.proofs.Tokens.{everyone}
@@ -146,8 +146,8 @@ set-drain s es ps up x comes =
     let before = load-is w in
     let after-is = load-is (step w (set_of x)).world in
     let adds = treated-adds w.shape w.nodes (ready-after s es up.rests.run).many (DataNode x.partition)
-    (ask_process w.shape (next_name w carrier) (op_of x) (node_of w (DataNode x.partition)).process) pin
-    (node_of w (DataNode x.partition)).down (node_of w (DataNode x.partition)).dead in
+    (ask_process w.shape (next_name w carrier) (op_of x) (process_node w (DataNode x.partition)).process) pin
+    (process_node w (DataNode x.partition)).down (process_node w (DataNode x.partition)).dead in
     let sends = asked in
     let many : w.shape.m ≡ s.m = ap (λ (t : Dimensions). t.m) shape in
     omega (arith, short, none, before, after-is, adds, sends, many)
@@ -183,7 +183,7 @@ set-drain s es ps up x comes =
         (sym one) (issue-weighs (after s es).shape x.partition h _ (process_of (after s es) (DataNode x.partition)))
 
     asked : sent_weight (ask_process (after s es).shape (next_name (after s es) carrier) (op_of x)
-        (node_of (after s es) (DataNode x.partition)).process).step.sent ≤ (after s es).shape.m * 2
+        (process_node (after s es) (DataNode x.partition)).process).step.sent ≤ (after s es).shape.m * 2
     asked = subst
         (λ (e : ℕ). sent_weight (ask_head (after s es).shape (next_name (after s es) carrier) (op_of x) e
         (process_of (after s es) (DataNode x.partition))

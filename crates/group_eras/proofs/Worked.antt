@@ -9,9 +9,10 @@ use Rattle.group_run.specs.Headline.{IsRun}
 use Rattle.group_run.specs.World.{opening}
 use Rattle.law_causes.proofs.Drained.{next_always}
 use Rattle.group_eras.specs.Eras.{first_era}
-use Rattle.group_eras.specs.Items.{bytes_in}
+use Rattle.group_eras.specs.Items.{bytes_in_partition}
 use Rattle.group_eras.specs.Promise.{all_done}
-use Rattle.group_eras.specs.Worked.{LogIsAsWorked, MayBeWorked, before_carry, next_shape, small_set, small_shape}
+use Rattle.law_causes.specs.Worked.{small_shape}
+use Rattle.group_eras.specs.Worked.{LogIsAsWorked, MayBeWorked, before_carry, next_shape, small_set}
 
 pub log_is_as_worked : LogIsAsWorked
 log_is_as_worked = refl
@@ -67,6 +68,6 @@ may_be_worked = (
     space = no-bytes;
   },
 ) where
-  no-bytes : (d : ℕ) → d < 1 → bytes_in (all_done (first_era (opening small_shape)) before_carry).world d ≤ space_of next_shape
+  no-bytes : (d : ℕ) → d < 1 → bytes_in_partition (all_done (first_era (opening small_shape)) before_carry).world d ≤ space_of next_shape
   no-bytes zero low = omega arith
   no-bytes (suc d) low = absurd (omega (arith, low))

@@ -62,12 +62,12 @@ pub record Parcel : Type 0 where
   pub value : List ℕ
 
 -- what was got of an item
-abbrev pub bytes_of : Answer → List ℕ
-bytes_of (says.Reply (reply.Value item)) = item.value
-bytes_of _ = []
+abbrev pub bytes_got : Answer → List ℕ
+bytes_got (says.Reply (reply.Value item)) = item.value
+bytes_got _ = []
 
 abbrev pub parcel_of : Load → Answer → Parcel
-parcel_of x answer = record { partition = x.partition; key = x.key; flags = x.slot.flags; until = x.slot.until; value = bytes_of answer }
+parcel_of x answer = record { partition = x.partition; key = x.key; flags = x.slot.flags; until = x.slot.until; value = bytes_got answer }
 
 -- what reading items made: its events, the group after them, and the items with their values
 pub record Reading : Type 0 where

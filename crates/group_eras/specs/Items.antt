@@ -29,12 +29,12 @@ pub record Load : Type 0 where
   pub key : List ℕ
   pub slot : Slot
 
-abbrev pub load_from : ℕ → List ℕ × Slot → Load
-load_from d x = record { partition = d; key = x.0; slot = x.1 }
+abbrev pub load_of_slot : ℕ → List ℕ × Slot → Load
+load_of_slot d x = record { partition = d; key = x.0; slot = x.1 }
 
 -- those of a partition: an item whose until is 0 lives at no moment
 abbrev pub loads_in : World → ℕ → List Load
-loads_in w d = map (load_from d) (filter (λ x. is_live 0 x.1.until) (settled_items w d))
+loads_in w d = map (load_of_slot d) (filter (λ x. is_live 0 x.1.until) (settled_items w d))
 
 -- those of partitions, in order
 abbrev pub loads_of : World → List ℕ → List Load
@@ -46,5 +46,5 @@ abbrev pub loads : World → List Load
 loads w = loads_of w (range_with_len 0 w.shape.k)
 
 -- how many bytes those of a partition have
-abbrev pub bytes_in : World → ℕ → ℕ
-bytes_in w d = sum_by (λ x. x.slot.len) (loads_in w d)
+abbrev pub bytes_in_partition : World → ℕ → ℕ
+bytes_in_partition w d = sum_by (λ x. x.slot.len) (loads_in w d)

@@ -50,9 +50,9 @@ abbrev pub LoadsAreFew : Type 0
 LoadsAreFew = (e : Eras) → IsLed e → IsAtRest e.world → length (loads e.world) ≤ e.world.events
 
 -- and in each of the two groups fewer than 2^62 events are made, where fewer than 2^58 were made before
-pub record IsShort (e : Eras) (s : Dimensions) : Type 0 where
+pub record IsShortCarry (e : Eras) (s : Dimensions) : Type 0 where
   pub reads : e.world.events + length (reading e.world).events < 2 ^ 62
   pub sets : length (setting (opening s) (reading e.world).parcels) < 2 ^ 62
 
 abbrev pub CarriesAreShort : Type 0
-CarriesAreShort = (e : Eras) (s : Dimensions) → IsLed e → IsSuccessor e.world s → CanCarry e.world s → e.world.events < 2 ^ 58 → IsShort e s
+CarriesAreShort = (e : Eras) (s : Dimensions) → IsLed e → IsSuccessor e.world s → CanCarry e.world s → e.world.events < 2 ^ 58 → IsShortCarry e s

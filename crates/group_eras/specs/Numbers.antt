@@ -5,7 +5,7 @@ use Rattle.memc_table.specs.Act.{key_of}
 use Rattle.memc_table.specs.Asked.{Asked}
 use Rattle.memc_table.specs.Contents.{count_of}
 use Rattle.memc_table.specs.declared.reply.Reply.{Reply}
-use Rattle.group_calls.specs.Turns.{entry_of}
+use Rattle.group_calls.specs.Turns.{call_entry}
 use Rattle.group_calls.specs.declared.event.Answer.{Answer}
 use Rattle.group_calls.specs.declared.event.Answer.TheVariants as says
 use Rattle.group_calls.specs.declared.event.Cause.TheVariants as cause
@@ -34,7 +34,7 @@ OthersTellNone = (e : Eras) (event : Event) → IsLed e → MayMake e event → 
 -- the reply to an ask, as it is told, is that of its entry in the log over all eras
 abbrev pub RepliesAreLogged : Type 0
 RepliesAreLogged = (e : Eras) (caller : ℕ) (op : Asked) (p : ProcessId) (r : Reply) → IsLed e → MayMake e (Ask caller op p) → (era_step e (Ask caller op p)).answer ≡ says.Reply r
-    → Contains (era_step e (Ask caller op p)).logged (e.era, entry_of (next_name e.world caller) op r)
+    → Contains (era_step e (Ask caller op p)).logged (e.era, call_entry (next_name e.world caller) op r)
 
 -- a ticket's number, as it is told, is above those of all updates that the log over all eras has of its partition
 abbrev pub TicketsAreNew : Type 0

@@ -23,7 +23,7 @@ use Rattle.group_run.specs.World.{World, after, opening}
 use Rattle.group_eras.specs.Carry.{begun, carried}
 use Rattle.group_eras.specs.Eras.{EraEntry, Eras, MayMake, era_step, first_era}
 use Rattle.group_eras.specs.Refusal.{CanCarry, IsAtRest, IsSuccessor}
-use Rattle.group_eras.specs.Told.{Bases, event_in, op_in, told_reply}
+use Rattle.group_eras.specs.Told.{Bases, event_in, op_for_era, told_reply}
 
 -- what happens over eras: an event, the carrying of all items into a fresh group, or the beginning of one that want of
 -- memory cut short after so many events
@@ -75,7 +75,7 @@ pub record IsAskOf (events : List Event) (name : CallName) (op : Asked) : Type 0
 pub record TellsEntry (bases : Bases) (k : ℕ) (asked : List Event) (entry told : Entry) : Type 0 where
   pub name : name_of told ≡ name_of entry
   pub was_asked : IsAskOf asked (name_of told) told.op
-  pub op : entry.op ≡ op_in bases k told.op
+  pub op : entry.op ≡ op_for_era bases k told.op
   pub reply : told.reply ≡ told_reply bases (home_of (key_of told.op.act) k) entry.reply
 
 -- entry by entry
@@ -102,7 +102,7 @@ pub record IsEra (e : Eras) : Type 0 where
 
 -- the items of a table that live at some moment are in another what they were, with cas numbers above all earlier ones
 -- of their partitions
-pub record IsKept (t : Contents) (key : List ℕ) (h : Holding) (u : Contents) : Type 0 where
+pub record IsItemKept (t : Contents) (key : List ℕ) (h : Holding) (u : Contents) : Type 0 where
   pub holding : Holding
   pub there : u.items key ≡ Some holding
   pub flags : holding.item.flags ≡ h.item.flags
@@ -111,7 +111,7 @@ pub record IsKept (t : Contents) (key : List ℕ) (h : Holding) (u : Contents) :
   pub above : count_of t key < holding.item.cas
 
 abbrev pub AreKept : Contents → Contents → Type 0
-AreKept t u = (key : List ℕ) (h : Holding) → t.items key ≡ Some h → is_live 0 h.until ≡ true → IsKept t key h u
+AreKept t u = (key : List ℕ) (h : Holding) → t.items key ≡ Some h → is_live 0 h.until ≡ true → IsItemKept t key h u
 
 -- an item was in a table what it is
 pub record WasThere (t : Contents) (key : List ℕ) (h : Holding) : Type 0 where

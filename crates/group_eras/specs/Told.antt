@@ -8,14 +8,14 @@ use Rattle.memc_table.specs.declared.act.Act.{Act}
 use Rattle.memc_table.specs.declared.act.Act.TheVariants.{Cas}
 use Rattle.memc_table.specs.declared.reply.Reply.{Reply}
 use Rattle.memc_table.specs.declared.reply.Reply.TheVariants as reply
-use Rattle.group_calls.specs.Turns.{entry_of, name_of}
+use Rattle.group_calls.specs.Turns.{call_entry, name_of}
 use Rattle.group_calls.specs.declared.entry.Entry.{Entry}
 use Rattle.group_calls.specs.declared.event.Answer.{Answer}
 use Rattle.group_calls.specs.declared.event.Answer.TheVariants as says
 use Rattle.group_calls.specs.declared.event.Cause.TheVariants as cause
 use Rattle.group_calls.specs.declared.event.Event.{Event}
 use Rattle.group_calls.specs.declared.event.Event.TheVariants.{Ask}
-use Rattle.group_run.specs.World.{Call, same_call}
+use Rattle.group_run.specs.World.{AskedCall, same_call}
 
 -- the base of each partition
 abbrev pub Bases : Type 0
@@ -52,8 +52,8 @@ with_cas f (Cas key flags expiry cas value) = Cas key flags expiry (f cas) value
 with_cas f act = act
 
 -- an op as it is asked of the era's world
-abbrev pub op_in : Bases → ℕ → Asked → Asked
-op_in bases k op = record { moment = op.moment; act = with_cas (without_base bases (home_of (key_of op.act) k)) op.act }
+abbrev pub op_for_era : Bases → ℕ → Asked → Asked
+op_for_era bases k op = record { moment = op.moment; act = with_cas (without_base bases (home_of (key_of op.act) k)) op.act }
 
 -- an op of the era's world, as it is told
 abbrev pub op_out : Bases → ℕ → Asked → Asked
@@ -61,17 +61,17 @@ op_out bases k op = record { moment = op.moment; act = with_cas (with_base bases
 
 -- an event as the era's world makes it
 abbrev pub event_in : Bases → ℕ → Event → Event
-event_in bases k (Ask caller op p) = Ask caller (op_in bases k op) p
+event_in bases k (Ask caller op p) = Ask caller (op_for_era bases k op) p
 event_in bases k e = e
 
 -- the op of an entry, as it was asked: that of the call which is asked just now, if it is this one
-abbrev pub told_op : Bases → ℕ → Option Call → Entry → Asked
+abbrev pub told_op : Bases → ℕ → Option AskedCall → Entry → Asked
 told_op bases k None entry = op_out bases k entry.op
 told_op bases k (Some c) entry = if same_call c.name (name_of entry) then c.op else op_out bases k entry.op
 
 -- an entry of the era's log
-abbrev pub told_entry : Bases → ℕ → Option Call → Entry → Entry
-told_entry bases k asking entry = entry_of (name_of entry) (told_op bases k asking entry) (told_reply bases (home_of (key_of entry.op.act) k) entry.reply)
+abbrev pub told_entry : Bases → ℕ → Option AskedCall → Entry → Entry
+told_entry bases k asking entry = call_entry (name_of entry) (told_op bases k asking entry) (told_reply bases (home_of (key_of entry.op.act) k) entry.reply)
 
 -- a stamp whose numbers are of the partitions from d on
 abbrev pub told_stamp : Bases → ℕ → List ℕ → List ℕ

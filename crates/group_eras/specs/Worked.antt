@@ -9,12 +9,10 @@ use Rattle.memc_table.specs.declared.reply.Reply.{Reply}
 use Rattle.memc_table.specs.declared.reply.Reply.TheVariants.{Exists, Stored, Value}
 use Rattle.group_calls.specs.declared.event.Event.TheVariants.{Ask, Deliver, Fail}
 use Rattle.group_run.specs.World.{opening}
+use Rattle.law_causes.specs.Worked.{small_shape}
 use Rattle.group_eras.specs.Eras.{EraEntry, Eras, first_era}
 use Rattle.group_eras.specs.Promise.{Carries, Deed, Makes, MayAllBeDone, all_done}
 use Rattle.group_eras.specs.Refusal.{CanCarry}
-
-abbrev pub small_shape : Dimensions
-small_shape = record { k = 1; m = 1; blocks = 1; block = 16 }
 
 abbrev pub next_shape : Dimensions
 next_shape = record { k = 1; m = 1; blocks = 1; block = 32 }
@@ -45,14 +43,14 @@ abbrev pub MayBeWorked : Type 0
 MayBeWorked = MayAllBeDone (first_era (opening small_shape)) before_carry × CanCarry (all_done (first_era (opening small_shape)) before_carry).world next_shape
 
 -- an entry of an era, of a caller's call
-abbrev pub entry_in : ℕ → ℕ → ℕ → Asked → Reply → EraEntry
-entry_in era caller call op reply = (era, record { caller = caller; call = call; op = op; reply = reply })
+abbrev pub era_entry : ℕ → ℕ → ℕ → Asked → Reply → EraEntry
+era_entry era caller call op reply = (era, record { caller = caller; call = call; op = op; reply = reply })
 
 -- the item is read from the parity process; the cas finds a higher number; and the last get has it
 abbrev pub LogIsAsWorked : Type 0
-LogIsAsWorked = small_eras.log ≡ entry_in 0 0 0 small_set Stored
-    ∷ entry_in 0 255 0 small_get (Value (record { flags = 0; cas = 1; value = [] }))
-    ∷ entry_in 1 255 0 small_set Stored
-    ∷ entry_in 1 0 0 small_cas Exists
-    ∷ entry_in 1 0 1 small_get (Value (record { flags = 0; cas = 2; value = [] }))
+LogIsAsWorked = small_eras.log ≡ era_entry 0 0 0 small_set Stored
+    ∷ era_entry 0 255 0 small_get (Value (record { flags = 0; cas = 1; value = [] }))
+    ∷ era_entry 1 255 0 small_set Stored
+    ∷ era_entry 1 0 0 small_cas Exists
+    ∷ era_entry 1 0 1 small_get (Value (record { flags = 0; cas = 2; value = [] }))
     ∷ []

@@ -4,7 +4,7 @@ use Rattle.std.proofs.lemmas.Bool.{cases_eq}
 use Rattle.std.proofs.lemmas.Option.{same_Some}
 use Rattle.memc_table.specs.Asked.{Asked}
 use Rattle.memc_proto.specs.declared.end.CallEnd.{CallEnd}
-use Rattle.front_end.specs.Gateway.{Rules, HasEnded, KeepsOthers, LendsOnly}
+use Rattle.front_end.specs.Gateway.{Rules, IsEndOf, KeepsOtherCalls, LendsOnly}
 use Rattle.front_end.specs.Order.{IsOrder}
 use Rattle.group_gateways.specs.declared.call.GroupCall.{GroupCall}
 use Rattle.group_gateways.specs.declared.gateway.GroupGateways.{GroupGateways}
@@ -40,8 +40,8 @@ module _ {G K : Type 0} (inner : Rules G K) (order : IsOrder inner.later) (befor
   }
 
   -- the end of a call of the group is that of its gateway
-  pub has-ended : inner.later one two → (call : GroupCall K) (end : CallEnd) → call.group ≡ group → HasEnded inner one call.inner end two
-      → HasEnded (group_rules inner) before call end after
+  pub has-ended : inner.later one two → (call : GroupCall K) (end : CallEnd) → call.group ≡ group → IsEndOf inner one call.inner end two
+      → IsEndOf (group_rules inner) before call end after
   has-ended leads call end is ended = λ op began was_open. record {
     made = subst (λ (i : ℕ). Both (λ (first last : G). inner.ways.made first op end last) (gateway_in began i) (gateway_in after i)) was_open.group
         (both-moved (λ (first last : G). inner.opened last call.inner op first) (λ (first last : G). inner.ways.made first op end last)
@@ -51,8 +51,8 @@ module _ {G K : Type 0} (inner : Rules G K) (order : IsOrder inner.later) (befor
   }
 
   -- all others stay open
-  pub keeps-others : inner.later one two → (call : GroupCall K) → call.group ≡ group → KeepsOthers inner call.inner one two
-      → KeepsOthers (group_rules inner) call before after
+  pub keeps-others : inner.later one two → (call : GroupCall K) → call.group ≡ group → KeepsOtherCalls inner call.inner one two
+      → KeepsOtherCalls (group_rules inner) call before after
   keeps-others leads call is keeps = λ other op began differs was_open.
       stays-open inner order before after group one two changed leads other op began
       (λ own first opened. keeps other.inner op first (λ same. differs (same-call other call (own ∙ sym is) same)) opened) was_open

@@ -6,7 +6,7 @@ use Rattle.std.proofs.lemmas.Bool.{cases_eq}
 use Rattle.std.proofs.lemmas.List.{length-set}
 use Rattle.std.proofs.lemmas.Option.{slice_get_read}
 use Rattle.memc_table.specs.Asked.{Asked}
-use Rattle.front_end.specs.Gateway.{Rules, IsFree, KeepsOpen, LendsNone}
+use Rattle.front_end.specs.Gateway.{Rules, IsNotOpen, KeepsOpen, LendsNone}
 use Rattle.front_end.specs.Order.{IsOrder}
 use Rattle.group_gateways.specs.declared.call.GroupCall.{GroupCall}
 use Rattle.group_gateways.specs.declared.gateway.GroupGateways.{GroupGateways}
@@ -127,7 +127,7 @@ quiet-same rules order one = record { calls = λ call op began was_open. was_ope
 
 -- a call is free that is free in its group
 pub is-free : {G K : Type 0} (inner : Rules G K) (now : GroupGateways G) (call : GroupCall K) (one : G) → gateway_in now call.group ≡ Some one
-    → IsFree inner one call.inner → IsFree (group_rules inner) now call
+    → IsNotOpen inner one call.inner → IsNotOpen (group_rules inner) now call
 is-free {G} inner now call one here free = λ op began was_open. by op (gateway_in began call.group)
     (subst (Both (λ (first last : G). inner.opened last call.inner op first) (gateway_in began call.group)) here was_open.opened) where
       by : (op : Asked) (o : Option G) → Both (λ (first last : G). inner.opened last call.inner op first) o (Some one) → ⊥

@@ -8,7 +8,7 @@ use Rattle.std.proofs.lemmas.List.{append_assoc, take-append-le}
 use Rattle.std.proofs.lemmas.Option.{get_or_from_slice_get, slice_get-get_or, slice_get_within}
 use Rattle.memc_table.specs.Asked.{Asked}
 use Rattle.memc_table.specs.declared.reply.Reply.{Reply}
-use Rattle.group_calls.specs.Turns.{CallName, Turn, asks_of, entry_of, log_of, name_of}
+use Rattle.group_calls.specs.Turns.{CallName, Turn, asks_of, call_entry, log_of, name_of}
 use Rattle.group_calls.specs.Within.{AnswersWithin, Fetches, IsAsk, IsLoggedSince}
 use Rattle.group_calls.specs.declared.entry.Entry.{Entry}
 use Rattle.group_calls.specs.declared.event.Answer.TheVariants as answered
@@ -141,8 +141,8 @@ module _ (k : ℕ) (turns : List GroupTurn) (each : (j : ℕ) → AnswersWithin 
       let next : turn-place j (i + 1) ≡ n + 1 = ap (turn-place j) step ∙ one ∙ omega arith in
       let log-is : entries_in j first ≡ log_of (take (n + 1) (turns_in j turns)) = first-log j (i + 1)
       ∙ ap (λ (x : ℕ). log_of (take x (turns_in j turns))) next in
-      let was : pick.Stood at-group entry-at j first down.place (entry_of name down.op reply)
-      = pick.stood at-group entry-at j first down.place (entry_of name down.op reply)
+      let was : pick.Stood at-group entry-at j first down.place (call_entry name down.op reply)
+      = pick.stood at-group entry-at j first down.place (call_entry name down.op reply)
       (ap (λ (log : List Entry). slice_get log down.place) log-is ∙ down.entry) in
       let before : List ClusterEntry = logged_in (take up.at turns) in
       let short : length (entries_in j before) ≤ down.place

@@ -14,10 +14,10 @@ use Rattle.group_run.specs.Asking.{CallStep, ask_process, collect_from, fate_of}
 use Rattle.group_run.specs.Process.{Node}
 use Rattle.group_run.specs.Receiving.{receive}
 use Rattle.group_run.specs.World.{DeliveryStep, World, all_change, dead_nodes, deliver_nodes, delivered, flush_process}
-use Rattle.group_run.specs.World.{if_up, next_name, node_after, node_failed, node_of, nodes_told, opening, opening_node}
+use Rattle.group_run.specs.World.{if_up, next_name, node_after, node_failed, nodes_told, opening, opening_node, process_node}
 use Rattle.group_run.specs.World.{step, treated, unchanged, with_down, with_node}
 use Rattle.law_moves.proofs.Events.{emptied-dead}
-use Rattle.group_layout.specs.Cluster.{IsFailure}
+use Rattle.group_run.specs.Causes.{IsFailure}
 
 -- one more for a word that is true
 abbrev pub one-if : Bool → ℕ
@@ -103,17 +103,19 @@ receiver-dead s false false from to a b (m ∷ rest) = emptied-dead s m (node_af
 pub dead-step : (w : World) (e : Event) → ¬ (IsFailure e) → dead_nodes (step w e).world.nodes ≡ dead_nodes w.nodes
 dead-step w (Fail p keep) other = absurd (other tt)
 dead-step w (Ask caller op p) other = dead-put (opening_node w.shape p) refl w.nodes (index_of w.shape p) _
-    (treated-dead w.shape (node_of w p).down (node_of w p).dead (node_of w p) (ask_process w.shape (next_name w caller) op (node_of w p).process))
+    (treated-dead w.shape (process_node w p).down (process_node w p).dead (process_node w p)
+    (ask_process w.shape (next_name w caller) op (process_node w p).process))
 dead-step w (Collect caller call p) other = dead-put (opening_node w.shape p) refl w.nodes (index_of w.shape p) _
-    (treated-dead w.shape (node_of w p).down (node_of w p).dead (node_of w p) (collect_from caller call (node_of w p).process (range_with_len 0 w.shape.k)))
+    (treated-dead w.shape (process_node w p).down (process_node w p).dead (process_node w p)
+    (collect_from caller call (process_node w p).process (range_with_len 0 w.shape.k)))
 dead-step w (Flush p) other = dead-put (opening_node w.shape p) refl w.nodes (index_of w.shape p) _
-    (treated-dead w.shape (node_of w p).down (node_of w p).dead (node_of w p) (flush_process w.shape (node_of w p).process))
+    (treated-dead w.shape (process_node w p).down (process_node w p).dead (process_node w p) (flush_process w.shape (process_node w p).process))
 dead-step w (Trace caller call d p) other = dead-put (opening_node w.shape p) refl w.nodes (index_of w.shape p) _
-    (unchanged-dead (node_of w p).down (node_of w p).dead (node_of w p)
-    (fate_of w.shape caller call d.0 (node_of w p).process (head_at (node_of w p).process d.0)))
+    (unchanged-dead (process_node w p).down (process_node w p).dead (process_node w p)
+    (fate_of w.shape caller call d.0 (process_node w p).process (head_at (process_node w p).process d.0)))
 dead-step w (Deliver from to) other =
-    let a : Node = node_of w from in
-    let b : Node = node_of w to in
+    let a : Node = process_node w from in
+    let b : Node = process_node w to in
     let link : List Message = at [] a.links (index_of w.shape to) in
     let both : DeliveryStep = deliver_nodes w.shape from to a b in
     let sends : both.sender.dead ≡ a.dead = sender-dead w.shape b.down b.dead from to a b link in
@@ -126,15 +128,15 @@ dead-step w (Deliver from to) other =
 
 -- a failure
 pub dead-fail : (w : World) (p : ProcessId) (keep : ℕ) → dead_nodes (step w (Fail p keep)).world.nodes ≤ suc (dead_nodes w.nodes)
-dead-fail w p keep = by (node_of w p).dead where
+dead-fail w p keep = by (process_node w p).dead where
   cut : List Node
-  cut = with_node w.shape p (node_failed w.shape p keep (node_of w p)) w.nodes
+  cut = with_node w.shape p (node_failed w.shape p keep (process_node w p)) w.nodes
 
   by : (dead : Bool) → dead_nodes (all_change dead w.shape w.nodes p keep).nodes ≤ suc (dead_nodes w.nodes)
   by true = omega arith
   by false =
       let few : dead_nodes cut ≤ suc (dead_nodes w.nodes) = dead-put-any (opening_node w.shape p) refl w.nodes
-      (index_of w.shape p) (node_failed w.shape p keep (node_of w p)) in
+      (index_of w.shape p) (node_failed w.shape p keep (process_node w p)) in
       let told : dead_nodes (nodes_told w.shape.m cut) ≡ dead_nodes cut = dead-told _ cut in
       omega (arith, few, told)
 
@@ -142,17 +144,19 @@ dead-fail w p keep = by (node_of w p).dead where
 pub same-dead : (w : World) (e : Event) → ¬ (IsFailure e) → (d : Node) → d.dead ≡ false → (k : ℕ) → (at d (step w e).world.nodes k).dead ≡ (at d w.nodes k).dead
 same-dead w (Fail p keep) other d lives k = absurd (other tt)
 same-dead w (Ask caller op p) other d lives k = dead-at (opening_node w.shape p) d refl lives w.nodes (index_of w.shape p) k _
-    (treated-dead w.shape (node_of w p).down (node_of w p).dead (node_of w p) (ask_process w.shape (next_name w caller) op (node_of w p).process))
+    (treated-dead w.shape (process_node w p).down (process_node w p).dead (process_node w p)
+    (ask_process w.shape (next_name w caller) op (process_node w p).process))
 same-dead w (Collect caller call p) other d lives k = dead-at (opening_node w.shape p) d refl lives w.nodes (index_of w.shape p) k _
-    (treated-dead w.shape (node_of w p).down (node_of w p).dead (node_of w p) (collect_from caller call (node_of w p).process (range_with_len 0 w.shape.k)))
+    (treated-dead w.shape (process_node w p).down (process_node w p).dead (process_node w p)
+    (collect_from caller call (process_node w p).process (range_with_len 0 w.shape.k)))
 same-dead w (Flush p) other d lives k = dead-at (opening_node w.shape p) d refl lives w.nodes (index_of w.shape p) k _
-    (treated-dead w.shape (node_of w p).down (node_of w p).dead (node_of w p) (flush_process w.shape (node_of w p).process))
+    (treated-dead w.shape (process_node w p).down (process_node w p).dead (process_node w p) (flush_process w.shape (process_node w p).process))
 same-dead w (Trace caller call x p) other d lives k = dead-at (opening_node w.shape p) d refl lives w.nodes (index_of w.shape p) k _
-    (unchanged-dead (node_of w p).down (node_of w p).dead (node_of w p)
-    (fate_of w.shape caller call x.0 (node_of w p).process (head_at (node_of w p).process x.0)))
+    (unchanged-dead (process_node w p).down (process_node w p).dead (process_node w p)
+    (fate_of w.shape caller call x.0 (process_node w p).process (head_at (process_node w p).process x.0)))
 same-dead w (Deliver from to) other d lives k =
-    let a : Node = node_of w from in
-    let b : Node = node_of w to in
+    let a : Node = process_node w from in
+    let b : Node = process_node w to in
     let link : List Message = at [] a.links (index_of w.shape to) in
     let both : DeliveryStep = deliver_nodes w.shape from to a b in
     let sends : both.sender.dead ≡ a.dead = sender-dead w.shape b.down b.dead from to a b link in
@@ -182,13 +186,14 @@ other-at d e dl el (y ∷ ys) (suc i) (suc k) x apart = other-at d e dl el ys i 
 
 pub fail-dead : (w : World) (p : ProcessId) (keep : ℕ) (d : Node) → d.dead ≡ false → (k : ℕ) → k ≢ index_of w.shape p
     → (at d (step w (Fail p keep)).world.nodes k).dead ≡ (at d w.nodes k).dead
-fail-dead w p keep d lives k apart = by (node_of w p).dead where
+fail-dead w p keep d lives k apart = by (process_node w p).dead where
   cut : List Node
-  cut = with_node w.shape p (node_failed w.shape p keep (node_of w p)) w.nodes
+  cut = with_node w.shape p (node_failed w.shape p keep (process_node w p)) w.nodes
 
   by : (dead : Bool) → (at d (all_change dead w.shape w.nodes p keep).nodes k).dead ≡ (at d w.nodes k).dead
   by true = refl
-  by false = told-at _ d cut k ∙ other-at (opening_node w.shape p) d refl lives w.nodes (index_of w.shape p) k (node_failed w.shape p keep (node_of w p)) apart
+  by false = told-at _ d cut k ∙ other-at (opening_node w.shape p) d refl lives w.nodes (index_of w.shape p) k
+      (node_failed w.shape p keep (process_node w p)) apart
 
 pub none-dead-at : (s : Dimensions) (d : Node) → d.dead ≡ false → (xs : List ℕ) (k : ℕ) → (at d (map (λ x. opening_node s (process_at s x)) xs) k).dead ≡ false
 none-dead-at s d lives [] k = lives

@@ -6,10 +6,11 @@ use Rattle.group_types.specs.Dimensions.{Dimensions}
 use Rattle.group_types.specs.Lists.{at, put}
 use Rattle.group_types.specs.Names.{process_at}
 use Rattle.group_types.proofs.Lists.{at-replicate}
-use Rattle.membership.specs.Members.{count_dead}
+use Rattle.membership.specs.Members.{count_dead_words}
 use Rattle.group_calls.specs.declared.event.Event.TheVariants.{Fail}
 use Rattle.group_run.specs.World.{World, dead_nodes, opening, step}
-use Rattle.group_layout.specs.Cluster.{Cluster, Groups, IsFailure, MayAllHappen, MayHappen, Move, all_moved}
+use Rattle.group_run.specs.Causes.{IsFailure}
+use Rattle.group_layout.specs.Cluster.{Cluster, Groups, MayAllHappen, MayHappen, Move, all_moved}
 use Rattle.group_layout.specs.Cluster.{cluster_after, cluster_step, failure_of, failures, move_unless, moved, moves_of}
 use Rattle.group_layout.specs.Cluster.{node_failure, opening_cluster, other_group, world_in}
 use Rattle.group_layout.specs.Layout.{process_on}
@@ -78,19 +79,19 @@ one-each s n node keep a (suc m) j g = by (one-each s n node keep (a + 1) m j (a
       omega (arith, parts, few, same)
 
 -- how many nodes have failed
-more-failed : (failed : List Bool) (i : ℕ) → at false failed i ≡ false → count_dead (put false failed i true) ≡ suc (count_dead failed)
+more-failed : (failed : List Bool) (i : ℕ) → at false failed i ≡ false → count_dead_words (put false failed i true) ≡ suc (count_dead_words failed)
 more-failed [] zero lives = refl
 more-failed [] (suc i) lives = let rest = more-failed [] i lives in omega (arith, rest)
 more-failed (x ∷ xs) zero lives = let none : one-if x ≡ 0 = ap one-if lives in omega (arith, none)
 more-failed (x ∷ xs) (suc i) lives = let rest = more-failed xs i lives in omega (arith, rest)
 
-no-fewer : (failed : List Bool) (i : ℕ) → count_dead failed ≤ count_dead (put false failed i true)
+no-fewer : (failed : List Bool) (i : ℕ) → count_dead_words failed ≤ count_dead_words (put false failed i true)
 no-fewer [] i = omega arith
 no-fewer (true ∷ xs) zero = omega arith
 no-fewer (false ∷ xs) zero = omega arith
 no-fewer (x ∷ xs) (suc i) = let rest = no-fewer xs i in omega (arith, rest)
 
-none-failed : (n : ℕ) → count_dead (replicate n false) ≡ 0
+none-failed : (n : ℕ) → count_dead_words (replicate n false) ≡ 0
 none-failed zero = refl
 none-failed (suc n) = let rest = none-failed n in omega (arith, rest)
 
@@ -99,8 +100,8 @@ unless-none : (g : Groups) (m : Move) (o : Option ℕ) (j : ℕ) → ¬ (IsFailu
 unless-none g m (Some own) j other = refl
 unless-none g m None j other = no-failure g m j other
 
-borne : (c : Cluster) (e : ClusterEvent) (j : ℕ) → MayHappen c e → dead_in c.groups j ≤ count_dead c.failed
-    → dead_in (cluster_step c e).cluster.groups j ≤ count_dead (cluster_step c e).cluster.failed
+borne : (c : Cluster) (e : ClusterEvent) (j : ℕ) → MayHappen c e → dead_in c.groups j ≤ count_dead_words c.failed
+    → dead_in (cluster_step c e).cluster.groups j ≤ count_dead_words (cluster_step c e).cluster.failed
 borne c (InGroup i event) j may few =
     let same = unless-none c.groups (record { group = i; event = event }) (other_group c.groups i event) j may.1 in
     omega (arith, same, few)
@@ -113,13 +114,13 @@ borne c (FailNode node keep) j may few = by (at false c.failed node) refl where
 
   by : (b : Bool) → at false c.failed node ≡ b
       → dead_in (all_moved c.groups (if b then [] else node_failure c node keep)) j
-      ≤ count_dead (put false c.failed node true)
+      ≤ count_dead_words (put false c.failed node true)
   by true word = let more = no-fewer c.failed node in omega (arith, more, few)
   by false word = let more = more-failed c.failed node word in omega (arith, more, few, one)
 
 all-borne : (c : Cluster) (es : List ClusterEvent) (j : ℕ) → MayAllHappen c es
-    → dead_in c.groups j ≤ count_dead c.failed → dead_in (cluster_after c es).groups j
-    ≤ count_dead (cluster_after c es).failed
+    → dead_in c.groups j ≤ count_dead_words c.failed → dead_in (cluster_after c es).groups j
+    ≤ count_dead_words (cluster_after c es).failed
 all-borne c [] j may few = few
 all-borne c (e ∷ es) j may few = all-borne (cluster_step c e).cluster es j may.1 (borne c e j may.0 few)
 
@@ -135,7 +136,7 @@ few_failures_are_borne s n count es limits layout may few j below down =
     let c : Cluster = opening_cluster s n count in
     let even : Even s count (cluster_after c es).groups = even-all s count c es (even-start s count) may in
     let none : dead_in c.groups j ≡ 0 = ap (λ (w : World). dead_nodes w.nodes) (at-replicate (opening s) count j) ∙ none-dead s in
-    let all : dead_in (cluster_after c es).groups j ≤ count_dead (cluster_after c es).failed = all-borne c es j may (omega (arith, none)) in
+    let all : dead_in (cluster_after c es).groups j ≤ count_dead_words (cluster_after c es).failed = all-borne c es j may (omega (arith, none)) in
     let most : (world_in (cluster_after c es).groups j).shape.m ≡ s.m = ap (λ (t : Dimensions). t.m) (even.worlds j) in
     let above : (world_in (cluster_after c es).groups j).shape.m < dead_in (cluster_after c es).groups j = down in
     omega (arith, most, above, all, few)

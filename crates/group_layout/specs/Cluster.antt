@@ -9,6 +9,7 @@ use Rattle.group_calls.specs.Turns.{Turn}
 use Rattle.group_calls.specs.declared.entry.Entry.{Entry}
 use Rattle.group_calls.specs.declared.event.Event.{Event}
 use Rattle.group_calls.specs.declared.event.Event.TheVariants.{Ask, Fail}
+use Rattle.group_run.specs.Causes.{IsFailure}
 use Rattle.group_run.specs.Headline.{MayCome}
 use Rattle.group_run.specs.World.{World, opening, step}
 use Rattle.group_layout.specs.Layout.{group_of, process_on}
@@ -116,14 +117,14 @@ abbrev pub inner_unless : Option ℕ → Turn → ClusterAnswer
 inner_unless (Some own) turn = says.WrongGroup own
 inner_unless None turn = says.Inner turn.answer
 
-abbrev pub answer_to : Cluster → ClusterEvent → ClusterAnswer
-answer_to c (InGroup j event) = inner_unless (other_group c.groups j event) (turn_of c.groups (record { group = j; event = event }))
-answer_to c (FailNode node keep) = if at false c.failed node then says.AlreadyDead else says.Done
+abbrev pub cluster_answer_to : Cluster → ClusterEvent → ClusterAnswer
+cluster_answer_to c (InGroup j event) = inner_unless (other_group c.groups j event) (turn_of c.groups (record { group = j; event = event }))
+cluster_answer_to c (FailNode node keep) = if at false c.failed node then says.AlreadyDead else says.Done
 
 -- which nodes have failed after an event
-abbrev pub failed_after : List Bool → ClusterEvent → List Bool
-failed_after failed (InGroup j event) = failed
-failed_after failed (FailNode node keep) = put false failed node true
+abbrev pub failed_nodes_after : List Bool → ClusterEvent → List Bool
+failed_nodes_after failed (InGroup j event) = failed
+failed_nodes_after failed (FailNode node keep) = put false failed node true
 
 -- what a cluster makes of an event
 pub record ClusterStep : Type 0 where
@@ -133,8 +134,8 @@ pub record ClusterStep : Type 0 where
 
 abbrev pub cluster_step : Cluster → ClusterEvent → ClusterStep
 cluster_step c e = record {
-  cluster = record { failed = failed_after c.failed e; groups = all_moved c.groups (moves_of c e) };
-  answer = answer_to c e;
+  cluster = record { failed = failed_nodes_after c.failed e; groups = all_moved c.groups (moves_of c e) };
+  answer = cluster_answer_to c e;
   turns = turns_made c.groups (moves_of c e);
 }
 
@@ -152,11 +153,6 @@ abbrev pub cluster_turns : Cluster → List ClusterEvent → List GroupTurn
 cluster_turns c [] = []
 cluster_turns c (e ∷ es) = (cluster_step c e).turns ++ cluster_turns (cluster_step c e).cluster es
 
--- the event is a failure of a process, which only comes with its node's
-abbrev pub IsFailure : Event → Type 0
-IsFailure (Fail _ _) = Unit {0}
-IsFailure _ = ⊥
-
 -- a move that may come: its group is there, and its event may come there
 abbrev pub MayMove : Groups → Move → Type 0
 MayMove g move = (move.group < length g.worlds) × MayCome (world_in g move.group) move.event
@@ -166,7 +162,8 @@ abbrev pub MayAllMove : Groups → List Move → Type 0
 MayAllMove g [] = Unit {0}
 MayAllMove g (move ∷ moves) = MayMove g move × MayAllMove (moved g move) moves
 
--- an event that may happen: its group or node is there, and what happens in a group may come there
+-- an event that may happen: its group or node is there, and what happens in a group may come there, and is no failure of a
+-- process, which only comes with its node's
 abbrev pub MayHappen : Cluster → ClusterEvent → Type 0
 MayHappen c (InGroup j event) = MayMove c.groups (record { group = j; event = event }) × (¬ (IsFailure event))
 MayHappen c (FailNode node keep) = node < length c.failed

@@ -4,7 +4,7 @@ use Rattle.std.specs.Prelude.{ℕ, ◌≡◌, ◌<◌, ◌≤◌, List, All}
 use Rattle.group_types.specs.Dimensions.{Dimensions}
 use Rattle.group_types.specs.Shape.{IsShape}
 use Rattle.memc_table.specs.Act.{key_of}
-use Rattle.membership.specs.Members.{count_dead}
+use Rattle.membership.specs.Members.{count_dead_words}
 use Rattle.group_calls.specs.Log.{IsLegal}
 use Rattle.group_calls.specs.declared.entry.Entry.{Entry}
 use Rattle.group_calls.specs.declared.event.Event.{Event}
@@ -53,7 +53,7 @@ ClustersAreRuns = (s : Dimensions) (n count : ℕ) (es : List ClusterEvent) → 
 -- while at most m nodes have failed no group is down
 abbrev pub FewFailuresAreBorne : Type 0
 FewFailuresAreBorne = (s : Dimensions) (n count : ℕ) (es : List ClusterEvent) → IsShape s → IsLayout s n count → MayAllHappen (opening_cluster s n count) es
-    → count_dead (cluster_after (opening_cluster s n count) es).failed ≤ s.m
+    → count_dead_words (cluster_after (opening_cluster s n count) es).failed ≤ s.m
     → (j : ℕ) → j < count → ¬ (IsDown (world_in (cluster_after (opening_cluster s n count) es).groups j))
 
 -- the answers of a cluster, whatever events happen

@@ -6,7 +6,7 @@ use Rattle.group_types.specs.declared.process.ProcessId.{ProcessId}
 use Rattle.memc_table.specs.Act.{key_of}
 use Rattle.memc_table.specs.Asked.{Asked}
 use Rattle.memc_table.specs.declared.reply.Reply.{Reply}
-use Rattle.group_calls.specs.Turns.{Turn, CallName, accepts, asks_of, entry_of, name_of}
+use Rattle.group_calls.specs.Turns.{Turn, CallName, accepts, asks_of, call_entry, name_of}
 use Rattle.group_calls.specs.Within.{Fetches, IsTaken, Traces}
 use Rattle.group_calls.specs.declared.entry.Entry.{Entry}
 use Rattle.group_calls.specs.declared.event.Answer.TheVariants as answered
@@ -39,7 +39,7 @@ pub record IsLoggedSinceIn (turns : List GroupTurn) (i j : ℕ) (name : CallName
   pub asked : IsAskIn turns asking ask name op
   pub own : ask.group ≡ j
   pub place : ℕ
-  pub entry : slice_get (logged_in (take (i + 1) turns)) place ≡ Some (j, entry_of name op reply)
+  pub entry : slice_get (logged_in (take (i + 1) turns)) place ≡ Some (j, call_entry name op reply)
   pub since : length (logged_in (take asking turns)) ≤ place
 
 -- answered within its time: each answered call stands in the cluster's log once, between its asking and its answering
@@ -50,7 +50,7 @@ pub record ClusterAnswersWithin (k : ℕ) (turns : List GroupTurn) : Type 0 wher
   pub asked : (i : ℕ) (t : GroupTurn) (entry : Entry) → slice_get turns i ≡ Some t → Contains t.turn.logged entry
       → (j : ℕ) × (ask : GroupTurn) × (j ≤ i) × (ask.group ≡ t.group) × IsAskIn turns j ask (name_of entry) entry.op
   -- a reply to an ask is the one of its entry, which this event logged
-  pub at_once : (i : ℕ) (t : GroupTurn) (name : CallName) (op : Asked) (reply : Reply) → IsAskIn turns i t name op → t.turn.answer ≡ answered.Reply reply → Contains t.turn.logged (entry_of name op reply)
+  pub at_once : (i : ℕ) (t : GroupTurn) (name : CallName) (op : Asked) (reply : Reply) → IsAskIn turns i t name op → t.turn.answer ≡ answered.Reply reply → Contains t.turn.logged (call_entry name op reply)
   -- a reply to a collect or a trace is the one of its entry
   pub later : (i : ℕ) (t : GroupTurn) (name : CallName) (reply : Reply) → slice_get turns i ≡ Some t → Fetches t.turn.event name → t.turn.answer ≡ answered.Reply reply → IsLoggedSinceIn turns i t.group name reply
   -- a call that got neither a reply nor a ticket is in no entry

@@ -8,12 +8,12 @@ use Rattle.group_types.specs.Lists.{at, put}
 use Rattle.group_types.specs.declared.run.Run.{Run}
 use Rattle.memc_table.specs.Asked.{Asked}
 use Rattle.group_message.specs.declared.update.Update.{Update}
-use Rattle.group_calls.specs.Turns.{CallName, entry_of, name_of}
+use Rattle.group_calls.specs.Turns.{CallName, call_entry, name_of}
 use Rattle.group_calls.specs.declared.entry.Entry.{Entry}
 use Rattle.group_run.specs.Applying.{Settlement}
 use Rattle.group_run.specs.Asking.{reply_from}
 use Rattle.group_run.specs.World.{Ledger, Ticket, entries_for, entry_then, grown, ledger_after, ledger_with, op_in, op_moved, ops_moved, same_call, update_name}
-use Rattle.group_ledger.specs.Accounts.{Accounts, accounts_after, accounts_of, news_of, runs_of, with_news}
+use Rattle.group_ledger.specs.Accounts.{Accounts, accounts_after, accounts_of, news_of, update_runs, with_news}
 use Rattle.group_ledger.specs.Books.{Once}
 use Rattle.group_ledger.specs.Taking.{Differ, entries_taken, op_taken, ops_taken}
 use Rattle.group_ledger.proofs.Calls.{same-is, same-not}
@@ -169,7 +169,7 @@ module _ (ts : List Ticket) (differ : Differ ts) where
       }
   moves-one u us es rest (Some op) some once =
       let name : CallName = update_name u in
-      let e : Entry = entry_of name op (reply_from u.outcome) in
+      let e : Entry = call_entry name op (reply_from u.outcome) in
       let is : entries_for ts (u ∷ us) ≡ e ∷ entries_for ts us = ap (λ (o : Option Asked). entry_then u o (entries_for ts us)) some in
       let once2 : Once (es ++ e ∷ entries_for ts us) = subst (λ (fs : List Entry). Once (es ++ fs)) is once in
       let later : op_in name (moved es ts) ≡ Some op = op-kept name es (fresh-behind es e (entries_for ts us) once2) ts ∙ some in
@@ -217,10 +217,10 @@ module _ (ts : List Ticket) (differ : Differ ts) where
       ∙ sym (ap (λ (fs : List Entry). before ++ fs) logged) in
       let tickets-are : ops_taken us (moved l.logged ts) ≡ moved (grown l.logged es) ts = made.tickets ∙ sym (ap (λ (fs : List Entry). moved fs ts) logged) in
       let here : List (Option Run) = at [] l.places d in
-      ap (λ (fs : List Entry). accounts_of fs (put [] l.places d (here ++ runs_of us)) (ops_taken us (moved l.logged ts))) log-is
+      ap (λ (fs : List Entry). accounts_of fs (put [] l.places d (here ++ update_runs us)) (ops_taken us (moved l.logged ts))) log-is
       ∙ ap (λ (rs : List (Option Run)). accounts_of (before ++ grown l.logged es) (put [] l.places d rs) (ops_taken us (moved l.logged ts)))
-      (sym (grown-is here (runs_of us)))
-      ∙ ap (λ (xs : List Ticket). accounts_of (before ++ grown l.logged es) (put [] l.places d (grown here (runs_of us))) xs) tickets-are
+      (sym (grown-is here (update_runs us)))
+      ∙ ap (λ (xs : List Ticket). accounts_of (before ++ grown l.logged es) (put [] l.places d (grown here (update_runs us))) xs) tickets-are
 
   pub settles : (settled : List Settlement) (before : List Entry) (ds : List ℕ) (l : Ledger) → Once (ledger_after ts settled ds l).logged
       → accounts_after settled ds (standing before l) ≡ standing before (ledger_after ts settled ds l)

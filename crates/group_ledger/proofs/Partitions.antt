@@ -13,7 +13,7 @@ use Rattle.group_message.specs.declared.update.Update.{Update}
 use Rattle.group_calls.specs.declared.entry.Entry.{Entry}
 use Rattle.group_run.specs.Applying.{Settlement}
 use Rattle.group_run.specs.World.{Ticket, front_if, settled_in}
-use Rattle.group_ledger.specs.Accounts.{Accounts, accounts_after, accounts_of, news_of, runs_of, with_news}
+use Rattle.group_ledger.specs.Accounts.{Accounts, accounts_after, accounts_of, news_of, update_runs, with_news}
 use Rattle.group_ledger.specs.Taking.{entries_taken, ops_taken}
 
 -- how many updates are settled of partitions from d on
@@ -81,7 +81,7 @@ pub left-partition : (settled : List Settlement) (d k count : ℕ) (places : Pla
     (p q : Vec (Option Run) Global)
     → d < k → d < length places → count ≡ length (get_or places d p).items
     → log2 ≡ log ++ entries_taken tickets (news_of d count settled)
-    → q.items ≡ (get_or places d p).items ++ runs_of (news_of d count settled)
+    → q.items ≡ (get_or places d p).items ++ update_runs (news_of d count settled)
     → tickets2 ≡ ops_taken (news_of d count settled) tickets
     → accounts_after settled (range_with_len (d + 1) (k - (d + 1))) (accounts_of log2 (items_of (set places d q)) tickets2)
     ≡ accounts_after settled (range_with_len d (k - d)) (accounts_of log (items_of places) tickets)
@@ -90,12 +90,12 @@ left-partition settled d k count places log log2 tickets tickets2 p q below with
     let here : (get_or places d p).items ≡ at [] (items_of places) d = place-at places d p within in
     let n-is : count ≡ length (at [] (items_of places) d) = count-is ∙ ap length here in
     let rest : Accounts → Accounts = accounts_after settled (range_with_len (d + 1) (k - (d + 1))) in
-    let places-are : items_of (set places d q) ≡ put [] (items_of places) d (at [] (items_of places) d ++ runs_of (news count))
-    = set-placed places d q within ∙ ap (put [] (items_of places) d) (q-is ∙ ap (λ (xs : List (Option Run)). xs ++ runs_of (news count)) here) in
+    let places-are : items_of (set places d q) ≡ put [] (items_of places) d (at [] (items_of places) d ++ update_runs (news count))
+    = set-placed places d q within ∙ ap (put [] (items_of places) d) (q-is ∙ ap (λ (xs : List (Option Run)). xs ++ update_runs (news count)) here) in
     ap (λ (xs : List Entry). rest (accounts_of xs (items_of (set places d q)) tickets2)) log-is
     ∙ ap (λ (xs : List (List (Option Run))). rest (accounts_of (log ++ entries_taken tickets (news count)) xs tickets2)) places-are
     ∙ ap (λ (xs : List Ticket). rest (accounts_of (log ++ entries_taken tickets (news count))
-    (put [] (items_of places) d (at [] (items_of places) d ++ runs_of (news count))) xs)) tickets-are
+    (put [] (items_of places) d (at [] (items_of places) d ++ update_runs (news count))) xs)) tickets-are
     ∙ ap (λ (n : ℕ). rest (with_news d (news n) (accounts_of log (items_of places) tickets))) n-is
     ∙ sym (ap (λ (ds : List ℕ). accounts_after settled ds (accounts_of log (items_of places) tickets)) (range-front d k below))
 

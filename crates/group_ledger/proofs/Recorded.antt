@@ -9,15 +9,15 @@ use Rattle.group_types.specs.Lists.{at, put}
 use Rattle.group_types.proofs.Lists.{at-put, at-put-other}
 use Rattle.group_types.specs.declared.run.Run.{Run}
 use Rattle.memc_table.specs.declared.reply.Reply.{Reply}
-use Rattle.group_calls.specs.Turns.{CallName, accepts, entry_of, name_of}
+use Rattle.group_calls.specs.Turns.{CallName, accepts, call_entry, name_of}
 use Rattle.group_calls.specs.declared.entry.Entry.{Entry}
 use Rattle.group_calls.specs.declared.event.Answer.{Answer}
 use Rattle.group_calls.specs.declared.event.Answer.TheVariants as says
 use Rattle.group_run.specs.Applying.{Settlement}
-use Rattle.group_run.specs.World.{Call, Ledger, Ticket, asked_after, grown, is_issued, logged_at_once, op_moved}
+use Rattle.group_run.specs.World.{AskedCall, Ledger, Ticket, asked_after, grown, is_issued, logged_at_once, op_moved}
 use Rattle.group_run.specs.World.{refusal_logged, same_call, ticket_if, tickets_after}
 use Rattle.group_ledger.specs.Accounts.{Accounts, accounts_after, accounts_of}
-use Rattle.group_ledger.specs.Books.{Books, Once, Stand, call_in, recorded, settled_by}
+use Rattle.group_ledger.specs.Books.{AreTicketsOfAsked, Books, Once, call_in, recorded, settled_by}
 use Rattle.group_ledger.specs.Taking.{Differ}
 use Rattle.group_ledger.specs.declared.entering.NewCall.{NewCall}
 use Rattle.group_ledger.proofs.Calls.{same-not}
@@ -25,7 +25,7 @@ use Rattle.group_ledger.proofs.Moved.{grown-is, moved, moved-at-once, moved-none
 use Rattle.group_ledger.proofs.Settled.{differ-map}
 
 -- no ticket is of the call
-abbrev pub Fresh : Option Call → List Ticket → Type 0
+abbrev pub Fresh : Option AskedCall → List Ticket → Type 0
 Fresh None ts = Unit {0}
 Fresh (Some c) ts = All (λ t. t.name ≢ c.name) ts
 
@@ -46,12 +46,12 @@ moved-fresh e (t ∷ ts) fresh =
     ∙ ap (λ (xs : List Ticket). t ∷ xs) (moved-fresh e ts (λ k d below. fresh (suc k) d (omega (arith, below))))
 
 -- what is logged at once moves no op
-refusal-moves : (since : ℕ) (c : Call) (r : Reply) (ts : List Ticket) → All (λ t. t.name ≢ c.name) ts → (b : Bool)
+refusal-moves : (since : ℕ) (c : AskedCall) (r : Reply) (ts : List Ticket) → All (λ t. t.name ≢ c.name) ts → (b : Bool)
     → moved (refusal_logged b c r) (ticket_if b since c ts) ≡ ticket_if b since c ts
 refusal-moves since c r ts fresh true = moved-none (ticket_if true since c ts)
-refusal-moves since c r ts fresh false = moved-fresh (entry_of c.name c.op r) ts fresh
+refusal-moves since c r ts fresh false = moved-fresh (call_entry c.name c.op r) ts fresh
 
-pub at-once-moves : (since : ℕ) (o : Option Call) (answer : Answer) (ts : List Ticket) → Fresh o ts
+pub at-once-moves : (since : ℕ) (o : Option AskedCall) (answer : Answer) (ts : List Ticket) → Fresh o ts
     → moved (logged_at_once o answer) (tickets_after since o answer ts) ≡ tickets_after since o answer ts
 at-once-moves since None answer ts fresh = moved-none ts
 at-once-moves since (Some c) (says.Reply r) ts fresh = refusal-moves since c r ts fresh (accepts r)
@@ -70,11 +70,11 @@ at-once-moves since (Some c) says.Gone ts fresh = moved-none ts
 at-once-moves since (Some c) (says.Stale _) ts fresh = moved-none ts
 
 -- tickets differ, the new one too
-ticket-differs : (b : Bool) (since : ℕ) (c : Call) (ts : List Ticket) → Differ ts → All (λ t. t.name ≢ c.name) ts → Differ (ticket_if b since c ts)
+ticket-differs : (b : Bool) (since : ℕ) (c : AskedCall) (ts : List Ticket) → Differ ts → All (λ t. t.name ≢ c.name) ts → Differ (ticket_if b since c ts)
 ticket-differs true since c ts differ fresh = all_pairs_push (λ t u. t.name ≢ u.name) ts (record { name = c.name; since = since; op = Some c.op }) differ fresh
 ticket-differs false since c ts differ fresh = differ
 
-pub still-differ : (since : ℕ) (o : Option Call) (answer : Answer) (ts : List Ticket) → Differ ts → Fresh o ts → Differ (tickets_after since o answer ts)
+pub still-differ : (since : ℕ) (o : Option AskedCall) (answer : Answer) (ts : List Ticket) → Differ ts → Fresh o ts → Differ (tickets_after since o answer ts)
 still-differ since None answer ts differ fresh = differ
 still-differ since (Some c) answer ts differ fresh = ticket-differs (is_issued answer) since c ts differ fresh
 
@@ -82,7 +82,7 @@ still-differ since (Some c) answer ts differ fresh = ticket-differs (is_issued a
 abbrev pub accounts_in : Books → Accounts
 accounts_in b = accounts_of b.log b.places b.tickets
 
-pub accounts-are : (b : Books) (o : Option Call) (answer : Answer) (settled : List Settlement) → Fresh o b.tickets → Differ b.tickets
+pub accounts-are : (b : Books) (o : Option AskedCall) (answer : Answer) (settled : List Settlement) → Fresh o b.tickets → Differ b.tickets
     → Once (settled_by o answer settled b).logged
     → accounts_after settled (range_with_len 0 b.shape.k)
     (accounts_of (b.log ++ logged_at_once o answer) b.places (tickets_after (length b.log) o answer b.tickets))
@@ -99,7 +99,7 @@ accounts-are b o answer settled fresh differs once =
     ∙ ap (λ (xs : List Ticket). accounts_of (grown b.log end.logged) end.places xs) (moved-at-once end.logged ts)
 
 -- the same in steps: what a call made of them, and then what is settled
-pub record IsRecorded (b : Books) (o : Option Call) (answer : Answer) (settled : List Settlement) (asked : List ℕ) (a : Accounts) : Type 0 where
+pub record IsRecorded (b : Books) (o : Option AskedCall) (answer : Answer) (settled : List Settlement) (asked : List ℕ) (a : Accounts) : Type 0 where
   pub asked_is : asked ≡ asked_after b.asked o
   pub accounts_are : a ≡ accounts_in (recorded o answer settled b)
 
@@ -110,9 +110,9 @@ pub record IsRead (b : Books) (asked : List ℕ) (log : List Entry) (places : Li
   pub places_are : places ≡ b.places
   pub tickets_are : tickets ≡ b.tickets
 
-module _ (b : Books) (c : Option NewCall) (answer : Answer) (settled : List Settlement) (stand : Stand b.asked b.tickets)
+module _ (b : Books) (c : Option NewCall) (answer : Answer) (settled : List Settlement) (stand : AreTicketsOfAsked b.asked b.tickets)
     (asked : List ℕ) (log : List Entry) (places : List (List (Option Run))) (tickets : List Ticket) (is : IsRead b asked log places tickets) where
-  abbrev pub o : Option Call
+  abbrev pub o : Option AskedCall
   o = call_in b.asked c
 
   same : call_in asked c ≡ o
@@ -121,7 +121,7 @@ module _ (b : Books) (c : Option NewCall) (answer : Answer) (settled : List Sett
   tickets-then : (tickets2 : List Ticket) → tickets2 ≡ tickets_after (length log) (call_in asked c) answer tickets
       → tickets2 ≡ tickets_after (length b.log) o answer b.tickets
   tickets-then tickets2 e = e ∙ ap (λ (es : List Entry). tickets_after (length es) (call_in asked c) answer tickets) is.log_is
-      ∙ ap (λ (x : Option Call). tickets_after (length b.log) x answer tickets) same ∙ ap (tickets_after (length b.log) o answer) is.tickets_are
+      ∙ ap (λ (x : Option AskedCall). tickets_after (length b.log) x answer tickets) same ∙ ap (tickets_after (length b.log) o answer) is.tickets_are
 
   fresh : Fresh o b.tickets
   fresh = fresh-call b.asked c b.tickets stand.asked_all
@@ -136,10 +136,10 @@ module _ (b : Books) (c : Option NewCall) (answer : Answer) (settled : List Sett
       → IsRecorded b o answer settled asked2 a
   in-steps once asked2 counted log2 log-is tickets2 tickets-are k wide a a-is =
       let log-now : log2 ≡ b.log ++ logged_at_once o answer
-      = log-is ∙ ap (λ (x : Option Call). log ++ logged_at_once x answer) same ∙ ap (λ (es : List Entry). es ++ logged_at_once o answer) is.log_is in
+      = log-is ∙ ap (λ (x : Option AskedCall). log ++ logged_at_once x answer) same ∙ ap (λ (es : List Entry). es ++ logged_at_once o answer) is.log_is in
       let ds : ℕ → List ℕ = λ n. range_with_len 0 n in
       record {
-        asked_is = counted ∙ ap (λ (x : Option Call). asked_after asked x) same ∙ ap (λ (xs : List ℕ). asked_after xs o) is.asked_is;
+        asked_is = counted ∙ ap (λ (x : Option AskedCall). asked_after asked x) same ∙ ap (λ (xs : List ℕ). asked_after xs o) is.asked_is;
         accounts_are = a-is ∙ ap (λ (n : ℕ). accounts_after settled (ds n) (accounts_of log2 places tickets2)) wide
             ∙ ap (λ (es : List Entry). accounts_after settled (ds b.shape.k) (accounts_of es places tickets2)) log-now
             ∙ ap (λ (rs : List (List (Option Run))). accounts_after settled (ds b.shape.k)
@@ -150,7 +150,7 @@ module _ (b : Books) (c : Option NewCall) (answer : Answer) (settled : List Sett
       }
 
 -- tickets stand once an event is recorded
-asks-rise : (asked : List ℕ) (o : Option Call) (caller : ℕ) → at 0 asked caller ≤ at 0 (asked_after asked o) caller
+asks-rise : (asked : List ℕ) (o : Option AskedCall) (caller : ℕ) → at 0 asked caller ≤ at 0 (asked_after asked o) caller
 asks-rise asked None caller = omega arith
 asks-rise asked (Some c) caller = by (cases_eq caller c.name.caller) where
   by : (caller ≡ c.name.caller) ⊎ (caller ≢ c.name.caller) → at 0 asked caller ≤ at 0 (put 0 asked c.name.caller (suc (at 0 asked c.name.caller))) caller
@@ -189,22 +189,23 @@ moved-asked asked es ts all = All-map (IsAsked asked) (op_moved es) ts
     (All-weaker (IsAsked asked) (λ t. IsAsked asked (op_moved es t))
     (λ t low. subst (λ (n : CallName). n.call < at 0 asked n.caller) (sym (name-kept es t)) low) ts all)
 
-pub still-stand : (b : Books) (c : Option NewCall) (answer : Answer) (settled : List Settlement) → Stand b.asked b.tickets
-    → Stand (recorded (call_in b.asked c) answer settled b).asked (recorded (call_in b.asked c) answer settled b).tickets
+pub still-stand : (b : Books) (c : Option NewCall) (answer : Answer) (settled : List Settlement) → AreTicketsOfAsked b.asked b.tickets
+    → AreTicketsOfAsked (recorded (call_in b.asked c) answer settled b).asked (recorded (call_in b.asked c) answer settled b).tickets
 still-stand b c answer settled stand =
     let es : List Entry = (settled_by (call_in b.asked c) answer settled b).logged in
     let ts : List Ticket = tickets_after (length b.log) (call_in b.asked c) answer b.tickets in
-    subst (Stand (asked_after b.asked (call_in b.asked c))) (moved-at-once es ts) (record {
+    subst (AreTicketsOfAsked (asked_after b.asked (call_in b.asked c))) (moved-at-once es ts) (record {
       asked_all = moved-asked (asked_after b.asked (call_in b.asked c)) es ts (tickets-asked c (length b.log) answer b.asked b.tickets stand.asked_all);
       differ = differ-map (op_moved es) (name-kept es) ts
           (still-differ (length b.log) (call_in b.asked c) answer b.tickets stand.differ (fresh-call b.asked c b.tickets stand.asked_all));
     })
 
-pub stand-so : (asked asked2 : List ℕ) (tickets tickets2 : List Ticket) → asked2 ≡ asked → tickets2 ≡ tickets → Stand asked tickets → Stand asked2 tickets2
+pub stand-so : (asked asked2 : List ℕ) (tickets tickets2 : List Ticket) → asked2 ≡ asked → tickets2 ≡ tickets → AreTicketsOfAsked asked tickets
+    → AreTicketsOfAsked asked2 tickets2
 stand-so asked asked2 tickets tickets2 asked-is tickets-are stand =
-    subst (λ (xs : List ℕ). Stand xs tickets2) (sym asked-is) (subst (Stand asked) (sym tickets-are) stand)
+    subst (λ (xs : List ℕ). AreTicketsOfAsked xs tickets2) (sym asked-is) (subst (AreTicketsOfAsked asked) (sym tickets-are) stand)
 
-pub stand-none : (asked : List ℕ) (tickets : List Ticket) → tickets ≡ [] → Stand asked tickets
+pub stand-none : (asked : List ℕ) (tickets : List Ticket) → tickets ≡ [] → AreTicketsOfAsked asked tickets
 stand-none asked tickets none = stand-so asked asked [] tickets refl none (record {
   asked_all = λ k d below. absurd (omega (arith, below));
   differ = λ i j d before below same. omega (arith, below);

@@ -12,14 +12,14 @@ use Rattle.group_calls.specs.declared.entry.Entry.{Entry}
 use Rattle.group_run.specs.Applying.{Settlement}
 use Rattle.group_run.specs.Replica.{run_of}
 use Rattle.group_run.specs.World.{Ticket, entry_then, front_if, new_ones, op_in, same_call, settled_in, update_name}
-use Rattle.group_ledger.specs.Accounts.{news_of, runs_of}
+use Rattle.group_ledger.specs.Accounts.{news_of, update_runs}
 use Rattle.group_ledger.specs.Taking.{Differ, entries_taken, op_taken, ops_taken}
 
 -- with what is left of a partition, these are the log, its places and the tickets in the end
 pub record IsLeft (d count : ℕ) (rest : List Settlement) (log : List Entry) (places : List (Option Run)) (tickets : List Ticket)
     (log_then : List Entry) (places_then : List (Option Run)) (tickets_then : List Ticket) : Type 0 where
   pub log_is : log ++ entries_taken tickets (news_of d count rest) ≡ log_then
-  pub places_are : places ++ runs_of (news_of d count rest) ≡ places_then
+  pub places_are : places ++ update_runs (news_of d count rest) ≡ places_then
   pub tickets_are : ops_taken (news_of d count rest) tickets ≡ tickets_then
   pub differ : Differ tickets
 
@@ -90,8 +90,8 @@ left-settled d count from rest x log log2 log_then places places2 places_then ti
           ∙ ap (λ (ts : List Ticket). (log ++ entry_then u (op_in (update_name u) tickets) []) ++ entries_taken ts us) tickets-are
           ∙ entry-behind u (op_in (update_name u) tickets) log (entries_taken (map (op_taken (update_name u)) tickets) us)
           ∙ sym (ap (λ (xs : List Update). log ++ entries_taken tickets xs) news) ∙ left.log_is;
-      places_are = ap (λ (rs : List (Option Run)). rs ++ runs_of us) places-are ∙ append_assoc places (run_of u.body ∷ []) (runs_of us)
-          ∙ sym (ap (λ (xs : List Update). places ++ runs_of xs) news) ∙ left.places_are;
+      places_are = ap (λ (rs : List (Option Run)). rs ++ update_runs us) places-are ∙ append_assoc places (run_of u.body ∷ []) (update_runs us)
+          ∙ sym (ap (λ (xs : List Update). places ++ update_runs xs) news) ∙ left.places_are;
       tickets_are = ap (ops_taken us) tickets-are ∙ sym (ap (λ (xs : List Update). ops_taken xs tickets) news) ∙ left.tickets_are;
       differ = subst Differ (sym tickets-are) (differ-taken (update_name u) tickets left.differ);
     }

@@ -23,14 +23,14 @@ abbrev pub news_of : ℕ → ℕ → List Settlement → List Update
 news_of d count settled = new_ones count (settled_in d settled)
 
 -- the runs that updates write
-abbrev pub runs_of : List Update → List (Option Run)
-runs_of us = map (λ u. run_of u.body) us
+abbrev pub update_runs : List Update → List (Option Run)
+update_runs us = map (λ u. run_of u.body) us
 
 -- once new updates of partition d are logged
 abbrev pub with_news : ℕ → List Update → Accounts → Accounts
 with_news d news a = record {
   log = a.log ++ entries_taken a.tickets news;
-  places = put [] a.places d (at [] a.places d ++ runs_of news);
+  places = put [] a.places d (at [] a.places d ++ update_runs news);
   tickets = ops_taken news a.tickets;
 }
 

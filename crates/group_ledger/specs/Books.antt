@@ -12,7 +12,7 @@ use Rattle.group_calls.specs.declared.event.Answer.TheVariants as says
 use Rattle.group_run.specs.Applying.{Settlement}
 use Rattle.group_run.specs.Process.{Node}
 use Rattle.group_run.specs.Replica.{callers}
-use Rattle.group_run.specs.World.{Call, Ledger, Ticket, World, asked_after, grown, ledger_after, logged_at_once, ops_moved, tickets_after}
+use Rattle.group_run.specs.World.{AskedCall, Ledger, Ticket, World, asked_after, grown, ledger_after, logged_at_once, ops_moved, tickets_after}
 use Rattle.group_ledger.specs.Taking.{Differ}
 use Rattle.group_ledger.specs.declared.entering.NewCall.{NewCall}
 
@@ -32,13 +32,13 @@ abbrev pub world_of : List Node → Books → World
 world_of nodes b = record { shape = b.shape; nodes = nodes; events = b.events; asked = b.asked; log = b.log; places = b.places; tickets = b.tickets }
 
 -- what an event logs, and where the updates of each partition stand then
-abbrev pub settled_by : Option Call → Answer → List Settlement → Books → Ledger
+abbrev pub settled_by : Option AskedCall → Answer → List Settlement → Books → Ledger
 settled_by call answer settled b =
     ledger_after (tickets_after (length b.log) call answer b.tickets) settled (range_with_len 0 b.shape.k)
     (record { logged = logged_at_once call answer; places = b.places })
 
 -- the books once an event is recorded
-abbrev pub recorded : Option Call → Answer → List Settlement → Books → Books
+abbrev pub recorded : Option AskedCall → Answer → List Settlement → Books → Books
 recorded call answer settled b =
     let ledger : Ledger = settled_by call answer settled b in
     record {
@@ -55,7 +55,7 @@ abbrev pub Once : List Entry → Type 0
 Once entries = AllPairs (λ a b. name_of a ≢ name_of b) entries
 
 -- the call that a caller asks next
-abbrev pub call_in : List ℕ → Option NewCall → Option Call
+abbrev pub call_in : List ℕ → Option NewCall → Option AskedCall
 call_in asked None = None
 call_in asked (Some c) = Some (record { name = record { caller = c.caller; call = at 0 asked c.caller }; op = c.op })
 
@@ -69,18 +69,18 @@ refusal_in (says.Reply reply) = refusal_if (accepts reply) reply
 refusal_in _ = None
 
 -- the books, and the room for one call and for settled updates, together
-pub record Kept : Type 0 where
+pub record KeptBooks : Type 0 where
   pub books : Books
   pub room : ℕ
 
 -- each ticket is of a call that was asked, and no two are of one call
-pub record Stand (asked : List ℕ) (tickets : List Ticket) : Type 0 where
+pub record AreTicketsOfAsked (asked : List ℕ) (tickets : List Ticket) : Type 0 where
   pub asked_all : All (λ t. t.name.call < at 0 asked t.name.caller) tickets
   pub differ : Differ tickets
 
 -- there are counts of all callers, none above that of the events, and places of all partitions
-pub record IsWhole (k events : ℕ) (asked : List ℕ) (places : ℕ) (tickets : List Ticket) : Type 0 where
+pub record AreWholeBooks (k events : ℕ) (asked : List ℕ) (places : ℕ) (tickets : List Ticket) : Type 0 where
   pub callers_all : length asked ≡ callers
   pub calls_low : All (λ n. n ≤ events) asked
   pub partitions_all : places ≡ k
-  pub tickets_stand : Stand asked tickets
+  pub tickets_stand : AreTicketsOfAsked asked tickets

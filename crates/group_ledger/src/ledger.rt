@@ -28,9 +28,9 @@ pub struct Ledger {
 
 impl Model for Ledger {
     ghost use Rattle.std.specs.Prelude.{◌<◌, ◌≤◌, ◌+◌, length, map, vec_len, vec_capacity, All};
-    ghost use Rattle.group_ledger.specs.Books.{IsWhole, Kept};
+    ghost use Rattle.group_ledger.specs.Books.{AreWholeBooks, KeptBooks};
 
-    ghost Value = { Kept };
+    ghost Value = { KeptBooks };
 
     ghost view = { λ l. record {
       books = record {
@@ -44,7 +44,7 @@ impl Model for Ledger {
       room = l.room;
     } };
 
-    ghost invariant = { λ l. IsWhole l.shape.k l.events l.asked.items (length l.places.items) l.tickets.items
+    ghost invariant = { λ l. AreWholeBooks l.shape.k l.events l.asked.items (length l.places.items) l.tickets.items
         × (vec_len l.log + l.room ≤ vec_capacity l.log)
         × All (λ p. vec_len p + l.room ≤ vec_capacity p) l.places.items
         × (0 < l.room → vec_len l.tickets < vec_capacity l.tickets) };

@@ -2,7 +2,7 @@ ghost use Rattle.std.specs.Prelude.{◌≡◌, ◌<◌, ◌≤◌, ◌+◌, ◌+
 ghost use Rattle.std.specs.List.{range_with_len};
 ghost use Rattle.group_run.specs.Replica.{run_of};
 ghost use Rattle.group_run.specs.World.{entry_then, op_in, settled_in, update_name};
-ghost use Rattle.group_ledger.specs.Accounts.{accounts_after, accounts_of, news_of, runs_of};
+ghost use Rattle.group_ledger.specs.Accounts.{accounts_after, accounts_of, news_of, update_runs};
 ghost use Rattle.group_ledger.specs.Taking.{Differ, entries_taken, op_taken, ops_taken};
 
 use crate::room::add;
@@ -47,7 +47,7 @@ fn settle_partition(
     ensures log { log.new.items ≡ log.old.items
         ++ entries_taken tickets.old (news_of partition (vec_len places.old) settled.now) }
     ensures places { places.new.items ≡ places.old.items
-        ++ runs_of (news_of partition (vec_len places.old) settled.now) }
+        ++ update_runs (news_of partition (vec_len places.old) settled.now) }
     ensures tickets { tickets.new ≡ ops_taken (news_of partition (vec_len places.old) settled.now) tickets.old }
     ensures differ { Differ tickets.new }
     ensures few { vec_len log.new ≤ vec_len log.old + length (settled_in partition settled.now) }

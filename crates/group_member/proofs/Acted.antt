@@ -11,7 +11,7 @@ use Rattle.group_wire.specs.Actions.{Collect, Learn, Read, Send, Treat}
 use Rattle.group_wire.specs.May.{MayAct}
 use Rattle.group_wire.specs.Sending.{treating}
 use Rattle.group_wire.specs.Serving.{handed_to, told_of}
-use Rattle.group_wire.specs.Sets.{entry_at, without}
+use Rattle.group_wire.specs.Sets.{entry_at, without_nth}
 use Rattle.group_wire.specs.State.{Request, AskFor, TraceOf, Told, Unasked, Unknown, OpenCall, Group}
 use Rattle.group_wire.specs.Stepping.{group_after}
 use Rattle.group_member.specs.Acting.{Acts, ActsHanding, answer_handed, request_handed}
@@ -34,7 +34,7 @@ entry-behind : {X : Type 0} (xs : List X) (x : X) → entry_at (xs ++ x ∷ []) 
 entry-behind [] x = refl
 entry-behind (y ∷ xs) x = entry-behind xs x
 
-without-behind : {X : Type 0} (xs : List X) (x : X) → without (xs ++ x ∷ []) (length xs) ≡ xs
+without-behind : {X : Type 0} (xs : List X) (x : X) → without_nth (xs ++ x ∷ []) (length xs) ≡ xs
 without-behind [] x = refl
 without-behind (y ∷ xs) x = ap (λ (l : List _). y ∷ l) (without-behind xs x)
 
@@ -67,11 +67,11 @@ trace-acts v caller x o its opened unknown can g out st = record {
 pub treat-acts : (v : Member) (place : ℕ) (r : Request) (node : Node) (t : Option Told) → AreWords v.words → entry_at v.parked place ≡ Some r
     → HasStep v (treating v.words.shape r v.node.process) node → told_of r (treating v.words.shape r v.node.process).answer ≡ listed t → IsOwns v t
     → ActsHanding (Treat v.words.name place ∷ Learn v.words.name v.words.name ∷ []) (answer_handed v.words.shape (handed_of v.words t)) v
-    (record v { callers = callers_heard v.words v.signs.pinged t v.callers; parked = without v.parked place; node = node })
+    (record v { callers = callers_heard v.words v.signs.pinged t v.callers; parked = without_nth v.parked place; node = node })
 treat-acts v place r node t words there step tells its g out st =
     let u = treating v.words.shape r v.node.process in
     let p = v.words.name in
-    let after : Member = record v { parked = without v.parked place; node = node } in
+    let after : Member = record v { parked = without_nth v.parked place; node = node } in
     let frames = answer_handed v.words.shape (handed_of v.words t) out in
     let made = treated-at g out v (stands-with st) words.lives u node step t place r there refl tells in
     let h = group_after g (Treat p place) in
@@ -119,7 +119,7 @@ module _ (v : Member) (caller : ℕ) (o : OpenCall) (its : IsItsCaller v.callers
       let three = treated-at g2 out read two words.lives (treating v.words.shape r v.node.process) node
       (record { process = step.process; sends = step.sends }) t n r
       (entry-behind v.parked r) refl tells in
-      let treated : Member = record read { parked = without read.parked n; node = node } in
+      let treated : Member = record read { parked = without_nth read.parked n; node = node } in
       let there = subst (λ (h : Option Told). StandsWith g3 (answer_handed v.words.shape h out) treated [] (own_of v.words t)) nothing three in
       let four = learns-own g3 out treated t owns there in
       record {

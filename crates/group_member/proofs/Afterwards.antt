@@ -8,7 +8,7 @@ use Rattle.memc_table.specs.Act.{key_of}
 use Rattle.group_run.specs.World.{NodeStep, collect_node}
 use Rattle.group_wire.specs.Actions.{Collect, Learn, Treat}
 use Rattle.group_wire.specs.Serving.{handed_to}
-use Rattle.group_wire.specs.Sets.{entry_at, without}
+use Rattle.group_wire.specs.Sets.{entry_at, without_nth}
 use Rattle.group_wire.specs.State.{Request, AskFor, TraceOf, Told}
 use Rattle.group_member.specs.Acting.{Acts, ActsHanding, answer_handed}
 use Rattle.group_member.specs.Callers.{AreCallersOf, CanBeAsked, CanBeTraced, IsItsCaller, OwnCaller, OwnCallers}
@@ -16,8 +16,8 @@ use Rattle.group_member.specs.Callers.{ask_for, ask_of, caller_of, is_unasked, i
 use Rattle.group_member.specs.Requests.{HasGateway, IsTreatable}
 use Rattle.group_member.specs.Standing.{Member}
 use Rattle.group_member.specs.Telling.{callers_heard, handed_of, told_for, told_to}
-use Rattle.group_member.specs.Treating.{sent_here, settled_by, treat_node}
-use Rattle.group_member.specs.Whole.{IsWhole}
+use Rattle.group_member.specs.Treating.{sent_here, settled_at_request, treat_node}
+use Rattle.group_member.specs.Whole.{IsMemberWhole}
 use Rattle.group_member.proofs.Asked.{open-at, unasked-is, unknown-is}
 use Rattle.group_member.proofs.Callers.{still-own}
 use Rattle.group_member.proofs.Parked.{all-without, remove-is}
@@ -26,7 +26,7 @@ use Rattle.group_member.proofs.Told.{listed}
 use Rattle.group_member.proofs.Here.{asks-here, collected-of, collects, heard-own, made-of, step-whole, traces-here, treats}
 
 -- a request that was treated, or a call that was collected
-module _ (v : Member) (s : Dimensions) (whole : IsWhole s v.words v.signs v.callers v.parked v.node) (t : NodeStep)
+module _ (v : Member) (s : Dimensions) (whole : IsMemberWhole s v.words v.signs v.callers v.parked v.node) (t : NodeStep)
     (told handed : Option Told) (pinged : ℕ) (callers : OwnCallers)
     (number : pinged ≡ v.signs.pinged) (heard : callers ≡ callers_heard v.words pinged told v.callers) (on : handed ≡ handed_of v.words told) where
   heard-is : callers_heard v.words v.signs.pinged told v.callers ≡ callers
@@ -44,12 +44,12 @@ module _ (v : Member) (s : Dimensions) (whole : IsWhole s v.words v.signs v.call
       (record v { callers = callers; parked = rs; node = t.node })) (sym (out ∙ remove-is v.parked place))
       (subst (λ (c : OwnCallers). ActsHanding (Treat v.words.name place ∷ Learn v.words.name v.words.name ∷ [])
       (answer_handed v.words.shape (handed_of v.words told)) v
-      (record v { callers = c; parked = without v.parked place; node = t.node })) heard-is
+      (record v { callers = c; parked = without_nth v.parked place; node = t.node })) heard-is
       (treats v s whole place r there t step told is)))
 
   pub treats-whole : (new : Dimensions) → new ≡ s → (place : ℕ) (r : Request) → treat_node s r v.node ≡ t
       → (parked : List Request) → parked ≡ remove v.parked place
-      → IsWhole new v.words v.signs callers parked t.node
+      → IsMemberWhole new v.words v.signs callers parked t.node
   treats-whole new same place r step parked out = record {
     member = step-whole v s whole new same t (made-of v s whole r t step).whole;
     own = subst (AreCallersOf v.words.shape v.words.name) heard-is (heard-own v whole.own whole.member.words.member v.signs.pinged told);
@@ -67,7 +67,7 @@ module _ (v : Member) (s : Dimensions) (whole : IsWhole s v.words v.signs v.call
       (record v { callers = c; node = t.node })) heard-is (collects v s whole caller call can t step told is))
 
   pub collects-whole : (new : Dimensions) → new ≡ s → (caller call : ℕ) → collect_node s caller call v.node ≡ t
-      → IsWhole new v.words v.signs callers v.parked t.node
+      → IsMemberWhole new v.words v.signs callers v.parked t.node
   collects-whole new same caller call step = record {
     member = step-whole v s whole new same t (collected-of v s whole caller call t step).whole;
     own = subst (AreCallersOf v.words.shape v.words.name) heard-is (heard-own v whole.own whole.member.words.member v.signs.pinged told);
@@ -75,7 +75,7 @@ module _ (v : Member) (s : Dimensions) (whole : IsWhole s v.words v.signs v.call
   }
 
 -- and of a call of its own
-module _ (v : Member) (s : Dimensions) (whole : IsWhole s v.words v.signs v.callers v.parked v.node) (caller : ℕ)
+module _ (v : Member) (s : Dimensions) (whole : IsMemberWhole s v.words v.signs v.callers v.parked v.node) (caller : ℕ)
     (t : NodeStep) (told : Option Told) (pinged : ℕ)
     (before after : OwnCallers) (number : pinged ≡ v.signs.pinged) (heard : after ≡ callers_heard v.words pinged told before) where
   after-is : (between : OwnCallers) → before ≡ between → callers_heard v.words v.signs.pinged told between ≡ after
@@ -109,7 +109,7 @@ module _ (v : Member) (s : Dimensions) (whole : IsWhole s v.words v.signs v.call
 
   -- the member is whole afterwards
   pub own-whole : IsItsCaller v.callers caller → (state : OwnCaller) → before ≡ with_caller v.callers caller state → (new : Dimensions) → new ≡ s
-      → (r : Request) → treat_node s r v.node ≡ t → IsWhole new v.words v.signs after v.parked t.node
+      → (r : Request) → treat_node s r v.node ≡ t → IsMemberWhole new v.words v.signs after v.parked t.node
   own-whole its state is new same r step =
       let between = with_caller v.callers caller state in
       record {
@@ -121,7 +121,7 @@ module _ (v : Member) (s : Dimensions) (whole : IsWhole s v.words v.signs v.call
       }
 
   pub asks-whole : CanBeAsked v.callers caller → before ≡ with_caller v.callers caller (state_asked v caller v.words.name) → (new : Dimensions) → new ≡ s
-      → ((r : Request) → ask_of v.callers caller ≡ Some r → treat_node s r v.node ≡ t) → IsWhole new v.words v.signs after v.parked t.node
+      → ((r : Request) → ask_of v.callers caller ≡ Some r → treat_node s r v.node ≡ t) → IsMemberWhole new v.words v.signs after v.parked t.node
   asks-whole can is new same step =
       let one = open-at is_unasked (caller_of v.callers caller).call can.unasked in
       let n = (caller_of v.callers caller).next in
@@ -129,10 +129,10 @@ module _ (v : Member) (s : Dimensions) (whole : IsWhole s v.words v.signs v.call
       own-whole can.its (state_asked v caller v.words.name) is new same r (step r (ap (ask_for caller n) one.is))
 
   pub asks-settled : CanBeAsked v.callers caller → ((r : Request) → ask_of v.callers caller ≡ Some r → treat_node s r v.node ≡ t)
-      → t.settled ≡ settled_by v.words.shape v.node.process (ask_of v.callers caller)
+      → t.settled ≡ settled_at_request v.words.shape v.node.process (ask_of v.callers caller)
   asks-settled can step =
       let one = open-at is_unasked (caller_of v.callers caller).call can.unasked in
       let n = (caller_of v.callers caller).next in
       let r : Request = AskFor caller n one.opened.op in
       let is : ask_of v.callers caller ≡ Some r = ap (ask_for caller n) one.is in
-      (made-of v s whole r t (step r is)).settled ∙ ap (settled_by v.words.shape v.node.process) (sym is)
+      (made-of v s whole r t (step r is)).settled ∙ ap (settled_at_request v.words.shape v.node.process) (sym is)

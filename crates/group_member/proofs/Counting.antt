@@ -4,7 +4,7 @@ use Rattle.std.specs.Int.{from_bool}
 use Rattle.std.specs.List.{range_with_len}
 use Rattle.group_types.specs.Lists.{at}
 use Rattle.group_types.specs.Names.{index_of, process_at}
-use Rattle.membership.specs.Members.{count_dead, knows_dead, lost_of}
+use Rattle.membership.specs.Members.{count_dead_words, count_known_dead, knows_dead}
 use Rattle.group_wire.specs.Sets.{size_of}
 use Rattle.group_wire.proofs.Sizes.{sizes_are_counts}
 use Rattle.group_member.specs.Showing.{counts_for, own_answerers}
@@ -16,7 +16,7 @@ abbrev counts : Bool → ℕ
 counts word = if word then 1 else 0
 
 abbrev counted : (ℕ → Bool) → ℕ → ℕ → ℕ
-counted f a n = count_dead (map f (range_with_len a n))
+counted f a n = count_dead_words (map f (range_with_len a n))
 
 as-count : (b : Bool) → from_bool b ≡ counts b
 as-count true = refl
@@ -75,7 +75,7 @@ module _ (w : OwnWords) (v : OwnSigns) (ping : ℕ) where
       let more = one_known x in
       omega (arith, here, more)
 
-  pub all_known : AreWords w → known_below (w.shape.k + w.shape.m) ≡ size_of w.shape (own_answerers w v ping) + lost_of w.taken
+  pub all_known : AreWords w → known_below (w.shape.k + w.shape.m) ≡ size_of w.shape (own_answerers w v ping) + count_known_dead w.taken
   all_known words =
       let parts : known_below (w.shape.k + w.shape.m) ≡ size_of w.shape (own_answerers w v ping) + size_of w.shape (knows_dead w.taken) =
       apart (λ y. knows_dead w.taken (process_at w.shape y))

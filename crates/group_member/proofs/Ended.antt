@@ -2,7 +2,7 @@
 use Rattle.std.proofs.Common.{ℕ, ◌≡◌, ◌<◌, true, List, [], ◌∷◌, refl, sym, ap, subst, ◌∙◌}
 use Rattle.std.specs.Prelude.{All, Option, Some, None}
 use Rattle.group_types.specs.declared.process.ProcessId.{ProcessId}
-use Rattle.memc_table.specs.Act.{value_of}
+use Rattle.memc_table.specs.Act.{act_value}
 use Rattle.memc_table.specs.Asked.{Asked}
 use Rattle.membership.specs.Members.{knows_dead}
 use Rattle.group_wire.specs.Actions.{Begin, GiveUp, LetGo}
@@ -35,7 +35,7 @@ call-stands g out v asked told st caller its call =
       own_answers = st.requests.own_answers;
     })
 
-pub begin-acts : (v : Member) (caller : ℕ) (op : Asked) → IsFree v.callers caller → All (λ b. b < 256) (value_of op.act)
+pub begin-acts : (v : Member) (caller : ℕ) (op : Asked) → IsFree v.callers caller → All (λ b. b < 256) (act_value op.act)
     → Acts (Begin caller op ∷ []) v (record v { callers = with_call v.callers caller (Some (record { op = op; position = 0; stage = Unasked })) })
 begin-acts v caller op can bytes g out st = record {
   may = ((caller-here (stands-with st) caller can.its, st.callers.call caller can.its ∙ can.free, bytes), tt);

@@ -17,7 +17,7 @@ use Rattle.group_wire.specs.Actions.{Collect, Learn, Treat}
 use Rattle.group_wire.specs.FromWhom.{requested_by}
 use Rattle.group_wire.specs.Sending.{treating}
 use Rattle.group_wire.specs.Serving.{handed_to, told_of}
-use Rattle.group_wire.specs.Sets.{entry_at, one_or, without}
+use Rattle.group_wire.specs.Sets.{entry_at, one_or, without_nth}
 use Rattle.group_wire.specs.State.{Request, AskFor, TraceOf, Told, Unasked, Unknown, OpenCall, gateway_of}
 use Rattle.group_member.specs.Acting.{Acts, ActsHanding, answer_handed}
 use Rattle.group_member.specs.Callers.{AreCallersOf, IsItsCaller, caller_of, with_caller}
@@ -25,7 +25,7 @@ use Rattle.group_member.specs.Requests.{HasGateway}
 use Rattle.group_member.specs.Standing.{Member, OwnWords}
 use Rattle.group_member.specs.Telling.{callers_heard, callers_learned, handed_of, told_for, told_to}
 use Rattle.group_member.specs.Treating.{sent_here, treat_node}
-use Rattle.group_member.specs.Whole.{IsWhole, IsWholeMember}
+use Rattle.group_member.specs.Whole.{IsMemberWhole, IsWholeMember}
 use Rattle.group_member.proofs.Acted.{ask-here-acts, collect-acts, trace-here-acts, treat-acts}
 use Rattle.group_member.proofs.Callers.{call-own, still-own}
 use Rattle.group_member.proofs.Numbers.{gateway-own, own-gateway, own-low}
@@ -91,7 +91,7 @@ nothing-handed w caller gateway (Some t) is =
     let same : same_process (gateway_of w.shape t.caller) w.name ≡ true = ap (λ (p : ProcessId). same_process p w.name) here ∙ same-refl w.name in
     ap (λ (b : Bool). one_or (b || knows_dead w.cut (gateway_of w.shape t.caller)) None (Some t)) same
 
-module _ (v : Member) (s : Dimensions) (whole : IsWhole s v.words v.signs v.callers v.parked v.node) where
+module _ (v : Member) (s : Dimensions) (whole : IsMemberWhole s v.words v.signs v.callers v.parked v.node) where
   at-own : IsWholeMember v.words.shape v.words v.signs v.node
   at-own = own-shape s v.words v.signs v.node whole.member
 
@@ -108,7 +108,7 @@ module _ (v : Member) (s : Dimensions) (whole : IsWhole s v.words v.signs v.call
   pub treats : (place : ℕ) (r : Request) → entry_at v.parked place ≡ Some r → (t : NodeStep) → treat_node s r v.node ≡ t
       → (told : Option Told) → told ≡ told_to r t.answer
       → ActsHanding (Treat v.words.name place ∷ Learn v.words.name v.words.name ∷ []) (answer_handed v.words.shape (handed_of v.words told)) v
-      (record v { callers = callers_heard v.words v.signs.pinged told v.callers; parked = without v.parked place; node = t.node })
+      (record v { callers = callers_heard v.words v.signs.pinged told v.callers; parked = without_nth v.parked place; node = t.node })
   treats place r there t step told is =
       let made = made-of r t step in
       treat-acts v place r t.node told whole.member.words there made.step (tells r t told made is) (owns v whole.own whole.member.words.member told)

@@ -4,11 +4,11 @@ use Rattle.std.specs.List.{remove}
 use Rattle.std.specs.Prelude.{All, Some, Result, Ok, Err, OnOk, is_ok, slice_index_or}
 use Rattle.group_types.specs.Dimensions.{Dimensions}
 use Rattle.group_run.specs.Process.{Process}
-use Rattle.group_wire.specs.Sets.{entry_at, without}
+use Rattle.group_wire.specs.Sets.{entry_at, without_nth}
 use Rattle.group_wire.specs.State.{Request}
 use Rattle.group_member.specs.Requests.{CanTreat}
 
-pub remove-is : {X : Type 0} (xs : List X) (i : ℕ) → remove xs i ≡ without xs i
+pub remove-is : {X : Type 0} (xs : List X) (i : ℕ) → remove xs i ≡ without_nth xs i
 remove-is [] zero = refl
 remove-is [] (suc i) = refl
 remove-is (x ∷ xs) zero = refl
@@ -28,11 +28,11 @@ pub all-front : (P : Request → Type 0) (r : Request) (rs : List Request) → P
 all-front P r rs first rest zero d below = first
 all-front P r rs first rest (suc k) d below = rest k d (omega (arith, below))
 
-pub all-without : (P : Request → Type 0) (rs : List Request) (place : ℕ) → All P rs → All P (without rs place)
+pub all-without : (P : Request → Type 0) (rs : List Request) (place : ℕ) → All P rs → All P (without_nth rs place)
 all-without P [] place all = all
 all-without P (r ∷ rs) zero all = λ k d below. all (suc k) d (omega (arith, below))
 all-without P (r ∷ rs) (suc place) all =
-    all-front P r (without rs place) (all zero r (omega arith)) (all-without P rs place (λ j e low. all (suc j) e (omega (arith, low))))
+    all-front P r (without_nth rs place) (all zero r (omega arith)) (all-without P rs place (λ j e low. all (suc j) e (omega (arith, low))))
 
 pub same-entry : (rs : List Request) (place : ℕ) (r q : Request) → place < length rs → r ≡ slice_index_or rs place r → q ≡ slice_index_or rs place q → r ≡ q
 same-entry rs place r q below one other =

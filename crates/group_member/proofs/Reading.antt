@@ -5,7 +5,7 @@ use Rattle.group_types.specs.Dimensions.{Dimensions}
 use Rattle.group_types.specs.Names.{process_at}
 use Rattle.group_types.specs.declared.process.ProcessId.{ProcessId}
 use Rattle.group_types.proofs.Names.{same-ne, same-refl}
-use Rattle.membership.specs.Members.{Membership, count_dead, knows_dead, with_dead}
+use Rattle.membership.specs.Members.{Membership, count_dead_words, knows_dead, with_dead}
 use Rattle.group_wire.specs.Sets.{Processes, changed, one_or, size_of}
 use Rattle.group_member.proofs.Keeping.{still-known}
 
@@ -20,7 +20,8 @@ abbrev counts : Bool → ℕ
 counts word = if word then 1 else 0
 
 -- sets with the same processes are of one size
-counted-same : (a b : ℕ → Bool) → ((x : ℕ) → a x ≡ b x) → (n x : ℕ) → count_dead (map a (range_with_len x n)) ≡ count_dead (map b (range_with_len x n))
+counted-same : (a b : ℕ → Bool) → ((x : ℕ) → a x ≡ b x) → (n x : ℕ)
+    → count_dead_words (map a (range_with_len x n)) ≡ count_dead_words (map b (range_with_len x n))
 counted-same a b same zero x = refl
 counted-same a b same (suc n) x =
     let here : counts (a x) ≡ counts (b x) = ap counts (same x) in

@@ -7,7 +7,7 @@ use Rattle.group_types.specs.Lists.{at}
 use Rattle.group_types.specs.Names.{IsProcess, index_of, process_at}
 use Rattle.group_types.specs.declared.process.ProcessId.{ProcessId}
 use Rattle.group_types.proofs.Names.{process_at-in}
-use Rattle.membership.specs.Members.{count_dead, knows_dead, lost_of}
+use Rattle.membership.specs.Members.{count_dead_words, count_known_dead, knows_dead}
 use Rattle.group_wire.specs.Actions.{Show}
 use Rattle.group_wire.specs.May.{CallIsTold, IsToldBefore, answerers}
 use Rattle.group_wire.specs.Sets.{Processes, size_of}
@@ -27,7 +27,7 @@ abbrev counts : Bool → ℕ
 counts word = if word then 1 else 0
 
 counted-within : (a b : ℕ → Bool) (top : ℕ) → ((x : ℕ) → x < top → a x ≡ b x) → (n x : ℕ) → x + n ≤ top
-    → count_dead (map a (range_with_len x n)) ≡ count_dead (map b (range_with_len x n))
+    → count_dead_words (map a (range_with_len x n)) ≡ count_dead_words (map b (range_with_len x n))
 counted-within a b top same zero x low = refl
 counted-within a b top same (suc n) x low =
     let here : counts (a x) ≡ counts (b x) = ap counts (same x (omega (arith, low))) in
@@ -65,7 +65,7 @@ module _ (v : Member) (g : Group) (out : HandedFrames) (st : MemberStands g out 
       size-within s (answerers g p ping) (own_answerers v.words v.signs ping)
       (λ q member. both (g.signs.answered p ping q) (nat_lt ping (at 0 v.signs.answered (index_of s q))) (g.words.taken p q) (knows_dead v.words.taken q)
       (st.signs.answered q ping member) (st.words.taken q)) in
-      let taken : size_of s (g.words.taken p) ≡ lost_of v.words.taken =
+      let taken : size_of s (g.words.taken p) ≡ count_known_dead v.words.taken =
       size-same s (g.words.taken p) (knows_dead v.words.taken) st.words.taken
       ∙ sizes_are_counts s v.words.taken (λ x is. words.named x (words.permitted x (words.taken x is))) in
       subst (λ (d : Dimensions). d.m ≤ size_of d (answerers g p ping) + size_of d (g.words.taken p)) (sym st.shape) (omega (arith, enough, answered, taken))

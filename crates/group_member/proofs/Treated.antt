@@ -11,7 +11,7 @@ use Rattle.group_run.specs.Process.{Node, Process}
 use Rattle.group_wire.specs.Actions.{Collect, Treat}
 use Rattle.group_wire.specs.Sending.{stepped, treating, works_treated}
 use Rattle.group_wire.specs.Serving.{handed_to, request_treated, tell, told_of}
-use Rattle.group_wire.specs.Sets.{changed, entry_at, without}
+use Rattle.group_wire.specs.Sets.{changed, entry_at, without_nth}
 use Rattle.group_wire.specs.State.{Request, Told, Gateways, Group, Signs, Words, Works}
 use Rattle.group_wire.specs.Stepping.{group_after}
 use Rattle.group_member.specs.Acting.{answer_handed}
@@ -75,10 +75,10 @@ module _ (g : Group) (out : HandedFrames) (v : Member) (st : StandsWith g out v 
 
   -- a request that was read is treated
   pub treated-at : (place : ℕ) (r : Request) → entry_at v.parked place ≡ Some r → u ≡ treating v.words.shape r v.node.process → told_of r u.answer ≡ listed t
-      → StandsWith (group_after g (Treat p place)) frames (record v { parked = without v.parked place; node = node }) [] (own_of v.words t)
+      → StandsWith (group_after g (Treat p place)) frames (record v { parked = without_nth v.parked place; node = node }) [] (own_of v.words t)
   treated-at place r there made tells =
-      let after : Member = record v { parked = without v.parked place; node = node } in
-      let h : Gateways = record g.gateways { parked = changed g.gateways.parked p (without (g.gateways.parked p) place) } in
+      let after : Member = record v { parked = without_nth v.parked place; node = node } in
+      let h : Gateways = record g.gateways { parked = changed g.gateways.parked p (without_nth (g.gateways.parked p) place) } in
       let step : treating g.shape r (g.works.process p) ≡ u =
       ap (λ (s : Dimensions). treating s r (g.works.process p)) st.shape ∙ ap (treating v.words.shape r) st.works.process ∙ sym made in
       subst (λ (o : Option Request).
@@ -96,11 +96,12 @@ module _ (g : Group) (out : HandedFrames) (v : Member) (st : StandsWith g out v 
       (subst (λ (ts : List Told).
       StandsWith (record g { works = stepped g.words.cut p u.step g.works; gateways = tell g p ts h }) frames after []
       (own_of v.words t)) (sym tells)
-      (made-step h (without v.parked place) (record { call = st.callers.call; next = st.callers.next })
+      (made-step h (without_nth v.parked place) (record { call = st.callers.call; next = st.callers.next })
       (record {
         requests = st.requests.requests;
         answers = st.requests.answers;
-        parked = changed-here g.gateways.parked p (without (g.gateways.parked p) place) ∙ ap (λ (rs : List Request). without rs place) st.requests.parked;
+        parked = changed-here g.gateways.parked p (without_nth (g.gateways.parked p) place) ∙ ap
+            (λ (rs : List Request). without_nth rs place) st.requests.parked;
         own_requests = st.requests.own_requests;
         own_answers = st.requests.own_answers;
       }))))

@@ -8,7 +8,7 @@ use Rattle.group_wire.specs.State.{Request}
 use Rattle.group_member.specs.Callers.{AreCallersOf, IsItsCaller, OwnCaller, OwnCallers, with_caller}
 use Rattle.group_member.specs.Requests.{IsTreatable}
 use Rattle.group_member.specs.Standing.{OwnSigns, OwnWords}
-use Rattle.group_member.specs.Whole.{IsWhole, IsWholeMember}
+use Rattle.group_member.specs.Whole.{IsMemberWhole, IsWholeMember}
 use Rattle.group_member.specs.Words.{AreWords, AreAmong}
 use Rattle.group_member.proofs.Callers.{still-own}
 
@@ -38,7 +38,7 @@ counted-whole s w v now node same whole =
 
 -- all of a member stays whole where its words keep their shape and name, beside what is shown of the rest
 pub rest-whole : {s new : Dimensions} {w now : OwnWords} {v signs : OwnSigns} {c : OwnCallers} {parked : List Request} {node then : Node}
-    → IsWhole s w v c parked node → now.shape ≡ w.shape → now.name ≡ w.name → IsWholeMember new now signs then → IsWhole new now signs c parked then
+    → IsMemberWhole s w v c parked node → now.shape ≡ w.shape → now.name ≡ w.name → IsWholeMember new now signs then → IsMemberWhole new now signs c parked then
 rest-whole {w = w} {now = now} {c = c} {parked = parked} whole shape name member = record {
   member = member;
   own = subst (λ (d : Dimensions). AreCallersOf d now.name c) (sym shape) (subst (λ (p : ProcessId). AreCallersOf w.shape p c) (sym name) whole.own);
@@ -47,8 +47,8 @@ rest-whole {w = w} {now = now} {c = c} {parked = parked} whole shape name member
 
 -- and where one of its callers goes on, or others are parked
 pub callers-whole : {s : Dimensions} {w : OwnWords} {v : OwnSigns} {c : OwnCallers} {parked : List
-    Request} {node : Node} → IsWhole s w v c parked node → (caller : ℕ)
-    → IsItsCaller c caller → (state : OwnCaller) (now : OwnCallers) → now ≡ with_caller c caller state → IsWhole s w v now parked node
+    Request} {node : Node} → IsMemberWhole s w v c parked node → (caller : ℕ)
+    → IsItsCaller c caller → (state : OwnCaller) (now : OwnCallers) → now ≡ with_caller c caller state → IsMemberWhole s w v now parked node
 callers-whole {s = s} {w = w} {v = v} {c = c} {parked = parked} {node = node} whole caller its state now is =
-    subst (λ (n : OwnCallers). IsWhole s w v n parked node) (sym is)
+    subst (λ (n : OwnCallers). IsMemberWhole s w v n parked node) (sym is)
     (record { member = whole.member; own = still-own c caller its state w.shape w.name whole.own; fit = whole.fit })

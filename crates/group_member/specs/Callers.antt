@@ -127,10 +127,10 @@ pub record CanLetGo (v : OwnCallers) (caller : ℕ) : Type 0 where
   pub waits : call_waits_for (caller_of v caller).call ≡ None
 
 -- what an open call was told as its answer
-abbrev pub told_at : Stage → Option Told
-told_at (Answered told pinged) = Some told
-told_at _ = None
+abbrev pub answer_told_at : Stage → Option Told
+answer_told_at (Answered told pinged) = Some told
+answer_told_at _ = None
 
 abbrev pub told_in : Option OpenCall → Option Told
 told_in None = None
-told_in (Some opened) = told_at opened.stage
+told_in (Some opened) = answer_told_at opened.stage

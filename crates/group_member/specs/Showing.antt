@@ -3,7 +3,7 @@ use Rattle.std.specs.Prelude.{ℕ, ◌≡◌, ◌<◌, ◌≤◌, ◌+◌, ◌&&
 use Rattle.group_types.specs.Lists.{at}
 use Rattle.group_types.specs.Names.{index_of}
 use Rattle.group_types.specs.declared.process.ProcessId.{ProcessId}
-use Rattle.membership.specs.Members.{knows_dead, lost_of}
+use Rattle.membership.specs.Members.{count_known_dead, knows_dead}
 use Rattle.group_wire.specs.May.{call_waits_for}
 use Rattle.group_wire.specs.Sets.{Processes, size_of}
 use Rattle.group_wire.specs.State.{Stage, Answered, OpenCall}
@@ -29,7 +29,7 @@ counts_for w v ping x = knows_dead w.taken x || nat_lt ping (at 0 v.answered (in
 
 -- with those at least m have
 abbrev pub HasEnough : OwnWords → OwnSigns → ℕ → Type 0
-HasEnough w v ping = w.shape.m ≤ size_of w.shape (own_answerers w v ping) + lost_of w.taken
+HasEnough w v ping = w.shape.m ≤ size_of w.shape (own_answerers w v ping) + count_known_dead w.taken
 
 -- an answer may be shown by a ping
 pub record CanShow (v : Member) (caller ping : ℕ) : Type 0 where

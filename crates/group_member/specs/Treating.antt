@@ -21,9 +21,9 @@ treat_node s (AskFor caller call op) node = ask_node s (record { caller = caller
 treat_node s (TraceOf caller call d) node = trace_node s caller call d node
 
 -- the updates that settle by a request
-abbrev pub settled_by : Dimensions → Process → Option Request → List Settlement
-settled_by s p None = []
-settled_by s p (Some r) = (treating s r p).step.settled
+abbrev pub settled_at_request : Dimensions → Process → Option Request → List Settlement
+settled_at_request s p None = []
+settled_at_request s p (Some r) = (treating s r p).step.settled
 
 -- it came too early, and waits on; or it was treated, and its answer is handed out, unless the caller is the member's own,
 -- which learns it at once

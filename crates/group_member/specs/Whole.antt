@@ -19,7 +19,7 @@ pub record IsWholeMember (shape : Dimensions) (w : OwnWords) (v : OwnSigns) (nod
   pub counts : length v.answered ≡ w.shape.k + w.shape.m
 
 -- all of a member: these, its callers, and what it has read, each a request that it can treat
-pub record IsWhole (shape : Dimensions) (w : OwnWords) (v : OwnSigns) (c : OwnCallers) (parked : List Request) (node : Node) : Type 0 where
+pub record IsMemberWhole (shape : Dimensions) (w : OwnWords) (v : OwnSigns) (c : OwnCallers) (parked : List Request) (node : Node) : Type 0 where
   pub member : IsWholeMember shape w v node
   pub own : AreCallersOf w.shape w.name c
   pub fit : All (IsTreatable w.shape) parked

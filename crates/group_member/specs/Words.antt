@@ -2,7 +2,7 @@
 use Rattle.std.specs.Prelude.{◌≡◌, ◌≢◌, ◌≤◌, ◌+◌, true, false, length}
 use Rattle.group_types.specs.Names.{IsProcess}
 use Rattle.group_types.specs.declared.process.ProcessId.{ProcessId}
-use Rattle.membership.specs.Members.{Membership, knows_dead, lost_of, with_dead}
+use Rattle.membership.specs.Members.{Membership, count_known_dead, knows_dead, with_dead}
 use Rattle.group_member.specs.Standing.{OwnWords, heard_of}
 
 -- all that the first knows dead the second does
@@ -14,7 +14,7 @@ pub record CanCut (w : OwnWords) (x : ProcessId) : Type 0 where
   pub member : IsProcess w.shape x
   pub other : x ≢ w.name
   pub uncut : knows_dead w.cut x ≡ false
-  pub few : lost_of (with_dead w.cut x) ≤ w.shape.m
+  pub few : count_known_dead (with_dead w.cut x) ≤ w.shape.m
 
 -- what another sent may be read
 pub record CanReadFrom (w : OwnWords) (x : ProcessId) : Type 0 where

@@ -2,7 +2,7 @@ ghost use Rattle.std.specs.Prelude.{◌≡◌, ◌↔◌, [], ◌∷◌, IsTrue,
 ghost use Rattle.group_wire.specs.Actions as act;
 ghost use Rattle.group_member.specs.Acting.{Acts, ActsHanding, request_handed};
 ghost use Rattle.group_member.specs.Callers.{CanBeAsked, CanBeTraced, ask_of};
-ghost use Rattle.group_member.specs.Treating.{CanAskHere, sent_here, settled_by};
+ghost use Rattle.group_member.specs.Treating.{CanAskHere, sent_here, settled_at_request};
 ghost use Rattle.group_member.specs.Words.{CanReadFrom};
 
 use crate::member::Member;
@@ -73,7 +73,7 @@ impl Member {
         requires { CanAskHere self.old caller }
         ensures acts { OnOk result (Acts (sent_here self.old caller) self.old self.new) }
         ensures settled { IfOk result (λ settled. settled.items
-            ≡ settled_by self.old.words.shape self.old.node.process (ask_of self.old.callers caller)) }
+            ≡ settled_at_request self.old.words.shape self.old.node.process (ask_of self.old.callers caller)) }
         ensures want { OnErr result (self.new ≡ self.old) }
     {
         let number = self.callers.caller(caller).next();

@@ -32,7 +32,7 @@ pub struct Member {
 
 impl Model for Member {
     ghost use Rattle.group_member.specs.Standing as standing;
-    ghost use Rattle.group_member.specs.Whole.{IsWhole};
+    ghost use Rattle.group_member.specs.Whole.{IsMemberWhole};
 
     ghost Value = { standing.Member };
 
@@ -44,7 +44,7 @@ impl Model for Member {
       node = m.node.node;
     } };
 
-    ghost invariant = { λ m. IsWhole m.node.shape m.words m.signs m.callers m.parked.items m.node.node };
+    ghost invariant = { λ m. IsMemberWhole m.node.shape m.words m.signs m.callers m.parked.items m.node.node };
 }
 
 impl Member {

@@ -2,7 +2,7 @@ ghost use Rattle.std.specs.Prelude.{◌≡◌, ◌↔◌, IsTrue, Some};
 ghost use Rattle.group_wire.specs.May.{waits_for};
 ghost use Rattle.group_wire.specs.Serving.{again, call_learned, stage_given_up, stage_told};
 ghost use Rattle.group_wire.specs.State as wire;
-ghost use Rattle.group_member.specs.Callers.{is_unasked, is_unknown, stage_of, told_at, waits_for_told};
+ghost use Rattle.group_member.specs.Callers.{answer_told_at, is_unasked, is_unknown, stage_of, waits_for_told};
 ghost use Rattle.group_member.specs.Showing.{IsToldIn};
 
 use group_calls::Answer;
@@ -108,7 +108,7 @@ impl OpenCall {
 
     /// What it was told as its answer.
     pub(crate) fn into_told(self) -> Option<Told>
-        ensures { result ≡ told_at self.stage }
+        ensures { result ≡ answer_told_at self.stage }
     {
         let OpenCall {
             op: _,

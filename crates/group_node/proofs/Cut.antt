@@ -9,8 +9,8 @@ use Rattle.group_types.specs.declared.process.ProcessId.{ProcessId}
 use Rattle.group_message.specs.declared.message.Message.{Message}
 use Rattle.group_message.specs.declared.message.Message.TheVariants as tells
 use Rattle.group_run.specs.World.{links_cut}
-use Rattle.link_core.specs.Outgoing.{Link, empty_link, link_to, with_link}
-use Rattle.group_node.specs.Rooms.{HasRoom, messages}
+use Rattle.link_core.specs.Outgoing.{Link, empty_link, link_to, with_link_to}
+use Rattle.group_node.specs.Rooms.{HaveRoom, messages}
 use Rattle.group_node.proofs.Links.{many-with, messages-at, messages-long}
 use Rattle.group_node.proofs.Ranges.{entries-same}
 
@@ -29,7 +29,7 @@ none-cut dead keep links = record { many = refl; cut = λ x below within. absurd
 
 module _ (dead : ProcessId) (keep n : ℕ) (before links once new : List (Link Message)) (within : n < length before)
     (cutting : IsCutting dead keep n before links)
-    (is_once : once ≡ with_link links n (take keep (link_to links n).messages) (link_to links n).spare) where
+    (is_once : once ≡ with_link_to links n (take keep (link_to links n).messages) (link_to links n).spare) where
   inside : n < length links
   inside = let many = cutting.many in omega (arith, many, within)
 
@@ -40,7 +40,7 @@ module _ (dead : ProcessId) (keep n : ℕ) (before links once new : List (Link M
   has-place = ap length is_once ∙ many-with links n _ _ ∙ cutting.many
 
   -- there is room for the notice
-  pub has-room : HasRoom 1 before → 0 < (link_to once n).spare
+  pub has-room : HaveRoom 1 before → 0 < (link_to once n).spare
   has-room room =
       let spare = room n within in
       let same : (link_to once n).spare ≡ (link_to before n).spare = ap (λ (l : Link Message). l.spare)
@@ -48,7 +48,7 @@ module _ (dead : ProcessId) (keep n : ℕ) (before links once new : List (Link M
       omega (arith, spare, same)
 
   -- one more is cut
-  pub cuts-on : new ≡ with_link once n ((link_to once n).messages ++ tells.Notice dead ∷ [])
+  pub cuts-on : new ≡ with_link_to once n ((link_to once n).messages ++ tells.Notice dead ∷ [])
       ((link_to once n).spare - 1) → IsCutting dead keep (n + 1) before new
   cuts-on is_new = record {
     many = ap length is_new ∙ many-with once n _ _ ∙ has-place;

@@ -19,8 +19,8 @@ use Rattle.group_run.specs.Receiving.{receive}
 use Rattle.group_run.specs.World as world
 use Rattle.group_run.specs.World.{deliver_nodes, delivered, link_emptied, links_after, links_without, node_after, receive_node}
 use Rattle.process_service.specs.declared.step.Step.{Step}
-use Rattle.process_service.specs.Steps.{stepped}
-use Rattle.link_core.specs.Outgoing.{Link, link_to, with_link}
+use Rattle.process_service.specs.Steps.{machine_step}
+use Rattle.link_core.specs.Outgoing.{Link, link_to, with_link_to}
 use Rattle.group_node.specs.declared.node.NodeOut.{NodeOut}
 use Rattle.group_node.specs.Delivering.{Comes}
 use Rattle.group_node.specs.Rooms.{messages}
@@ -46,7 +46,7 @@ without-is s dead links named long =
 
 emptied : (s : Dimensions) (dead : ProcessId) (node : Node) (old new : List (Link Message)) (x n : ℕ) → IsProcess s dead → length old ≡ s.k + s.m
     → node.links ≡ messages old → x ≡ index_of s dead
-    → new ≡ with_link old x [] n → link_emptied s (tells.Notice dead) node ≡ record node { links = messages new }
+    → new ≡ with_link_to old x [] n → link_emptied s (tells.Notice dead) node ≡ record node { links = messages new }
 emptied s dead node old new x n named long links here is =
     let within : x < length old = let below = index-below s dead named in omega (arith, below, here, long) in
     let after : messages new ≡ links_without s dead node.links =
@@ -70,7 +70,7 @@ not-emptied s (tells.Cease upto) node other = refl
 module _ (s t : Dimensions) (from : ProcessId) (m : Message) (node : Node) (step : Step) (new : Process)
     (known : Membership) (own roomy after : List (Link Message))
     (same : t ≡ s)
-    (is : receive t from m node.process ≡ stepped new step) (links_are : node.links ≡ messages own) (room_made : messages roomy ≡ messages own)
+    (is : receive t from m node.process ≡ machine_step new step) (links_are : node.links ≡ messages own) (room_made : messages roomy ≡ messages own)
     (known_is : known ≡ new.known)
     (sent : messages after ≡ links_after s known step.sent.items (messages roomy)) where
   abbrev pub acted : Node
@@ -90,7 +90,7 @@ module _ (s t : Dimensions) (from : ProcessId) (m : Message) (node : Node) (step
 
   -- the notice of a death
   pub hears : (dead : ProcessId) (cut : List (Link Message)) (x n : ℕ) → m ≡ tells.Notice dead → Fits s from m node.process → length after ≡ s.k + s.m
-      → x ≡ index_of s dead → cut ≡ with_link after x [] n
+      → x ≡ index_of s dead → cut ≡ with_link_to after x [] n
       → receive_node s from m node ≡ record { node = record acted { links = messages cut }; answer = says.Done; settled = step.settled.items }
   hears dead cut x n notice fits long here made =
       let named : IsProcess s dead = (subst (λ (y : Message). Fits s from y node.process) notice fits).1.process in
@@ -144,7 +144,7 @@ module _ (s : Dimensions) (from to : ProcessId) (sender receiver : Node) (is_up 
 
 -- the links without the first message of one
 pub popped : (s : Dimensions) (to : ProcessId) (old new : List (Link Message)) (x n : ℕ) → IsProcess s to → length old ≡ s.k + s.m → x ≡ index_of s to
-    → new ≡ with_link old x (drop 1 (link_to old x).messages) n → messages new ≡ put [] (messages old) (index_of s to) (drop 1 (link_to old x).messages)
+    → new ≡ with_link_to old x (drop 1 (link_to old x).messages) n → messages new ≡ put [] (messages old) (index_of s to) (drop 1 (link_to old x).messages)
 popped s to old new x n named long here made =
     let within : x < length old = let below = index-below s to named in omega (arith, below, here, long) in
     ap messages made ∙ messages-with old x (drop 1 (link_to old x).messages) n within

@@ -2,7 +2,7 @@
 use Rattle.std.proofs.Common.{ℕ, zero, suc, ◌≡◌, ◌<◌, List, [], ◌∷◌, length, All, refl, ap, arith}
 use Rattle.group_types.specs.Lists.{at, put}
 use Rattle.group_message.specs.declared.message.Message.{Message}
-use Rattle.link_core.specs.Outgoing.{Link, link_to, with_link}
+use Rattle.link_core.specs.Outgoing.{Link, link_to, with_link_to}
 use Rattle.group_node.specs.Rooms.{messages}
 
 -- the messages of one link
@@ -17,12 +17,12 @@ messages-long (l ∷ ls) = ap suc (messages-long ls)
 
 -- the messages after one link got others
 pub messages-with : (links : List (Link Message)) (x : ℕ) (ms : List Message) (n : ℕ) → x < length links
-    → messages (with_link links x ms n) ≡ put [] (messages links) x ms
+    → messages (with_link_to links x ms n) ≡ put [] (messages links) x ms
 messages-with [] x ms n within = absurd (omega arith)
 messages-with (l ∷ ls) zero ms n within = refl
 messages-with (l ∷ ls) (suc x) ms n within = ap (λ (rest : List (List Message)). l.messages ∷ rest) (messages-with ls x ms n (omega arith))
 
-pub many-with : (links : List (Link Message)) (x : ℕ) (ms : List Message) (n : ℕ) → length (with_link links x ms n) ≡ length links
+pub many-with : (links : List (Link Message)) (x : ℕ) (ms : List Message) (n : ℕ) → length (with_link_to links x ms n) ≡ length links
 many-with [] x ms n = refl
 many-with (l ∷ ls) zero ms n = refl
 many-with (l ∷ ls) (suc x) ms n = ap suc (many-with ls x ms n)

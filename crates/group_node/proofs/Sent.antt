@@ -12,8 +12,8 @@ use Rattle.group_message.specs.declared.message.Message.{Message}
 use Rattle.law_answers.specs.Steps.{FewForEach}
 use Rattle.group_run.specs.Applying.{Sent}
 use Rattle.group_run.specs.World.{front_if, link_after, links_after, sent_to}
-use Rattle.link_core.specs.Outgoing.{Link, link_to, with_link}
-use Rattle.group_node.specs.Rooms.{HasRoom, HasRoomFor, IsLiving, messages}
+use Rattle.link_core.specs.Outgoing.{Link, link_to, with_link_to}
+use Rattle.group_node.specs.Rooms.{HaveRoom, HaveRoomFor, IsLiving, messages}
 use Rattle.group_node.proofs.Links.{messages-at, messages-long, messages-with}
 use Rattle.group_node.proofs.Ranges.{entries-same, range-below}
 
@@ -82,7 +82,7 @@ module _ (s : Dimensions) (known : Membership) (one : Sent) (rest : List Sent) w
 module _ (s : Dimensions) (known : Membership) where
   -- one message was sent to one of the living
   pub one-behind : (one : Sent) (old new : List (Link Message)) (to : ℕ) → length old ≡ s.k + s.m → IsLiving s known one.to → to ≡ index_of s one.to
-      → new ≡ with_link old to ((link_to old to).messages ++ one.message ∷ []) ((link_to old to).spare - 1)
+      → new ≡ with_link_to old to ((link_to old to).messages ++ one.message ∷ []) ((link_to old to).spare - 1)
       → (rest : List Sent) → links_after s known rest (messages new) ≡ links_after s known (one ∷ rest) (messages old)
   one-behind one old new to long lives is made rest =
       let within : to < length old = let below = index-below s one.to lives.named in omega (arith, below, is, long) in
@@ -96,12 +96,12 @@ module _ (s : Dimensions) (known : Membership) where
   pub record IsSending (all rest : List Sent) (before links : List (Link Message)) : Type 0 where
     pub many : length links ≡ length before
     pub messages_are : links_after s known rest (messages links) ≡ links_after s known all (messages before)
-    pub room : HasRoomFor s rest links
+    pub room : HaveRoomFor s rest links
 
   -- one more was sent
   pub sends-on : (one : Sent) (all rest : List Sent) (before old new : List (Link Message)) → IsSending all (one ∷ rest) before old → length new ≡ length old
       → ((left : List Sent) → links_after s known left (messages new) ≡ links_after s known (one ∷ left) (messages old))
-      → ((left : List Sent) → HasRoomFor s (one ∷ left) old → HasRoomFor s left new) → IsSending all rest before new
+      → ((left : List Sent) → HaveRoomFor s (one ∷ left) old → HaveRoomFor s left new) → IsSending all rest before new
   sends-on one all rest before old new sends many behind room = record
       { many = many ∙ sends.many; messages_are = behind rest ∙ sends.messages_are; room = room rest sends.room }
 
@@ -117,13 +117,13 @@ module _ (s : Dimensions) (known : Membership) where
       → messages links ≡ links_after s known all (messages before)
   all-sent all before links long sends = sym (nothing-behind (messages links) (messages-long links ∙ sends.many ∙ long)) ∙ sends.messages_are
 
-enough-for : (s : Dimensions) (sent : List Sent) (links : List (Link Message)) → FewForEach s sent → HasRoom (suc (suc s.k)) links → HasRoomFor s sent links
+enough-for : (s : Dimensions) (sent : List Sent) (links : List (Link Message)) → FewForEach s sent → HaveRoom (suc (suc s.k)) links → HaveRoomFor s sent links
 enough-for s sent links few room x below = let most = few (process_at s x) in let spare = room x below in omega (arith, most, spare)
 
-pub some-room : (s : Dimensions) (sent : List Sent) (links : List (Link Message)) → HasRoomFor s sent links → HasRoom 1 links
+pub some-room : (s : Dimensions) (sent : List Sent) (links : List (Link Message)) → HaveRoomFor s sent links → HaveRoom 1 links
 some-room s sent links room x below = let most = room x below in omega (arith, most)
 
-pub starts-sending : (s : Dimensions) (known : Membership) (all : List Sent) (links : List (Link Message)) → FewForEach s all → HasRoom (suc (suc s.k)) links
+pub starts-sending : (s : Dimensions) (known : Membership) (all : List Sent) (links : List (Link Message)) → FewForEach s all → HaveRoom (suc (suc s.k)) links
     → IsSending s known all all links links
 starts-sending s known all links few room = record { many = refl; messages_are = refl; room = enough-for s all links few room }
 

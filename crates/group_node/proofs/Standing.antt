@@ -15,7 +15,7 @@ use Rattle.group_run.specs.Receiving.{receive}
 use Rattle.head_service.specs.declared.step.CallStep.{CallStep}
 use Rattle.process_service.specs.declared.step.Step.{Step}
 use Rattle.process_service.specs.Standing.{Standing}
-use Rattle.process_service.specs.Steps.{called, stepped}
+use Rattle.process_service.specs.Steps.{called, machine_step}
 use Rattle.group_node.specs.declared.process.Role.{Role}
 use Rattle.group_node.specs.declared.process.Role.TheVariants.{Data, Parity}
 use Rattle.group_node.specs.Roles.{IsNamed, standing_in}
@@ -28,7 +28,7 @@ asked-name s name op old new (Ok step) is same = sym (ap (λ (t : machine.CallSt
 asked-name s name op old new (Err e) is same = ap (λ (p : Process). p.name) same
 
 pub received-name : (s : Dimensions) (from : ProcessId) (m : Message) (old new : Process) (r : Result Step AllocError)
-    → IfOk r (λ step. receive s from m old ≡ stepped new step) → OnErr r (new ≡ old) → new.name ≡ old.name
+    → IfOk r (λ step. receive s from m old ≡ machine_step new step) → OnErr r (new ≡ old) → new.name ≡ old.name
 received-name s from m old new (Ok step) is same = sym (ap (λ (t : ProcessStep). t.process.name) is) ∙ named-received s from m old
 received-name s from m old new (Err e) is same = ap (λ (p : Process). p.name) same
 

@@ -19,7 +19,7 @@ use Rattle.law_answers.specs.Steps.{AlwaysSendsFew, FewForEach}
 use Rattle.head_service.specs.declared.step.CallStep.{CallStep}
 use Rattle.process_service.specs.declared.step.Step.{Step}
 use Rattle.process_service.specs.Standing as whole
-use Rattle.process_service.specs.Steps.{called, stepped}
+use Rattle.process_service.specs.Steps.{called, machine_step}
 use Rattle.link_core.specs.Outgoing.{Link, empty_link}
 use Rattle.group_node.specs.Rooms.{messages}
 use Rattle.group_node.specs.Standing.{node_standing}
@@ -33,7 +33,7 @@ few-asked s t p new name op step always limits same is =
     (ap (λ (x : Dimensions). ask_process x name op p) (sym same) ∙ is) ((always s p limits).asked name op)
 
 pub few-received : (s t : Dimensions) (p new : Process) (from : ProcessId) (m : Message) (step : Step) → AlwaysSendsFew → IsShape s → t ≡ s → Fits s from m p
-    → receive t from m p ≡ stepped new step → FewForEach s step.sent.items
+    → receive t from m p ≡ machine_step new step → FewForEach s step.sent.items
 few-received s t p new from m step always limits same fits is =
     subst (λ (c : ProcessStep). FewForEach s c.sent) (ap (λ (x : Dimensions). receive x from m p) (sym same) ∙ is) ((always s p limits).received from m fits)
 

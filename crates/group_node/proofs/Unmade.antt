@@ -25,7 +25,7 @@ use Rattle.group_run.specs.Applying.{ProcessStep, head_at, quiet}
 use Rattle.group_run.specs.Asking.{CallStep, Oldest, act_on, ask_head, ask_process, found_at, oldest_inherited, retry_block, ticketed}
 use Rattle.group_run.specs.Applying.{replica_of}
 use Rattle.group_run.specs.Deciding.{Bytes, Found, Missing, blind_reply, decide, decide_blind, decide_found}
-use Rattle.group_run.specs.Deciding.{decide_ruled, decide_waiting, is_get, item_found, length_of, run_needed}
+use Rattle.group_run.specs.Deciding.{decide_ruled, decide_waiting, is_get, item_found, run_needed, slot_length}
 use Rattle.group_run.specs.Deciding.{ruling_with, unseen, waits_for, held_as}
 use Rattle.group_run.specs.Process.{Head, Process}
 use Rattle.group_run.specs.Replica.{Replica, number_on, slot_in}
@@ -75,7 +75,7 @@ module _ (space : ℕ) (r : Replica) (op : Asked) (read : Run → Found) (get : 
 
   waiting : (slot : Option Slot) (w : Option ℕ) → IsNoIssue (decide_waiting space r op read slot w)
   waiting slot (Some n) = tt
-  waiting slot None = blind slot (blind_reply (length_of slot) (ruling_with r op slot (unseen slot)))
+  waiting slot None = blind slot (blind_reply (slot_length slot) (ruling_with r op slot (unseen slot)))
 
   get-issues-none : (inherited : ℕ) → IsNoIssue (decide space inherited r op read)
   get-issues-none inherited = waiting (slot_in r.items (key_of op.act)) (waits_for inherited op.act (number_on r.log (key_of op.act)))

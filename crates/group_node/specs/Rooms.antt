@@ -14,12 +14,12 @@ abbrev pub messages : List (Link Message) → List (List Message)
 messages links = map (λ l. l.messages) links
 
 -- each link has room for n messages
-abbrev pub HasRoom : ℕ → List (Link Message) → Type 0
-HasRoom n links = (x : ℕ) → x < length links → n ≤ (link_to links x).spare
+abbrev pub HaveRoom : ℕ → List (Link Message) → Type 0
+HaveRoom n links = (x : ℕ) → x < length links → n ≤ (link_to links x).spare
 
 -- each link has room for what is sent, and for one message more
-abbrev pub HasRoomFor : Dimensions → List Sent → List (Link Message) → Type 0
-HasRoomFor s sent links = (x : ℕ) → x < length links → suc (length (sent_to (process_at s x) sent)) ≤ (link_to links x).spare
+abbrev pub HaveRoomFor : Dimensions → List Sent → List (Link Message) → Type 0
+HaveRoomFor s sent links = (x : ℕ) → x < length links → suc (length (sent_to (process_at s x) sent)) ≤ (link_to links x).spare
 
 -- the process is one of the group that isn't known dead
 pub record IsLiving (s : Dimensions) (known : Membership) (p : ProcessId) : Type 0 where

@@ -6,7 +6,7 @@ use Rattle.group_message.specs.declared.message.Message.{Message}
 use Rattle.group_run.specs.Process.{Node}
 use Rattle.process_service.specs.Standing as process
 use Rattle.link_core.specs.Outgoing.{Link}
-use Rattle.group_node.specs.Rooms.{HasRoom, messages}
+use Rattle.group_node.specs.Rooms.{HaveRoom, messages}
 
 -- the shape of its group, and the machine's node
 pub record NodeStanding : Type 0 where
@@ -18,8 +18,8 @@ abbrev pub node_standing : Dimensions → process.Standing → List (Link Messag
 node_standing s p links dead down = record { shape = s; node = record { process = p.process; links = messages links; dead = dead; down = down } }
 
 -- a process of the group, with a link to each process; each link of a living one has room for the notice of its death
-pub record IsKept (s : Dimensions) (p : process.Standing) (links : List (Link Message)) (dead : Bool) : Type 0 where
+pub record IsNodeState (s : Dimensions) (p : process.Standing) (links : List (Link Message)) (dead : Bool) : Type 0 where
   pub shape : p.shape ≡ s
   pub named : IsProcess s p.process.name
   pub many : length links ≡ s.k + s.m
-  pub room : dead ≡ false → HasRoom 1 links
+  pub room : dead ≡ false → HaveRoom 1 links

@@ -13,5 +13,5 @@ abbrev pub made : Node → code.NodeOut → NodeStep
 made node out = record { node = node; answer = out.answer; settled = out.settled.items }
 
 -- the answer refuses the call
-abbrev pub IsRefusal : Answer → Type 0
-IsRefusal answer = (reply : Reply) × (answer ≡ says.Reply reply) × (accepts reply ≡ false)
+abbrev pub IsRefusalAnswer : Answer → Type 0
+IsRefusalAnswer answer = (reply : Reply) × (answer ≡ says.Reply reply) × (accepts reply ≡ false)

@@ -2,9 +2,9 @@ ghost use Rattle.std.specs.Prelude.{◌≡◌, ◌↔◌, ◌<◌, false, [], Is
 ghost use Rattle.memc_table.specs.Act.{key_of};
 ghost use Rattle.group_run.specs.Replica.{callers};
 ghost use Rattle.group_run.specs.World.{NodeStep, ask_node, collect_node, flush_node, if_up, trace_node, unchanged};
-ghost use Rattle.head_service.specs.Acting.{name_of};
+ghost use Rattle.head_service.specs.Acting.{name_of_call};
 ghost use Rattle.group_node.specs.Asking.{ChangesNothing, HasNumbers, HasOpened};
-ghost use Rattle.group_node.specs.Steps.{IsRefusal, made};
+ghost use Rattle.group_node.specs.Steps.{IsRefusalAnswer, made};
 
 use crate::node::{Node, NodeOut};
 use crate::sending::{make_room, send_all};
@@ -22,9 +22,9 @@ impl Node {
         requires numbers { self.old.node.down ≡ false → self.old.node.dead ≡ false
             → HasNumbers self.old.shape (key_of op.now.act) self.old.node.process }
         ensures shape { self.new.shape ≡ self.old.shape }
-        ensures step { IfOk result (λ out. ask_node self.old.shape (name_of call) op.now self.old.node
+        ensures step { IfOk result (λ out. ask_node self.old.shape (name_of_call call) op.now self.old.node
             ≡ made self.new.node out) }
-        ensures refusal { IfOk result (λ out. IsRefusal out.answer → self.new ≡ self.old) }
+        ensures refusal { IfOk result (λ out. IsRefusalAnswer out.answer → self.new ≡ self.old) }
         ensures stays { IfOk result (λ out. ChangesNothing op.now out.answer → self.new ≡ self.old) }
         ensures opened { IfOk result (λ out. IsTrue out.opened
             ↔ HasOpened self.old.node.process self.new.node.process) }

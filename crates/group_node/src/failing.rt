@@ -1,6 +1,6 @@
 ghost use Rattle.std.specs.Prelude.{◌≡◌, ◌+◌, false, length, IfOk};
 ghost use Rattle.group_run.specs.World.{links_cut, node_failed};
-ghost use Rattle.group_node.specs.Rooms.{HasRoom, messages};
+ghost use Rattle.group_node.specs.Rooms.{HaveRoom, messages};
 
 use crate::node::Node;
 use group_message::Message;
@@ -21,7 +21,7 @@ impl Node {
 
 fn cut(shape: Shape, dead: ProcessId, keep: u32, links: &mut Links<Message>)
     requires many { length links.old ≡ shape.k + shape.m }
-    requires room { HasRoom 1 links.old }
+    requires room { HaveRoom 1 links.old }
     ensures many { length links.new ≡ length links.old }
     ensures messages { messages links.new ≡ links_cut shape dead keep (messages links.old) }
 {

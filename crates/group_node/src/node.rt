@@ -50,13 +50,13 @@ pub struct Node {
 }
 
 impl Model for Node {
-    ghost use Rattle.group_node.specs.Standing.{IsKept, NodeStanding, node_standing};
+    ghost use Rattle.group_node.specs.Standing.{IsNodeState, NodeStanding, node_standing};
 
     ghost Value = { NodeStanding };
 
     ghost view = { λ n. node_standing n.shape n.process n.links n.dead n.down };
 
-    ghost invariant = { λ n. IsKept n.shape n.process n.links n.dead };
+    ghost invariant = { λ n. IsNodeState n.shape n.process n.links n.dead };
 }
 
 impl Node {

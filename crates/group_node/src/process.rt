@@ -11,11 +11,11 @@ ghost use Rattle.group_run.specs.Process.{opening_process};
 ghost use Rattle.group_run.specs.Receiving as machine;
 ghost use Rattle.group_run.specs.Replica.{callers, last_of};
 ghost use Rattle.group_run.specs.World.{flush_process};
-ghost use Rattle.head_service.specs.Acting.{name_of};
+ghost use Rattle.head_service.specs.Acting.{name_of_call};
 ghost use Rattle.head_service.specs.Paging.{MakesNoneOf};
 ghost use Rattle.process_service.specs.Noticing.{waiting};
 ghost use Rattle.process_service.specs.Paging.{CallMisses, MessageMisses};
-ghost use Rattle.process_service.specs.Steps.{called, stepped};
+ghost use Rattle.process_service.specs.Steps.{called, machine_step};
 ghost use Rattle.group_node.specs.Asking.{HasNumbers};
 ghost use Rattle.group_node.specs.Delivering.{Comes};
 ghost use Rattle.group_run.specs.Shown.{process_stamp};
@@ -81,7 +81,7 @@ impl Process {
         ensures shape { self.new.shape ≡ self.old.shape }
         ensures pages { MakesNoneOf (CallMisses self.old.shape op.now self.old.process) self.old.made self.new.made }
         ensures name { self.new.process.name ≡ self.old.process.name }
-        ensures step { IfOk result (λ step. ask_process self.old.shape (name_of call) op.now self.old.process
+        ensures step { IfOk result (λ step. ask_process self.old.shape (name_of_call call) op.now self.old.process
             ≡ called self.new.process step) }
         ensures err { OnErr result (self.new.process ≡ self.old.process) }
     {
@@ -136,7 +136,7 @@ impl Process {
         ensures pages { MakesNoneOf (MessageMisses self.old.shape.block message.now) self.old.made self.new.made }
         ensures name { self.new.process.name ≡ self.old.process.name }
         ensures step { IfOk result (λ step. machine.receive self.old.shape from message.now self.old.process
-            ≡ stepped self.new.process step) }
+            ≡ machine_step self.new.process step) }
         ensures err { OnErr result (self.new.process ≡ self.old.process) }
     {
         match &mut self.role {

@@ -5,7 +5,7 @@ ghost use Rattle.group_types.specs.Names.{IsProcess};
 ghost use Rattle.group_types.specs.Shape.{IsShape};
 ghost use Rattle.law_answers.specs.Steps.{FewForEach};
 ghost use Rattle.group_run.specs.World.{links_after};
-ghost use Rattle.group_node.specs.Rooms.{HasRoom, HasRoomFor, IsLiving, messages};
+ghost use Rattle.group_node.specs.Rooms.{HaveRoom, HaveRoomFor, IsLiving, messages};
 
 use group_message::Message;
 use group_types::{ProcessId, Shape};
@@ -19,8 +19,8 @@ pub fn make_room(shape: Shape, links: &mut Links<Message>) -> Result<(), AllocEr
     ensures shape { IsShape shape }
     ensures many { length links.new ≡ length links.old }
     ensures messages { messages links.new ≡ messages links.old }
-    ensures kept { HasRoom 1 links.old → HasRoom 1 links.new }
-    ensures room { OnOk result (HasRoom (suc (suc shape.k)) links.new) }
+    ensures kept { HaveRoom 1 links.old → HaveRoom 1 links.new }
+    ensures room { OnOk result (HaveRoom (suc (suc shape.k)) links.new) }
 {
     links.reserve(shape.k() + 2)
 }
@@ -29,10 +29,10 @@ pub fn make_room(shape: Shape, links: &mut Links<Message>) -> Result<(), AllocEr
 pub fn send_all(shape: Shape, known: Members, sent: Vec<Sent>, links: &mut Links<Message>)
     requires many { length links.old ≡ shape.k + shape.m }
     requires few { FewForEach shape sent.items }
-    requires room { HasRoom (suc (suc shape.k)) links.old }
+    requires room { HaveRoom (suc (suc shape.k)) links.old }
     ensures many { length links.new ≡ length links.old }
     ensures messages { messages links.new ≡ links_after shape known sent.items (messages links.old) }
-    ensures room { HasRoom 1 links.new }
+    ensures room { HaveRoom 1 links.new }
 {
     'messages: for one in sent {
         send(shape, known, one, links);
@@ -42,12 +42,12 @@ pub fn send_all(shape: Shape, known: Members, sent: Vec<Sent>, links: &mut Links
 // One message goes into its link.
 fn send(shape: Shape, known: Members, one: Sent, links: &mut Links<Message>)
     requires many { length links.old ≡ shape.k + shape.m }
-    requires room { HasRoom 1 links.old }
+    requires room { HaveRoom 1 links.old }
     ensures many { length links.new ≡ length links.old }
     ensures messages { (rest : List machine.Sent) → links_after shape known rest (messages links.new)
         ≡ links_after shape known (one ∷ rest) (messages links.old) }
-    ensures room { (rest : List machine.Sent) → HasRoomFor shape (one ∷ rest) links.old
-        → HasRoomFor shape rest links.new }
+    ensures room { (rest : List machine.Sent) → HaveRoomFor shape (one ∷ rest) links.old
+        → HaveRoomFor shape rest links.new }
 {
     match living_target(shape, known, one.to) {
         None => {}

@@ -13,10 +13,10 @@ use Rattle.scenario_run.specs.Course.{Fault}
 use Rattle.scenario_run.specs.Script.{first_fault}
 use Rattle.regroup_play.specs.Language.{era_scripts}
 use Rattle.regroup_run.specs.Script as eras
-use Rattle.scenario_play.specs.Language.{Language, told_in}
+use Rattle.scenario_play.specs.Language.{Language, status_told}
 use Rattle.scenario_play.specs.Outside.{Outside}
-use Rattle.scenario_play.specs.Played.{IsPlayed, IsWritten}
-use Rattle.scenario_play.specs.Status.{IsTold, longest_script, status_for, told_at, told_of}
+use Rattle.scenario_play.specs.Played.{IsPlayed, IsTextWritten}
+use Rattle.scenario_play.specs.Status.{IsStatusTold, longest_script, status_for, status_of_lines, told_at}
 use Rattle.scenario_play.specs.declared.status.Status.{Status}
 use Rattle.scenario_play.specs.declared.status.Status.TheVariants.{AcceptFault, TooLong, Want, WriteFault}
 use Rattle.scenario_session.specs.declared.end.SessionEnd.{SessionEnd}
@@ -26,7 +26,7 @@ use Rattle.wire_frames.specs.declared.status.FramesStatus.TheVariants as frames
 use Rattle.run_verify.specs.declared.status.VerifyStatus.{VerifyStatus}
 use Rattle.run_verify.specs.declared.status.VerifyStatus.TheVariants as verdict
 use Rattle.group_program.specs.Verifying as verifying
-use Rattle.group_program.specs.Verifying.{IsJudged}
+use Rattle.group_program.specs.Verifying.{IsTranscriptJudged}
 use Rattle.group_program.specs.Frames as listing
 use Rattle.group_program.specs.Session as session
 use Rattle.group_program.specs.Frames.{IsListed}
@@ -40,15 +40,15 @@ told_at-not n line.Want is = cc is
 -- what is told of a script
 pub told-not : (text : List ℕ) → status_for text ≢ AcceptFault
 told-not text is = by (nat_lt longest_script (length text)) (first_fault text) is where
-  by : (b : Bool) (fault : Option (Fault LineFault)) → (if b then TooLong else told_of told_at fault) ≢ AcceptFault
+  by : (b : Bool) (fault : Option (Fault LineFault)) → (if b then TooLong else status_of_lines told_at fault) ≢ AcceptFault
   by true fault is = cc is
   by false None is = cc is
   by false (Some fault) is = told_at-not fault.number fault.cause is
 
 -- and of one over eras
-pub eras-told-not : (text : List ℕ) → told_in era_scripts text ≢ AcceptFault
+pub eras-told-not : (text : List ℕ) → status_told era_scripts text ≢ AcceptFault
 eras-told-not text is = by (nat_lt longest_script (length text)) (eras.first_fault text) is where
-  by : (b : Bool) (fault : Option (Fault LineFault)) → (if b then TooLong else told_of told_at fault) ≢ AcceptFault
+  by : (b : Bool) (fault : Option (Fault LineFault)) → (if b then TooLong else status_of_lines told_at fault) ≢ AcceptFault
   by true fault is = cc is
   by false None is = cc is
   by false (Some fault) is = told_at-not fault.number fault.cause is
@@ -61,24 +61,24 @@ told_at-never n (cluster-line.BadLayout field.Nodes) is = cc is
 told_at-never n (cluster-line.BadLayout (field.Shape f)) is = cc is
 told_at-never n cluster-line.Want is = cc is
 
-pub groups-told-not : (text : List ℕ) → told_in cluster.cluster_scripts text ≢ AcceptFault
+pub groups-told-not : (text : List ℕ) → status_told cluster.cluster_scripts text ≢ AcceptFault
 groups-told-not text is = by (nat_lt longest_script (length text)) (clusters.first_fault text) is where
-  by : (b : Bool) (fault : Option (Fault ClusterFault)) → (if b then TooLong else told_of cluster.told_at fault) ≢ AcceptFault
+  by : (b : Bool) (fault : Option (Fault ClusterFault)) → (if b then TooLong else status_of_lines cluster.told_at fault) ≢ AcceptFault
   by true fault is = cc is
   by false None is = cc is
   by false (Some fault) is = told_at-never fault.number fault.cause is
 
-pub played-not : (l : Language) → ((text : List ℕ) → told_in l text ≢ AcceptFault) → (before now : Outside) (status : Status) → IsPlayed l before now status
+pub played-not : (l : Language) → ((text : List ℕ) → status_told l text ≢ AcceptFault) → (before now : Outside) (status : Status) → IsPlayed l before now status
     → status ≢ AcceptFault
 played-not l never before now status played is = by played.told where
-  by : IsTold (told_in l played.script) before.reads now.reads before.writes now.writes status → ⊥
+  by : IsStatusTold (status_told l played.script) before.reads now.reads before.writes now.writes status → ⊥
   by (inl same) = never played.script (sym same ∙ is)
   by (inr (inl want)) = cc (sym want ∙ is)
   by (inr (inr (inl read))) = cc (sym read.0 ∙ is)
   by (inr (inr (inr wrote))) = cc (sym wrote.0 ∙ is)
 
 pub written-not : (wanted : Status) (text before now : List ℕ) (faults_before faults_now : ℕ) (status : Status)
-    → IsWritten wanted text before now faults_before faults_now status
+    → IsTextWritten wanted text before now faults_before faults_now status
     → wanted ≢ AcceptFault → status ≢ AcceptFault
 written-not wanted text before now faults_before faults_now status written not is = by written.told where
   by : (status ≡ wanted) ⊎ (status ≡ Want) ⊎ ((status ≡ WriteFault) × Rose faults_before faults_now) → ⊥
@@ -128,5 +128,5 @@ of_verdict verdict.ReadFault is = cc is
 of_verdict verdict.WriteFault is = cc is
 of_verdict verdict.Want is = cc is
 
-pub judged-not : (before now : Outside) (status : Status) → IsJudged before now status → status ≢ AcceptFault
+pub judged-not : (before now : Outside) (status : Status) → IsTranscriptJudged before now status → status ≢ AcceptFault
 judged-not before now status judged = ended-not (verifying.status_of judged.end) judged.middle now status judged.told (of_verdict judged.end)

@@ -4,7 +4,7 @@ use Rattle.std.specs.Result.{IsErrAnd}
 use Rattle.edge_io.specs.Moving.{Input}
 use Rattle.group_config.specs.Carrying.{CarryComesOf}
 use Rattle.group_config.specs.MemberReading.{GivesMember, MemberComesOf}
-use Rattle.group_config.specs.Text.{HasRead}
+use Rattle.group_config.specs.Text.{HasReadSettings}
 use Rattle.group_config.specs.Watching.{WatchComesOf}
 use Rattle.group_config.specs.declared.carry_fault.CarryKeyFault.{CarryKeyFault}
 use Rattle.group_config.specs.declared.carry_fault.CarryKeyFault.TheVariants as carry_fault
@@ -20,7 +20,8 @@ use Rattle.group_program.specs.Watching.{IsGivenWatchOr}
 use Rattle.group_program.specs.declared.carry_stop.CarryStop.{CarryStop}
 use Rattle.group_program.specs.declared.member_stop.MemberStop.{MemberStop}
 
-pub refused : (name : Option (List ℕ)) (before now : Input) (text : List ℕ) (f : MemberFault) (out : Result MemberSettings MemberStop) → HasRead before now text
+pub refused : (name : Option (List ℕ)) (before now : Input) (text : List ℕ) (f : MemberFault) (out : Result MemberSettings MemberStop)
+    → HasReadSettings before now text
     → MemberComesOf name text (Err f) → IsErrAnd out (λ e. e ≡ stop_of f) → IsGivenMemberOr name before now out
 refused name before now text f (Ok settings) read comes is = absurd is
 refused name before now text (fault.BadKey key) (Err e) read comes is =
@@ -30,7 +31,7 @@ refused name before now text fault.Want (Err e) read comes is = subst (λ (s : M
 
 -- and none of how it is watched: those of the member are refused, or else these
 pub member_refused : (name : Option (List ℕ)) (before now : Input) (text : List ℕ) (f : MemberFault)
-    (out : Result (MemberSettings × WatchSettings) MemberStop) → HasRead before now text
+    (out : Result (MemberSettings × WatchSettings) MemberStop) → HasReadSettings before now text
     → MemberComesOf name text (Err f) → IsErrAnd out (λ e. e ≡ stop_of f) → IsGivenWatchOr name before now out
 member_refused name before now text f (Ok given) read comes is = absurd is
 member_refused name before now text (fault.BadKey key) (Err e) read comes is =
@@ -39,7 +40,7 @@ member_refused name before now text (fault.BadKey key) (Err e) read comes is =
 member_refused name before now text fault.Want (Err e) read comes is = subst (λ (s : MemberStop). IsGivenWatchOr name before now (Err s)) (sym is) tt
 
 pub watch_refused : (name : Option (List ℕ)) (before now : Input) (text : List ℕ) (settings : MemberSettings)
-    (f : MemberFault) (out : Result (MemberSettings × WatchSettings) MemberStop) → HasRead before now text
+    (f : MemberFault) (out : Result (MemberSettings × WatchSettings) MemberStop) → HasReadSettings before now text
     → GivesMember name text settings → WatchComesOf text (Err f) → IsErrAnd out (λ e. e ≡ stop_of f) → IsGivenWatchOr name before now out
 watch_refused name before now text settings f (Ok given) read gives comes is = absurd is
 watch_refused name before now text settings (fault.BadKey key) (Err e) read gives comes is =
@@ -48,7 +49,7 @@ watch_refused name before now text settings fault.Want (Err e) read gives comes 
     subst (λ (s : MemberStop). IsGivenWatchOr name before now (Err s)) (sym is) tt
 
 -- and none of a carry
-pub carry_refused : (before now : Input) (text : List ℕ) (f : CarryKeyFault) (out : Result CarrySettings CarryStop) → HasRead before now text
+pub carry_refused : (before now : Input) (text : List ℕ) (f : CarryKeyFault) (out : Result CarrySettings CarryStop) → HasReadSettings before now text
     → CarryComesOf text (Err f) → IsErrAnd out (λ e. e ≡ carrying.stop_of f) → IsGivenCarryOr before now out
 carry_refused before now text f (Ok settings) read comes is = absurd is
 carry_refused before now text (carry_fault.BadKey key) (Err e) read comes is =

@@ -13,8 +13,8 @@ use Rattle.scenario_play.proofs.Ending.{came_from}
 use Rattle.group_server.specs.Service.{HasServedGroup, Tally}
 use Rattle.group_server.specs.declared.fault.ServiceFault.{ServiceFault}
 use Rattle.group_server.specs.declared.fault.ServiceFault.TheVariants as fault
-use Rattle.group_program.specs.Program.{HasStopped}
-use Rattle.group_program.specs.Serving.{HasServedWhole, IsServed}
+use Rattle.group_program.specs.Program.{HasNoMemoryForWords}
+use Rattle.group_program.specs.Serving.{HasServedWhole, IsGroupServed}
 use Rattle.group_program.specs.Serving as serving
 use Rattle.group_program.specs.Session.{HasToldLast, status_of}
 
@@ -73,7 +73,7 @@ pub was_write : (e : SessionEnd) (status : Status) → (status ≡ status_of e) 
 was_write e status is now = of_write e (came_from (status_of e) status WriteFault is now (λ w. cc w))
 
 -- no memory to read the words
-pub stopped : (before now : List ℕ) (status : Status) → (status ≡ Want) ⊎ (status ≡ Want) → TellsFront before now status → HasStopped before now status
+pub stopped : (before now : List ℕ) (status : Status) → (status ≡ Want) ⊎ (status ≡ Want) → TellsFront before now status → HasNoMemoryForWords before now status
 stopped before now status (inl want) front = record { want = want; told = subst (TellsFront before now) want front }
 stopped before now status (inr want) front = record { want = want; told = subst (TellsFront before now) want front }
 
@@ -104,7 +104,7 @@ module _ {L : Type 0} (listened : L → List ℕ → L → Type 0) (tells : L �
   not_done wanted (inl is) not = not (sym is ∙ done)
   not_done wanted (inr want) not = cc (sym done ∙ want)
 
-  pub served_whole : IsServed listened tells l l_now before now status → HasServedWhole listened tells l l_now before now
+  pub served_whole : IsGroupServed listened tells l l_now before now status → HasServedWhole listened tells l l_now before now
   served_whole served = by served.end served.served served.told where
     by : (end : Result ℕ ServiceFault) → Serves served.middle.input served.middle.held end
         → HasToldLast (serving.status_of end) served.middle now status

@@ -3,7 +3,7 @@ use Rattle.std.specs.Prelude.{◌≡◌, ◌⊎◌, ℕ, List, [], codes, Result
 use Rattle.edge_io.specs.Moving.{Input}
 use Rattle.edge_io.specs.Writing.{HasWritten}
 use Rattle.group_config.specs.Carrying.{GivesCarry, RefusesCarry}
-use Rattle.group_config.specs.Text.{HasRead, HasReadTooMuch}
+use Rattle.group_config.specs.Text.{HasReadSettings, HasReadTooMuch}
 use Rattle.group_config.specs.declared.carry_fault.CarryKeyFault.{CarryKeyFault}
 use Rattle.group_config.specs.declared.carry_fault.CarryKeyFault.TheVariants as fault
 use Rattle.group_config.specs.declared.carry_key.CarryKey.{CarryKey}
@@ -32,13 +32,13 @@ stop_of fault.Want = Unread text.Want
 -- the source was read to its end, and its text gives these settings
 pub record HasGivenCarry (before now : Input) (settings : CarrySettings) : Type 0 where
   pub text : List ℕ
-  pub read : HasRead before now text
+  pub read : HasReadSettings before now text
   pub gives : GivesCarry text settings
 
 -- the source was read to its end, and this is the first key at which its text is refused
 pub record HasRefusedCarry (before now : Input) (key : CarryKey) : Type 0 where
   pub text : List ℕ
-  pub read : HasRead before now text
+  pub read : HasReadSettings before now text
   pub refuses : RefusesCarry text key
 
 -- what a source gave from which settings of a carry were to be read
@@ -101,12 +101,12 @@ HasToldCarry (Err (Unread fault)) before now status = HasToldLast (status_of_tex
 -- over a machine of which `carried` tells what a carry makes
 module _ {M : Type 0} (carried : M → CarrySettings → CarryEnd → M → Type 0) (m m_now : M) where
   -- the machine carried by the settings that were read, or there were none, and the machine is as it was
-  abbrev pub HasCarried : Input → Input → Result CarryEnd CarryStop → Type 0
-  HasCarried before now (Ok ended) = (settings : CarrySettings) × HasGivenCarry before now settings × carried m settings ended m_now
-  HasCarried before now (Err stop) = IsGivenCarryOr before now (Err stop) × (m_now ≡ m)
+  abbrev pub HasCarriedGroup : Input → Input → Result CarryEnd CarryStop → Type 0
+  HasCarriedGroup before now (Ok ended) = (settings : CarrySettings) × HasGivenCarry before now settings × carried m settings ended m_now
+  HasCarriedGroup before now (Err stop) = IsGivenCarryOr before now (Err stop) × (m_now ≡ m)
 
   -- items were carried by the settings that were read, or none were, and how that ended was told
   pub record IsCarry (before now : Outside) (status : Status) : Type 0 where
     pub end : Result CarryEnd CarryStop
-    pub run : HasCarried before.input now.input end
+    pub run : HasCarriedGroup before.input now.input end
     pub told : HasToldCarry end before now status

@@ -3,7 +3,7 @@ use Rattle.std.specs.Prelude.{◌≡◌, ◌⊎◌, ℕ, List, [], codes, Option
 use Rattle.edge_io.specs.Moving.{Input}
 use Rattle.edge_io.specs.Writing.{HasWritten}
 use Rattle.group_config.specs.MemberReading.{GivesMember, RefusesMember}
-use Rattle.group_config.specs.Text.{HasRead, HasReadTooMuch}
+use Rattle.group_config.specs.Text.{HasReadSettings, HasReadTooMuch}
 use Rattle.group_config.specs.declared.fault.TextFault.{TextFault}
 use Rattle.group_config.specs.declared.fault.TextFault.TheVariants as text
 use Rattle.group_config.specs.declared.member_fault.MemberFault.{MemberFault}
@@ -32,13 +32,13 @@ stop_of fault.Want = Unread text.Want
 -- the source was read to its end, and its text gives these settings of a member, of the member of this name where there is one
 pub record HasGivenMember (name : Option (List ℕ)) (before now : Input) (settings : MemberSettings) : Type 0 where
   pub text : List ℕ
-  pub read : HasRead before now text
+  pub read : HasReadSettings before now text
   pub gives : GivesMember name text settings
 
 -- the source was read to its end, and this is the first key at which its text is refused
 pub record HasRefusedMember (name : Option (List ℕ)) (before now : Input) (key : MemberKey) : Type 0 where
   pub text : List ℕ
-  pub read : HasRead before now text
+  pub read : HasReadSettings before now text
   pub refuses : RefusesMember name text key
 
 -- what a source gave from which settings of a member were to be read

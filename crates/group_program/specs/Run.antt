@@ -17,7 +17,7 @@ use Rattle.scenario_play.specs.declared.status.Status.{Status}
 use Rattle.scenario_play.specs.declared.status.Status.TheVariants.{AcceptFault, BadWords, ReadFault, WriteFault}
 use Rattle.group_program.specs.Carrying.{IsCarry}
 use Rattle.group_program.specs.Member.{IsMember}
-use Rattle.group_program.specs.Program.{HasCarriedOut, HasStopped}
+use Rattle.group_program.specs.Program.{HasCarriedOut, HasNoMemoryForWords}
 use Rattle.group_program.specs.Watching.{IsWatched}
 use Rattle.group_program.specs.Words.{ReadsNothing, RunsNoMember}
 use Rattle.group_program.specs.declared.edges.Edges.{Edges}
@@ -34,11 +34,11 @@ module _ {S K L M T : Type 0} (streams : S → K → Outside) (listened : L → 
 
   -- there was no memory to read the words, which was told, and the source is as it was
   abbrev pub HasNotBegun : Status → Type 0
-  HasNotBegun status = HasStopped outside_before.held outside_now.held status × (e_now.source ≡ e.source)
+  HasNotBegun status = HasNoMemoryForWords outside_before.held outside_now.held status × (e_now.source ≡ e.source)
 
   -- and so is the machine
   abbrev pub HasNotRun : Status → Type 0
-  HasNotRun status = HasStopped outside_before.held outside_now.held status × (e_now.source ≡ e.source) × (e_now.machine ≡ e.machine)
+  HasNotRun status = HasNoMemoryForWords outside_before.held outside_now.held status × (e_now.source ≡ e.source) × (e_now.machine ≡ e.machine)
 
   -- what comes of a command, which is none where the words say none: what a command promises where all was done follows from `ran`
   pub record HasRunCommand (command : Option Command) (status : Status) : Type 0 where

@@ -20,7 +20,7 @@ status_of end.WriteFault = WriteFault
 status_of end.Want = Want
 
 -- a script and a transcript were read and judged, and what came of it was told
-pub record IsJudged (before now : Outside) (status : Status) : Type 0 where
+pub record IsTranscriptJudged (before now : Outside) (status : Status) : Type 0 where
   pub end : VerifyStatus
   pub middle : Outside
   pub judged : HasJudged before.input middle.input before.held middle.held end

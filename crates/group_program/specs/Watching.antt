@@ -2,7 +2,7 @@
 use Rattle.std.specs.Prelude.{◌≡◌, ◌⊎◌, ℕ, List, Option, Result, Ok, Err, ⊤}
 use Rattle.edge_io.specs.Moving.{Input}
 use Rattle.group_config.specs.MemberReading.{GivesMember, RefusesMember}
-use Rattle.group_config.specs.Text.{HasRead, HasReadTooMuch}
+use Rattle.group_config.specs.Text.{HasReadSettings, HasReadTooMuch}
 use Rattle.group_config.specs.Watching.{GivesWatch, RefusesWatch}
 use Rattle.group_config.specs.declared.fault.TextFault.TheVariants as text
 use Rattle.group_config.specs.declared.member_key.MemberKey.{MemberKey}
@@ -19,14 +19,14 @@ use Rattle.group_program.specs.declared.member_stop.MemberStop.TheVariants.{BadK
 -- the source was read to its end, and its text gives these settings of a member and of how it is watched
 pub record HasGivenWatch (name : Option (List ℕ)) (before now : Input) (settings : MemberSettings) (watch : WatchSettings) : Type 0 where
   pub text : List ℕ
-  pub read : HasRead before now text
+  pub read : HasReadSettings before now text
   pub gives : GivesMember name text settings
   pub gives_watch : GivesWatch text watch
 
 -- the source was read to its end, and this is the first key at which its text is refused, by a member or else by who watches it
 pub record HasRefusedWatch (name : Option (List ℕ)) (before now : Input) (key : MemberKey) : Type 0 where
   pub text : List ℕ
-  pub read : HasRead before now text
+  pub read : HasReadSettings before now text
   pub refuses : RefusesMember name text key ⊎ ((settings : MemberSettings) × GivesMember name text settings × RefusesWatch text key)
 
 -- what a source gave from which such settings were to be read

@@ -3,7 +3,7 @@ ghost use Rattle.edge_io.specs.Faults.{HasCauseOf, Rose};
 ghost use Rattle.group_config.specs.Carrying.{CarryComesOf};
 ghost use Rattle.group_config.specs.declared.fault.TextFault.TheVariants as text;
 ghost use Rattle.scenario_play.specs.Outside.{outside};
-ghost use Rattle.group_program.specs.Carrying.{HasCarried, IsCarry, IsGivenCarryOr, status_of_carry};
+ghost use Rattle.group_program.specs.Carrying.{HasCarriedGroup, IsCarry, IsGivenCarryOr, status_of_carry};
 ghost use Rattle.group_program.specs.declared.carry_stop.CarryStop.TheVariants.{Unread};
 
 use crate::carry_line::tell_carry_key;
@@ -48,7 +48,7 @@ fn carry_by_settings<S: Source, M: Carrier, N: Notice>(
     machine: &mut M,
     notice: &N,
 ) -> Result<CarryEnd, CarryStop>
-    ensures ran { HasCarried M.carried machine.old machine.new (S.input source.old) (S.input source.new) result }
+    ensures ran { HasCarriedGroup M.carried machine.old machine.new (S.input source.old) (S.input source.new) result }
     ensures read { HasCauseOf (S.faults source.old) (S.faults source.new) result (Unread text.ReadFault) }
 {
     match given(alloc, source, notice) {

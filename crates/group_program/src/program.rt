@@ -1,10 +1,10 @@
 ghost use Rattle.std.specs.Prelude.{◌≡◌, ◌≢◌, ◌⊎◌, ℕ, List, Option, map, option_copied, Some, None};
 ghost use Rattle.std.specs.String.{string_bytes};
 ghost use Rattle.cluster_play.specs.Language.{cluster_scripts};
-ghost use Rattle.command_line.specs.Words.{command_of};
+ghost use Rattle.command_line.specs.Words.{command_of_words};
 ghost use Rattle.edge_io.specs.Faults.{Rose};
 ghost use Rattle.regroup_play.specs.Language.{era_scripts};
-ghost use Rattle.group_server.specs.Service.{tally};
+ghost use Rattle.group_server.specs.Service.{tally_with};
 ghost use Rattle.group_types.specs.Dimensions.{Dimensions};
 ghost use Rattle.group_types.specs.Shape.{IsShape};
 ghost use Rattle.scenario_play.specs.Language.{group_scripts};
@@ -12,7 +12,7 @@ ghost use Rattle.scenario_play.specs.Outside.{outside};
 ghost use Rattle.scenario_play.specs.Played.{HasPlayedWhole};
 ghost use Rattle.group_program.specs.Carrying.{IsCarry};
 ghost use Rattle.group_program.specs.Member.{IsMember};
-ghost use Rattle.group_program.specs.Program.{HasCarriedOut, HasStopped};
+ghost use Rattle.group_program.specs.Program.{HasCarriedOut, HasNoMemoryForWords};
 ghost use Rattle.group_program.specs.Serving.{HasServedWhole};
 ghost use Rattle.group_program.specs.Watching.{IsWatched};
 ghost use Rattle.group_program.specs.Words.{ReadsNothing, RunsNoMember};
@@ -64,45 +64,45 @@ pub fn run_program<
 where
     L::Incoming: Drop,
     L::Outgoing: Drop,
-    ensures ran { HasCarriedOut L.listened (λ l. tally (L.at l) (L.accepted l) (L.over l)) listener.old listener.new
-        (command_of (map string_bytes words.now)) (T.moment clock.now)
+    ensures ran { HasCarriedOut L.listened (λ l. tally_with (L.at l) (L.accepted l) (L.over l)) listener.old listener.new
+        (command_of_words (map string_bytes words.now)) (T.moment clock.now)
         (outside (S.input source.old) (S.faults source.old) (K.held sink.old) (K.faults sink.old))
         (outside (S.input source.new) (S.faults source.new) (K.held sink.new) (K.faults sink.new)) result
-        ⊎ (HasStopped (K.held sink.old) (K.held sink.new) result × (source.new ≡ source.old)) }
-    ensures promises { command_of (map string_bytes words.now) ≡ Some Command.Play → result ≡ Status.Done
+        ⊎ (HasNoMemoryForWords (K.held sink.old) (K.held sink.new) result × (source.new ≡ source.old)) }
+    ensures promises { command_of_words (map string_bytes words.now) ≡ Some Command.Play → result ≡ Status.Done
         → HasPlayedWhole group_scripts (S.input source.old) (S.input source.new) (K.held sink.old) (K.held sink.new) }
-    ensures cluster_promises { command_of (map string_bytes words.now) ≡ Some Command.PlayGroups → result ≡ Status.Done
+    ensures cluster_promises { command_of_words (map string_bytes words.now) ≡ Some Command.PlayGroups → result ≡ Status.Done
         → HasPlayedWhole cluster_scripts (S.input source.old) (S.input source.new) (K.held sink.old) (K.held sink.new) }
-    ensures era_promises { command_of (map string_bytes words.now) ≡ Some Command.PlayRegroup → result ≡ Status.Done
+    ensures era_promises { command_of_words (map string_bytes words.now) ≡ Some Command.PlayRegroup → result ≡ Status.Done
         → HasPlayedWhole era_scripts (S.input source.old) (S.input source.new) (K.held sink.old) (K.held sink.new) }
-    ensures serves { command_of (map string_bytes words.now) ≡ Some Command.Serve → result ≡ Status.Done
-        → HasServedWhole L.listened (λ l. tally (L.at l) (L.accepted l) (L.over l)) listener.old listener.new
+    ensures serves { command_of_words (map string_bytes words.now) ≡ Some Command.Serve → result ≡ Status.Done
+        → HasServedWhole L.listened (λ l. tally_with (L.at l) (L.accepted l) (L.over l)) listener.old listener.new
         (outside (S.input source.old) (S.faults source.old) (K.held sink.old) (K.faults sink.old))
         (outside (S.input source.new) (S.faults source.new) (K.held sink.new) (K.faults sink.new)) }
-    ensures member { (name : Option (List ℕ)) → command_of (map string_bytes words.now) ≡ Some (Command.Member name)
+    ensures member { (name : Option (List ℕ)) → command_of_words (map string_bytes words.now) ≡ Some (Command.Member name)
         → IsMember M.ran machine.old machine.new name
         (outside (S.input source.old) (S.faults source.old) (K.held sink.old) (K.faults sink.old))
         (outside (S.input source.new) (S.faults source.new) (K.held sink.new) (K.faults sink.new)) result
-        ⊎ (HasStopped (K.held sink.old) (K.held sink.new) result × (source.new ≡ source.old) × (machine.new ≡ machine.old)) }
-    ensures watch { (name : Option (List ℕ)) → command_of (map string_bytes words.now) ≡ Some (Command.Watch name)
+        ⊎ (HasNoMemoryForWords (K.held sink.old) (K.held sink.new) result × (source.new ≡ source.old) × (machine.new ≡ machine.old)) }
+    ensures watch { (name : Option (List ℕ)) → command_of_words (map string_bytes words.now) ≡ Some (Command.Watch name)
         → IsWatched M.watched machine.old machine.new name
         (outside (S.input source.old) (S.faults source.old) (K.held sink.old) (K.faults sink.old))
         (outside (S.input source.new) (S.faults source.new) (K.held sink.new) (K.faults sink.new)) result
-        ⊎ (HasStopped (K.held sink.old) (K.held sink.new) result × (source.new ≡ source.old) × (machine.new ≡ machine.old)) }
-    ensures carry { command_of (map string_bytes words.now) ≡ Some Command.Carry
+        ⊎ (HasNoMemoryForWords (K.held sink.old) (K.held sink.new) result × (source.new ≡ source.old) × (machine.new ≡ machine.old)) }
+    ensures carry { command_of_words (map string_bytes words.now) ≡ Some Command.Carry
         → IsCarry M.carried machine.old machine.new
         (outside (S.input source.old) (S.faults source.old) (K.held sink.old) (K.faults sink.old))
         (outside (S.input source.new) (S.faults source.new) (K.held sink.new) (K.faults sink.new)) result
-        ⊎ (HasStopped (K.held sink.old) (K.held sink.new) result × (source.new ≡ source.old) × (machine.new ≡ machine.old)) }
-    ensures bad_words { result ≡ Status.BadWords → command_of (map string_bytes words.now) ≡ None }
+        ⊎ (HasNoMemoryForWords (K.held sink.old) (K.held sink.new) result × (source.new ≡ source.old) × (machine.new ≡ machine.old)) }
+    ensures bad_words { result ≡ Status.BadWords → command_of_words (map string_bytes words.now) ≡ None }
     ensures read { result ≡ Status.ReadFault → Rose (S.faults source.old) (S.faults source.new) }
     ensures write { result ≡ Status.WriteFault → Rose (K.faults sink.old) (K.faults sink.new) }
     ensures accept { result ≡ Status.AcceptFault → Rose (L.faults listener.old) (L.faults listener.new) }
-    ensures unread { ReadsNothing (command_of (map string_bytes words.now)) → source.new ≡ source.old }
-    ensures unshaped { (d : Dimensions) → command_of (map string_bytes words.now)
+    ensures unread { ReadsNothing (command_of_words (map string_bytes words.now)) → source.new ≡ source.old }
+    ensures unshaped { (d : Dimensions) → command_of_words (map string_bytes words.now)
         ≡ Some (Command.Session d.k d.m d.blocks d.block) → ¬ (IsShape d) → source.new ≡ source.old }
-    ensures listener { command_of (map string_bytes words.now) ≢ Some Command.Serve → listener.new ≡ listener.old }
-    ensures machine { RunsNoMember (command_of (map string_bytes words.now)) → machine.new ≡ machine.old }
+    ensures listener { command_of_words (map string_bytes words.now) ≢ Some Command.Serve → listener.new ≡ listener.old }
+    ensures machine { RunsNoMember (command_of_words (map string_bytes words.now)) → machine.new ≡ machine.old }
 {
     match read_words(alloc, words) {
         Ok(command) => run_command(
@@ -136,7 +136,7 @@ fn run_command<
 where
     L::Incoming: Drop,
     L::Outgoing: Drop,
-    ensures ran { HasCarriedOut L.listened (λ l. tally (L.at l) (L.accepted l) (L.over l)) listener.old listener.new
+    ensures ran { HasCarriedOut L.listened (λ l. tally_with (L.at l) (L.accepted l) (L.over l)) listener.old listener.new
         (Some command) (T.moment clock.now)
         (outside (S.input source.old) (S.faults source.old) (K.held sink.old) (K.faults sink.old))
         (outside (S.input source.new) (S.faults source.new) (K.held sink.new) (K.faults sink.new)) result }

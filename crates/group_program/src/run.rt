@@ -1,12 +1,12 @@
 ghost use Rattle.std.specs.Prelude.{◌≡◌, map};
 ghost use Rattle.std.specs.Process.{exit_status};
 ghost use Rattle.std.specs.String.{string_bytes};
-ghost use Rattle.command_line.specs.Words.{command_of};
-ghost use Rattle.group_server.specs.Service.{tally};
+ghost use Rattle.command_line.specs.Words.{command_of_words};
+ghost use Rattle.group_server.specs.Service.{tally_with};
 ghost use Rattle.scenario_play.specs.Outside.{outside};
 ghost use Rattle.scenario_play.specs.Status.{number_of_status};
 ghost use Rattle.group_program.specs.Arguments.{lacks_memory, words_behind};
-ghost use Rattle.group_program.specs.Program.{HasStopped};
+ghost use Rattle.group_program.specs.Program.{HasNoMemoryForWords};
 ghost use Rattle.group_program.specs.Run.{HasExited, HasRunCommand};
 
 use crate::arguments::words_behind;
@@ -47,8 +47,8 @@ where
     L::Incoming: Drop,
     L::Outgoing: Drop,
     ensures ran { HasExited (λ s k. outside (S.input s) (S.faults s) (K.held k) (K.faults k)) L.listened
-        (λ l. tally (L.at l) (L.accepted l) (L.over l)) L.faults M.ran M.watched M.carried T.moment edges.old edges.new
-        (command_of (words_behind args)) (exit_status result) }
+        (λ l. tally_with (L.at l) (L.accepted l) (L.over l)) L.faults M.ran M.watched M.carried T.moment edges.old edges.new
+        (command_of_words (words_behind args)) (exit_status result) }
     ensures want { lacks_memory args → exit_status result ≡ number_of_status Status.Want }
 {
     match words_behind(alloc, args) {
@@ -71,8 +71,8 @@ where
     L::Incoming: Drop,
     L::Outgoing: Drop,
     ensures { HasRunCommand (λ s k. outside (S.input s) (S.faults s) (K.held k) (K.faults k)) L.listened
-        (λ l. tally (L.at l) (L.accepted l) (L.over l)) L.faults M.ran M.watched M.carried T.moment edges.old edges.new
-        (command_of (map string_bytes words.now)) result }
+        (λ l. tally_with (L.at l) (L.accepted l) (L.over l)) L.faults M.ran M.watched M.carried T.moment edges.old edges.new
+        (command_of_words (map string_bytes words.now)) result }
 {
     let status = run_program(
         rt,
@@ -95,7 +95,7 @@ fn stop<S, K: Sink, L, M, T, P: Explain<S, L>>(
     edges: &mut Edges<S, K, L, M, T>,
     person: &P,
 ) -> Status
-    ensures stopped { HasStopped (K.held edges.old.sink) (K.held edges.new.sink) result }
+    ensures stopped { HasNoMemoryForWords (K.held edges.old.sink) (K.held edges.new.sink) result }
     ensures source { edges.new.source ≡ edges.old.source }
     ensures port { edges.new.port ≡ edges.old.port }
     ensures machine { edges.new.machine ≡ edges.old.machine }

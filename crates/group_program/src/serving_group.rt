@@ -1,8 +1,8 @@
 ghost use Rattle.std.specs.Prelude.{◌≡◌, ◌≢◌};
 ghost use Rattle.edge_io.specs.Faults.{Rose};
-ghost use Rattle.group_server.specs.Service.{tally};
+ghost use Rattle.group_server.specs.Service.{tally_with};
 ghost use Rattle.scenario_play.specs.Outside.{outside};
-ghost use Rattle.group_program.specs.Serving.{IsServed, status_of};
+ghost use Rattle.group_program.specs.Serving.{IsGroupServed, status_of};
 
 use edge_io::{Clock, Sink, Source};
 use group_server::{Notice, ReadyListener, ServiceFault, serve};
@@ -32,7 +32,7 @@ pub(crate) fn serve_by_settings<
 where
     L::Incoming: Drop,
     L::Outgoing: Drop,
-    ensures served { IsServed L.listened (λ l. tally (L.at l) (L.accepted l) (L.over l)) listener.old listener.new
+    ensures served { IsGroupServed L.listened (λ l. tally_with (L.at l) (L.accepted l) (L.over l)) listener.old listener.new
         (outside (S.input source.old) (S.faults source.old) (K.held sink.old) (K.faults sink.old))
         (outside (S.input source.new) (S.faults source.new) (K.held sink.new) (K.faults sink.new)) result }
     ensures named { result ≢ Status.BadWords }

@@ -1,7 +1,7 @@
 ghost use Rattle.std.specs.Prelude.{◌≡◌, ◌≢◌};
 ghost use Rattle.edge_io.specs.Faults.{Rose};
 ghost use Rattle.scenario_play.specs.Outside.{outside};
-ghost use Rattle.group_program.specs.Verifying.{IsJudged, status_of};
+ghost use Rattle.group_program.specs.Verifying.{IsTranscriptJudged, status_of};
 
 use edge_io::{Sink, Source};
 use run_verify::{VerifyStatus, verify_text};
@@ -11,7 +11,7 @@ use std::alloc::Global;
 
 /// Checks a transcript by its script, writes what came of it, and then the last line of the status.
 pub(crate) fn judge<S: Source, K: Sink>(alloc: Global, source: &mut S, sink: &mut K) -> Status
-    ensures judged { IsJudged (outside (S.input source.old) (S.faults source.old) (K.held sink.old) (K.faults sink.old))
+    ensures judged { IsTranscriptJudged (outside (S.input source.old) (S.faults source.old) (K.held sink.old) (K.faults sink.old))
         (outside (S.input source.new) (S.faults source.new) (K.held sink.new) (K.faults sink.new)) result }
     ensures named { result ≢ Status.BadWords }
     ensures read { result ≡ Status.ReadFault → Rose (S.faults source.old) (S.faults source.new) }

@@ -14,7 +14,7 @@ use Rattle.group_types.specs.declared.process.ProcessId.{ProcessId}
 use Rattle.memc_table.specs.Asked.{Asked}
 use Rattle.memc_table.specs.declared.reply.Reply.{Reply}
 use Rattle.group_message.specs.declared.update.Update.{Update}
-use Rattle.group_calls.specs.Turns.{CallName, accepts, entry_of, name_of}
+use Rattle.group_calls.specs.Turns.{CallName, accepts, call_entry, name_of}
 use Rattle.group_calls.specs.declared.entry.Entry.{Entry}
 use Rattle.group_calls.specs.declared.event.Answer.{Answer}
 use Rattle.group_calls.specs.declared.event.Answer.TheVariants as says
@@ -26,7 +26,7 @@ use Rattle.group_run.specs.World.{ledger_after, ledger_with, logged_at_once, new
 use Rattle.group_run.specs.World.{settled_in, step, ticket_if, tickets_after, update_name, refusal_logged}
 
 module _ (P : Entry → Type 0) (tickets : List Ticket) (holds : (name : CallName) (op : Asked) (reply : Reply)
-    → op_in name tickets ≡ Some op → P (entry_of name op reply)) where
+    → op_in name tickets ≡ Some op → P (call_entry name op reply)) where
   for-settled : (us : List Update) → Each P (entries_for tickets us)
   for-settled [] = tt
   for-settled (u ∷ us) = by (op_in (update_name u) tickets) refl (for-settled us) where
@@ -89,7 +89,7 @@ module _ (w : World) (caller : ℕ) where
     only o false is = absurd (none-some o is)
 
     has-its-op : (issued : Bool) (since : ℕ) → All IsOld w.tickets → (name : CallName) (o : Asked) (reply : Reply)
-        → op_in name (ticket_if issued since (record { name = next_name w caller; op = op }) w.tickets) ≡ Some o → HasItsOp (entry_of name o reply)
+        → op_in name (ticket_if issued since (record { name = next_name w caller; op = op }) w.tickets) ≡ Some o → HasItsOp (call_entry name o reply)
     has-its-op issued since old name o reply found same =
         by issued (subst
         (λ (n : CallName). op_in n (ticket_if issued since (record { name = next_name w caller; op = op }) w.tickets)

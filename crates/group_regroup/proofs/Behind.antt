@@ -15,19 +15,19 @@ use Rattle.group_eras.specs.Carry.{Getting, got, parcel_of, read_all, read_befor
 use Rattle.group_eras.specs.Carry as carry
 use Rattle.group_eras.specs.Items.{Load, loads}
 use Rattle.group_eras.proofs.Lists.{map-more}
-use Rattle.group_regroup.specs.Carrying.{StandFor, bases_after, known_of}
-use Rattle.group_regroup.specs.Items.{AreAllWithin, AreWithin, load_of, loads_of, parcel_as, parcels_as}
+use Rattle.group_regroup.specs.Carrying.{StandFor, bases_after, load_known}
+use Rattle.group_regroup.specs.Items.{AreAllWithin, AreWithin, item_load, item_loads, parcel_as, parcels_as}
 use Rattle.group_regroup.specs.declared.items.Item.{Item}
 use Rattle.group_regroup.specs.declared.items.Parcel.{Parcel}
 use Rattle.group_regroup.proofs.Readings.{got-after}
 use Rattle.group_regroup.proofs.Tries.{after-append}
 
 -- where a value stands and what its number is isn't looked at as it is read
-read-known : (w : World) (xs : List Load) → read_all w (map known_of xs) ≡ read_all w xs
+read-known : (w : World) (xs : List Load) → read_all w (map load_known xs) ≡ read_all w xs
 read-known w [] = refl
 read-known w (x ∷ xs) = ap (read_before (got w x) (parcel_of x (got w x).answer)) (read-known (got w x).world xs)
 
-pub read-stand : (w : World) (items : List Item) → StandFor items (loads w) → read_all w (loads_of items) ≡ reading w
+pub read-stand : (w : World) (items : List Item) → StandFor items (loads w) → read_all w (item_loads items) ≡ reading w
 read-stand w items stand = ap (read_all w) stand ∙ read-known w (loads w)
 
 pub read-after : (w : World) (xs : List Load) → (read_all w xs).world ≡ world_after w (read_all w xs).events
@@ -54,9 +54,9 @@ parcels-back k (p ∷ ps) all =
     (parcels-back k ps (All-tail (InFirst k) (parcel_as p) (parcels_as ps) all))
 
 pub parcels-within : (k : ℕ) (w : World) (items : List Item) (ps : List Parcel) → AreWithin k items
-    → parcels_as ps ≡ (read_all w (loads_of items)).parcels → AreAllWithin k ps
+    → parcels_as ps ≡ (read_all w (item_loads items)).parcels → AreAllWithin k ps
 parcels-within k w items ps within is =
-    parcels-back k ps (subst (All (InFirst k)) (sym is) (read-within k w (loads_of items) (All-map (λ (x : Load). x.partition < k) load_of items within)))
+    parcels-back k ps (subst (All (InFirst k)) (sym is) (read-within k w (item_loads items) (All-map (λ (x : Load). x.partition < k) item_load items within)))
 
 -- a log has as many updates of a partition as entries that are one
 counted-from : (k d : ℕ) (t : Contents) (runs : List (Option Run)) (es : List Entry) (a : ℕ)

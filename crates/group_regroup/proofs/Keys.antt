@@ -1,6 +1,6 @@
 -- The key of an op stays as its cas number changes, and so does its value.
 use Rattle.std.proofs.Common.{◌≡◌, ℕ, refl}
-use Rattle.memc_table.specs.Act.{key_of, value_of}
+use Rattle.memc_table.specs.Act.{act_value, key_of}
 use Rattle.memc_table.specs.declared.act.Act.{Act}
 use Rattle.memc_table.specs.declared.act.Act.TheVariants.{Add, Append, Cas, Decr, Delete, Get, Incr, Prepend, Replace, Set, Touch}
 use Rattle.group_eras.specs.Told.{with_cas}
@@ -18,7 +18,7 @@ key-same f (Prepend key value) = refl
 key-same f (Incr key n) = refl
 key-same f (Decr key n) = refl
 
-pub value-same : (f : ℕ → ℕ) (act : Act) → value_of (with_cas f act) ≡ value_of act
+pub value-same : (f : ℕ → ℕ) (act : Act) → act_value (with_cas f act) ≡ act_value act
 value-same f (Cas key flags expiry cas value) = refl
 value-same f (Get key) = refl
 value-same f (Set key flags expiry value) = refl

@@ -15,17 +15,17 @@ use Rattle.group_run.specs.Applying.{replica_of}
 use Rattle.group_run.specs.Meaning.{process_of}
 use Rattle.group_run.specs.Replica.{Items}
 use Rattle.group_run.specs.World.{World}
-use Rattle.group_core.specs.Items.{ListsItems, head_of, heads_of}
+use Rattle.group_core.specs.Items.{ListsItems, heads_of, item_head_of}
 use Rattle.group_core.specs.declared.items.ItemHead.{ItemHead}
-use Rattle.group_eras.specs.Items.{Load, bytes_in, load_from, loads, loads_in, settled_items}
+use Rattle.group_eras.specs.Items.{Load, bytes_in_partition, load_of_slot, loads, loads_in, settled_items}
 use Rattle.group_eras.specs.Items as eras
 use Rattle.group_eras.specs.Refusal.{IsAtRest, IsRefused}
 use Rattle.group_eras.specs.declared.fault.CarryFault.{CarryFault}
 use Rattle.group_eras.specs.declared.fault.CarryFault.TheVariants.{Down, NoSpace, NotDrained, Want}
 use Rattle.group_eras.proofs.Finding.{head-is}
 use Rattle.group_eras.proofs.Lists.{map-both}
-use Rattle.group_regroup.specs.Carrying.{AllFit, StandFor, known_of}
-use Rattle.group_regroup.specs.Items.{AreWithin, IsLongFault, bytes_of, item_of, live_items, load_of, loads_of}
+use Rattle.group_regroup.specs.Carrying.{AllFit, StandFor, load_known}
+use Rattle.group_regroup.specs.Items.{AreWithin, IsLongFault, item_load, item_loads, item_of, live_items, value_bytes}
 use Rattle.group_regroup.specs.declared.items.Item.{Item}
 
 -- what holds where a call succeeded, and where it failed
@@ -38,27 +38,27 @@ always-ok (Ok x) p = p
 always-ok (Err e) p = tt
 
 pub stand-both : (xs ys : List Item) (us vs : List Load) → StandFor xs us → StandFor ys vs → StandFor (xs ++ ys) (us ++ vs)
-stand-both xs ys us vs one two = map-both load_of xs ys ∙ ap (λ (zs : List Load). zs ++ loads_of ys) one
-    ∙ ap (λ (zs : List Load). map known_of us ++ zs) two ∙ sym (map-both known_of us vs)
+stand-both xs ys us vs one two = map-both item_load xs ys ∙ ap (λ (zs : List Load). zs ++ item_loads ys) one
+    ∙ ap (λ (zs : List Load). map load_known us ++ zs) two ∙ sym (map-both load_known us vs)
 
-live-stand : (p : Partition) (xs : Items) → StandFor (live_items p (heads_of xs)) (map (load_from p.0) (filter (λ x. is_live 0 x.1.until) xs))
+live-stand : (p : Partition) (xs : Items) → StandFor (live_items p (heads_of xs)) (map (load_of_slot p.0) (filter (λ x. is_live 0 x.1.until) xs))
 live-stand p [] = refl
 live-stand p (x ∷ xs) = by (is_live 0 x.1.until) (live-stand p xs) where
-  by : (b : Bool) → StandFor (live_items p (heads_of xs)) (map (load_from p.0) (filter (λ y. is_live 0 y.1.until) xs))
-      → StandFor (if b then item_of p (head_of x) ∷ live_items p (heads_of xs) else live_items p (heads_of xs))
-      (map (load_from p.0) (cond b (x ∷ filter (λ y. is_live 0 y.1.until) xs) (filter (λ y. is_live 0 y.1.until) xs)))
-  by true rest = ap (λ (ys : List Load). known_of (load_from p.0 x) ∷ ys) rest
+  by : (b : Bool) → StandFor (live_items p (heads_of xs)) (map (load_of_slot p.0) (filter (λ y. is_live 0 y.1.until) xs))
+      → StandFor (if b then item_of p (item_head_of x) ∷ live_items p (heads_of xs) else live_items p (heads_of xs))
+      (map (load_of_slot p.0) (cond b (x ∷ filter (λ y. is_live 0 y.1.until) xs) (filter (λ y. is_live 0 y.1.until) xs)))
+  by true rest = ap (λ (ys : List Load). load_known (load_of_slot p.0 x) ∷ ys) rest
   by false rest = rest
 
 sum-map : {X Y : Type 0} (f : Y → ℕ) (g : X → Y) (xs : List X) (a : ℕ) → fold (λ b y. b + f y) a (map g xs) ≡ fold (λ b x. b + f (g x)) a xs
 sum-map f g [] a = refl
 sum-map f g (x ∷ xs) a = sum-map f g xs (a + f (g x))
 
-bytes-stand : (items : List Item) (xs : List Load) → StandFor items xs → bytes_of items ≡ sum_by (λ x. x.slot.len) xs
+bytes-stand : (items : List Item) (xs : List Load) → StandFor items xs → value_bytes items ≡ sum_by (λ x. x.slot.len) xs
 bytes-stand items xs stand =
-    sym (sum-map (λ (x : Load). x.slot.len) load_of items 0)
+    sym (sum-map (λ (x : Load). x.slot.len) item_load items 0)
     ∙ ap (λ (ys : List Load). sum_by (λ (x : Load). x.slot.len) ys) stand ∙ sum-map (λ (x : Load). x.slot.len)
-    known_of xs 0
+    load_known xs 0
 
 -- the list of a partition's head
 module _ (w : World) (p : Partition) (list : List ItemHead) (listed : ListsItems w p.0 list) where
@@ -68,7 +68,7 @@ module _ (w : World) (p : Partition) (list : List ItemHead) (listed : ListsItems
   pub listed-stand : StandFor (live_items p list) (loads_in w p.0)
   listed-stand = subst (λ (hs : List ItemHead). StandFor (live_items p hs) (loads_in w p.0)) (sym listed-is) (live-stand p (settled_items w p.0))
 
-  pub listed-bytes : bytes_of (live_items p list) ≡ bytes_in w p.0
+  pub listed-bytes : value_bytes (live_items p list) ≡ bytes_in_partition w p.0
   listed-bytes = bytes-stand (live_items p list) (loads_in w p.0) listed-stand
 
 pub live-within : (k : ℕ) (p : Partition) (hs : List ItemHead) → p.0 < k → AreWithin k (live_items p hs)
@@ -112,7 +112,7 @@ module _ (w : World) (space : ℕ) (items : List Item) (many : ℕ) (loaded : Lo
   pub Loaded-next : (now : List Item) → many < w.shape.k
       → ((xs : List Load) → StandFor items xs → StandFor now (xs ++ loads_in w many))
       → (AreWithin w.shape.k items → AreWithin w.shape.k now)
-      → bytes_in w many ≤ space → Loaded w space now (many + 1)
+      → bytes_in_partition w many ≤ space → Loaded w space now (many + 1)
   Loaded-next now below stand within fits = record {
     low = omega (arith, below);
     stand = subst (λ (n : ℕ). StandFor now (eras.loads_of w (range_with_len 0 n))) one
@@ -123,9 +123,9 @@ module _ (w : World) (space : ℕ) (items : List Item) (many : ℕ) (loaded : Lo
     one : suc many ≡ many + 1
     one = omega arith
 
-    by : (d : ℕ) → d < many + 1 → (d < many) ⊎ (many ≤ d) → bytes_in w d ≤ space
+    by : (d : ℕ) → d < many + 1 → (d < many) ⊎ (many ≤ d) → bytes_in_partition w d ≤ space
     by d low (inl less) = loaded.fit d less
-    by d low (inr most) = let same : many ≡ d = omega (arith, low, most) in subst (λ (n : ℕ). bytes_in w n ≤ space) same fits
+    by d low (inr most) = let same : many ≡ d = omega (arith, low, most) in subst (λ (n : ℕ). bytes_in_partition w n ≤ space) same fits
 
   whole : w.shape.k ≤ many → many ≡ w.shape.k
   whole high = let low = loaded.low in omega (arith, low, high)
@@ -138,13 +138,13 @@ module _ (w : World) (space : ℕ) (items : List Item) (many : ℕ) (loaded : Lo
 
 -- the first partition that has too much
 pub long-is : (w : World) (s : Dimensions) (p : Partition) → IsAtRest w → p.0 < w.shape.k → AllFit w (space_of s) p.0
-    → (f : CarryFault) → IsLongFault p (bytes_in w p.0) (space_of s) f → IsRefused w s f
+    → (f : CarryFault) → IsLongFault p (bytes_in_partition w p.0) (space_of s) f → IsRefused w s f
 long-is w s p rest low fit (NoSpace q) (same, long) =
     let is : p.0 ≡ q.0 = ap (λ (x : Partition). x.0) (sym same) in (
       rest,
       record {
         partition = subst (λ (d : ℕ). d < w.shape.k) is low;
-        long = subst (λ (d : ℕ). space_of s < bytes_in w d) is long;
+        long = subst (λ (d : ℕ). space_of s < bytes_in_partition w d) is long;
         lowest = λ e below more. let fits = fit e (omega (arith, below, is)) in omega (arith, fits, more);
       },
     )
@@ -157,4 +157,4 @@ if-err (Ok x) f p = tt
 if-err (Err e) f p = f e p
 
 pub stand-long : (items : List Item) (xs : List Load) → StandFor items xs → length items ≡ length xs
-stand-long items xs stand = sym (length-map items load_of) ∙ ap length stand ∙ length-map xs known_of
+stand-long items xs stand = sym (length-map items item_load) ∙ ap length stand ∙ length-map xs load_known

@@ -11,14 +11,15 @@ use Rattle.group_core.proofs.Runs.{tickets-stand}
 use Rattle.group_eras.specs.Eras.{era_step}
 use Rattle.group_eras.specs.Told.{Bases, event_in}
 use Rattle.group_regroup.specs.declared.changing.Lowered.{Lowered}
-use Rattle.group_regroup.specs.Kept.{AreKept, eras_of, lowered_by, noted}
+use Rattle.group_regroup.specs.Kept.{KeptFitsWorld, eras_of, lowered_by, lowered_until}
 use Rattle.group_regroup.proofs.Stepped.{told-step}
 
 module _ (w v : World) (bases : Bases) (past : List (List Entry)) (l now : List Lowered) (e : Event) (place : ℕ) (x : Option Lowered)
-    (kept : AreKept w bases l) (stepped : v ≡ (step w (event_in bases w.shape.k e)).world)
-    (lowered : x ≡ lowered_by w bases e) (behind : place ≡ length v.log) (is : now ≡ noted l x place) where
-  now-is : now ≡ noted l (lowered_by w bases e) (length (step w (event_in bases w.shape.k e)).world.log)
-  now-is = is ∙ ap (λ (o : Option Lowered). noted l o place) lowered ∙ ap (noted l (lowered_by w bases e)) (behind ∙ ap (λ (u : World). length u.log) stepped)
+    (kept : KeptFitsWorld w bases l) (stepped : v ≡ (step w (event_in bases w.shape.k e)).world)
+    (lowered : x ≡ lowered_by w bases e) (behind : place ≡ length v.log) (is : now ≡ lowered_until l x place) where
+  now-is : now ≡ lowered_until l (lowered_by w bases e) (length (step w (event_in bases w.shape.k e)).world.log)
+  now-is = is ∙ ap (λ (o : Option Lowered). lowered_until l o place) lowered ∙ ap (lowered_until l (lowered_by w bases e))
+      (behind ∙ ap (λ (u : World). length u.log) stepped)
 
   later : length w.log ≤ length v.log
   later =
@@ -30,11 +31,11 @@ module _ (w v : World) (bases : Bases) (past : List (List Entry)) (l now : List 
   still : All (λ y. y.until ≤ length v.log) l
   still = All-weaker (λ (y : Lowered). y.until ≤ length w.log) (λ (y : Lowered). y.until ≤ length v.log) (λ y low. omega (arith, low, later)) l kept.within
 
-  within : (o : Option Lowered) → All (λ y. y.until ≤ length v.log) (noted l o place)
+  within : (o : Option Lowered) → All (λ y. y.until ≤ length v.log) (lowered_until l o place)
   within None = still
   within (Some y) = All-push (λ y. y.until ≤ length v.log) l (record y { until = place }) still (omega (arith, behind))
 
-  pub kept-step : AreKept v bases now
+  pub kept-step : KeptFitsWorld v bases now
   kept-step = record {
     many = kept.many ∙ ap (λ (u : World). u.shape.k) (sym stepped);
     low = kept.low;

@@ -23,7 +23,7 @@ use Rattle.group_eras.specs.Eras.{Eras, carrier, era_step, eras_after}
 use Rattle.group_eras.specs.Items.{Load, head_of}
 use Rattle.group_eras.specs.Told.{Bases, event_in}
 use Rattle.group_regroup.specs.declared.changing.Lowered.{Lowered}
-use Rattle.group_regroup.specs.Kept.{eras_of, lowered_by, noted}
+use Rattle.group_regroup.specs.Kept.{eras_of, lowered_by, lowered_until}
 use Rattle.group_regroup.proofs.Stepped.{told-step}
 
 -- whatever the world, the event goes in as it is
@@ -37,7 +37,7 @@ module _ (bases : Bases) (past : List (List Entry)) (l : List Lowered) where
   plain-step w e has plain within =
       ap (λ (f : Event). eras_of (step w f).world bases past l) (sym plain.same)
       ∙ sym (ap (λ (x : Option Lowered). eras_of (step w (event_in bases w.shape.k e)).world bases past
-      (noted l x (length (step w (event_in bases w.shape.k e)).world.log))) (plain.none w refl))
+      (lowered_until l x (length (step w (event_in bases w.shape.k e)).world.log))) (plain.none w refl))
       ∙ told-step w bases past l e (tickets-stand w has).asked within
 
   later : (w : World) (e : Event) → All (λ (x : Lowered). x.until ≤ length w.log) l → All (λ (x : Lowered). x.until ≤ length (step w e).world.log) l

@@ -6,12 +6,12 @@ use Rattle.group_types.specs.Dimensions.{Dimensions}
 use Rattle.group_calls.specs.declared.event.Event.{Event}
 use Rattle.group_run.specs.Meaning.{IsDown}
 use Rattle.group_run.specs.World.{World, step, world_after}
-use Rattle.group_eras.specs.Carry.{Getting, bytes_of, drained, draining, get_with, got, got_behind, is_retry, only_got, parcel_of, read_all}
+use Rattle.group_eras.specs.Carry.{Getting, bytes_got, drained, draining, get_with, got, got_behind, is_retry, only_got, parcel_of, read_all}
 use Rattle.group_eras.specs.Carry as carry
 use Rattle.scenario_run.proofs.Leading.{keeps-shape}
 use Rattle.group_regroup.specs.declared.items.Item.{Item}
 use Rattle.group_regroup.specs.declared.items.Parcel.{Parcel}
-use Rattle.group_regroup.specs.Items.{AreWithin, load_of, loads_of, parcel_as, parcels_as, read_behind}
+use Rattle.group_regroup.specs.Items.{AreWithin, item_load, item_loads, parcel_as, parcels_as, read_behind}
 use Rattle.group_regroup.specs.Parts.{IsPart}
 use Rattle.group_regroup.specs.Reading.{got_on}
 use Rattle.group_regroup.proofs.Tries.{after-append, part-back, part-front, part-whole}
@@ -40,7 +40,7 @@ pub record Reads (w : World) (all : List Item) (v : World) (rest : List Item) (p
   pub within : AreWithin v.shape.k rest
   pub events : List Event
   pub after : v ≡ world_after w events
-  pub whole : read_all w (loads_of all) ≡ read_behind events (parcels_as parcels) (read_all v (loads_of rest))
+  pub whole : read_all w (item_loads all) ≡ read_behind events (parcels_as parcels) (read_all v (item_loads rest))
 
 pub Reads-none : (w : World) (all : List Item) → ¬ (IsDown w) → AreWithin w.shape.k all → Reads w all w all []
 Reads-none w all up within = record { up = up; within = within; events = []; after = refl; whole = refl }
@@ -56,24 +56,24 @@ module _ (w : World) (all : List Item) (v : World) (x : Item) (rest : List Item)
   pub next-within : x.partition.0 < v.shape.k
   next-within = All-head (λ (y : Item). y.partition.0 < v.shape.k) x rest r.within
 
-  events-are : (read_all w (loads_of all)).events ≡ (r.events ++ here.events) ++ (read_all here.world (loads_of rest)).events
-  events-are = ap (λ (y : carry.Reading). y.events) r.whole ∙ sym (append_assoc r.events here.events (read_all here.world (loads_of rest)).events)
+  events-are : (read_all w (item_loads all)).events ≡ (r.events ++ here.events) ++ (read_all here.world (item_loads rest)).events
+  events-are = ap (λ (y : carry.Reading). y.events) r.whole ∙ sym (append_assoc r.events here.events (read_all here.world (item_loads rest)).events)
 
   -- want of memory as it is read
-  pub Reads-part : (u : World) → IsPart v here.events u → IsPart w (read_all w (loads_of all)).events u
+  pub Reads-part : (u : World) → IsPart v here.events u → IsPart w (read_all w (item_loads all)).events u
   Reads-part u part = subst (λ (es : List Event). IsPart w es u) (sym events-are)
-      (part-front w u (r.events ++ here.events) (read_all here.world (loads_of rest)).events (part-back w v u r.events here.events r.after part))
+      (part-front w u (r.events ++ here.events) (read_all here.world (item_loads rest)).events (part-back w v u r.events here.events r.after part))
 
   module _ (u : World) (is : u ≡ here.world) where
     led : u ≡ world_after w (r.events ++ here.events)
     led = is ∙ got-after v x.partition.0 x.key ∙ ap (λ (y : World). world_after y here.events) r.after ∙ sym (after-append w r.events here.events)
 
     -- and behind it
-    pub Reads-behind : IsPart w (read_all w (loads_of all)).events u
+    pub Reads-behind : IsPart w (read_all w (item_loads all)).events u
     Reads-behind = subst (λ (es : List Event). IsPart w es u) (sym events-are)
-        (part-front w u (r.events ++ here.events) (read_all here.world (loads_of rest)).events (part-whole w u (r.events ++ here.events) led))
+        (part-front w u (r.events ++ here.events) (read_all here.world (item_loads rest)).events (part-whole w u (r.events ++ here.events) led))
 
-    pub Reads-next : (p : Parcel) → ¬ (IsDown u) → p.item ≡ x → p.value ≡ bytes_of here.answer → Reads w all u rest (parcels ++ p ∷ [])
+    pub Reads-next : (p : Parcel) → ¬ (IsDown u) → p.item ≡ x → p.value ≡ bytes_got here.answer → Reads w all u rest (parcels ++ p ∷ [])
     Reads-next p up item value = record {
       up = up;
       within = subst (λ (s : Dimensions). AreWithin s.k rest) (sym shape) (All-tail (λ (y : Item). y.partition.0 < v.shape.k) x rest r.within);
@@ -81,12 +81,12 @@ module _ (w : World) (all : List Item) (v : World) (x : Item) (rest : List Item)
       after = led;
       whole = r.whole ∙ joined
           ∙ ap (λ (y : World). read_behind (r.events ++ here.events) (parcels_as (parcels ++ p ∷ []))
-          (read_all y (loads_of rest))) (sym is);
+          (read_all y (item_loads rest))) (sym is);
     } where
       shape : u.shape ≡ v.shape
       shape = ap (λ (y : World). y.shape) (is ∙ got-after v x.partition.0 x.key) ∙ keeps-shape v here.events
 
-      parcel : parcel_of (load_of x) here.answer ≡ parcel_as p
+      parcel : parcel_of (item_load x) here.answer ≡ parcel_as p
       parcel = λ i. record {
         partition = (sym item i).partition.0;
         key = (sym item i).key;
@@ -95,20 +95,20 @@ module _ (w : World) (all : List Item) (v : World) (x : Item) (rest : List Item)
         value = sym value i;
       }
 
-      joined : read_behind r.events (parcels_as parcels) (read_all v (loads_of (x ∷ rest)))
-          ≡ read_behind (r.events ++ here.events) (parcels_as (parcels ++ p ∷ [])) (read_all here.world (loads_of rest))
+      joined : read_behind r.events (parcels_as parcels) (read_all v (item_loads (x ∷ rest)))
+          ≡ read_behind (r.events ++ here.events) (parcels_as (parcels ++ p ∷ [])) (read_all here.world (item_loads rest))
       joined = λ i. record {
-        events = sym (append_assoc r.events here.events (read_all here.world (loads_of rest)).events) i;
-        world = (read_all here.world (loads_of rest)).world;
-        parcels = (ap (λ (y : carry.Parcel). parcels_as parcels ++ y ∷ (read_all here.world (loads_of rest)).parcels) parcel
-            ∙ sym (append_assoc (parcels_as parcels) (parcel_as p ∷ []) (read_all here.world (loads_of rest)).parcels)
-            ∙ ap (λ (ys : List carry.Parcel). ys ++ (read_all here.world (loads_of rest)).parcels) (sym (parcels-push parcels p))) i;
+        events = sym (append_assoc r.events here.events (read_all here.world (item_loads rest)).events) i;
+        world = (read_all here.world (item_loads rest)).world;
+        parcels = (ap (λ (y : carry.Parcel). parcels_as parcels ++ y ∷ (read_all here.world (item_loads rest)).parcels) parcel
+            ∙ sym (append_assoc (parcels_as parcels) (parcel_as p ∷ []) (read_all here.world (item_loads rest)).parcels)
+            ∙ ap (λ (ys : List carry.Parcel). ys ++ (read_all here.world (item_loads rest)).parcels) (sym (parcels-push parcels p))) i;
       }
 
 -- all were read
 module _ (w : World) (all : List Item) (v : World) (parcels : List Parcel) (r : Reads w all v [] parcels) where
-  pub Reads-world : v ≡ (read_all w (loads_of all)).world
+  pub Reads-world : v ≡ (read_all w (item_loads all)).world
   Reads-world = sym (ap (λ (y : carry.Reading). y.world) r.whole)
 
-  pub Reads-parcels : parcels_as parcels ≡ (read_all w (loads_of all)).parcels
+  pub Reads-parcels : parcels_as parcels ≡ (read_all w (item_loads all)).parcels
   Reads-parcels = sym (append-nil (parcels_as parcels)) ∙ sym (ap (λ (y : carry.Reading). y.parcels) r.whole)

@@ -15,23 +15,23 @@ use Rattle.memc_table.specs.Act.{key_of}
 use Rattle.memc_table.specs.Asked.{Asked}
 use Rattle.memc_table.specs.declared.act.Act.{Act}
 use Rattle.memc_table.specs.declared.act.Act.TheVariants.{Add, Append, Cas, Decr, Delete, Get, Incr, Prepend, Replace, Set, Touch}
-use Rattle.group_calls.specs.Turns.{CallName, entry_of, name_of}
+use Rattle.group_calls.specs.Turns.{CallName, call_entry, name_of}
 use Rattle.group_calls.specs.declared.entry.Entry.{Entry}
 use Rattle.group_calls.specs.declared.event.Event.{Event}
 use Rattle.group_calls.specs.declared.event.Event.TheVariants.{Ask, Collect, Deliver, Fail, Flush, Trace}
-use Rattle.group_run.specs.World.{Call, Ticket, World, WorldStep, call_of, next_name, same_call, step}
+use Rattle.group_run.specs.World.{AskedCall, Ticket, World, WorldStep, call_of, next_name, same_call, step}
 use Rattle.law_moves.proofs.Reading.{grown-is}
 use Rattle.group_eras.specs.Eras.{EraEntry, era_step}
-use Rattle.group_eras.specs.Told.{Bases, event_in, op_in, op_out, told_entry, told_op, told_reply}
+use Rattle.group_eras.specs.Told.{Bases, event_in, op_for_era, op_out, told_entry, told_op, told_reply}
 use Rattle.group_regroup.specs.declared.changing.Lowered.{Lowered}
-use Rattle.group_regroup.specs.Kept.{covers, eras_of, is_low, lowered_by, noted, op_asked, past_from, told_at, told_from}
+use Rattle.group_regroup.specs.Kept.{covers, eras_of, is_low, lowered_by, lowered_until, op_asked, past_from, told_at, told_from}
 use Rattle.group_regroup.proofs.Asked.{logged-ops}
 
 -- an op comes out as it was asked, unless it went in lowered
-pub op-back : (bases : Bases) (k : ℕ) (op : Asked) → is_low bases k op.act ≡ false → op_out bases k (op_in bases k op) ≡ op
+pub op-back : (bases : Bases) (k : ℕ) (op : Asked) → is_low bases k op.act ≡ false → op_out bases k (op_for_era bases k op) ≡ op
 op-back bases k op high = by op.act high where
   by : (act : Act) → is_low bases k act ≡ false
-      → op_out bases k (op_in bases k (record { moment = op.moment; act = act }))
+      → op_out bases k (op_for_era bases k (record { moment = op.moment; act = act }))
       ≡ record { moment = op.moment; act = act }
   by (Cas key flags expiry cas value) above =
       let whole : at 0 bases (home_of key k) + (cas - at 0 bases (home_of key k)) ≡ cas = less above in
@@ -102,26 +102,26 @@ module _ (bases : Bases) (k era : ℕ) where
       let here : op_asked (l ++ x ∷ []) p (name_of e) ≡ op_asked l p (name_of e) = asked-early l x p (name_of e) (early x p (name_of e) (omega (arith, low))) in
       ap (λ (asked : Option Asked). (
         era,
-        entry_of (name_of e) (unwrap_or asked (op_out bases k e.op))
+        call_entry (name_of e) (unwrap_or asked (op_out bases k e.op))
             (told_reply bases (home_of (key_of e.op.act) k) e.reply),
       ) ∷ told_from bases k era (l ++ x ∷ []) (suc p) es)
       here
       ∙ ap (λ (rest : List EraEntry). (era, told_at bases k l p e) ∷ rest) (told-early l x (suc p) es (omega (arith, low)))
 
   -- entries at places behind all that was lowered, told by what says of each which op was asked
-  abbrev pub tell_by : Option Call → Entry → EraEntry
+  abbrev pub tell_by : Option AskedCall → Entry → EraEntry
   tell_by c entry = (era, told_entry bases k c entry)
 
   -- the op that is found at a place is the one that is told
-  abbrev pub AreFound : List Lowered → Option Call → ℕ → ℕ → Entry → Type 0
+  abbrev pub AreFound : List Lowered → Option AskedCall → ℕ → ℕ → Entry → Type 0
   AreFound l c low high entry = (place : ℕ) → low ≤ place → place < high
       → unwrap_or (op_asked l place (name_of entry)) (op_out bases k entry.op) ≡ told_op bases k c entry
 
-  pub told-found : (l : List Lowered) (c : Option Call) (p high : ℕ) (es : List Entry) → p + length es ≤ high
+  pub told-found : (l : List Lowered) (c : Option AskedCall) (p high : ℕ) (es : List Entry) → p + length es ≤ high
       → Each (AreFound l c p high) es → told_from bases k era l p es ≡ map (tell_by c) es
   told-found l c p high [] fits all = refl
   told-found l c p high (e ∷ es) fits (here, rest) =
-      ap (λ (op : Asked). (era, entry_of (name_of e) op (told_reply bases (home_of (key_of e.op.act) k) e.reply))
+      ap (λ (op : Asked). (era, call_entry (name_of e) op (told_reply bases (home_of (key_of e.op.act) k) e.reply))
       ∷ told_from bases k era l (suc p) es) (here p (omega arith) (omega (arith, fits)))
       ∙ ap (λ (zs : List EraEntry). tell_by c e ∷ zs) (told-found l c (suc p) high es (omega (arith, fits)) (later es rest)) where
         later : (es : List Entry) → Each (AreFound l c p high) es → Each (AreFound l c (suc p) high) es
@@ -134,7 +134,7 @@ module _ (w : World) (bases : Bases) (era : ℕ) (l : List Lowered) (within : Al
   place_behind = length w.log + length es
 
   quiet : (e : Event) → call_of w e ≡ None → lowered_by w bases e ≡ None
-      → told_from bases w.shape.k era (noted l (lowered_by w bases e) place_behind) (length w.log) es
+      → told_from bases w.shape.k era (lowered_until l (lowered_by w bases e) place_behind) (length w.log) es
       ≡ map (tell_by bases w.shape.k era (call_of w e)) es
   quiet e none same = rw (same, none) (told-found bases w.shape.k era l None (length w.log) place_behind es (omega arith) (each es)) where
     each : (xs : List Entry) → Each (AreFound bases w.shape.k era l None (length w.log) place_behind) xs
@@ -146,11 +146,11 @@ module _ (w : World) (bases : Bases) (era : ℕ) (l : List Lowered) (within : Al
     )
 
   module _ (caller : ℕ) (op : Asked) (p : ProcessId) where
-    abbrev call : Call
+    abbrev call : AskedCall
     call = record { name = next_name w caller; op = op }
 
     abbrev pub HasOp : Entry → Type 0
-    HasOp entry = same_call (next_name w caller) (name_of entry) ≡ true → entry.op ≡ op_in bases w.shape.k op
+    HasOp entry = same_call (next_name w caller) (name_of entry) ≡ true → entry.op ≡ op_for_era bases w.shape.k op
 
     abbrev lowest : Lowered
     lowest = record { from = length w.log; until = place_behind; caller = caller; call = at 0 w.asked caller; op = op }
@@ -164,7 +164,7 @@ module _ (w : World) (bases : Bases) (era : ℕ) (l : List Lowered) (within : Al
           own),
       high-each high xs rest,
     ) where
-      by : (b : Bool) → (b ≡ true → x.op ≡ op_in bases w.shape.k op) → op_out bases w.shape.k x.op ≡ (if b then op else op_out bases w.shape.k x.op)
+      by : (b : Bool) → (b ≡ true → x.op ≡ op_for_era bases w.shape.k op) → op_out bases w.shape.k x.op ≡ (if b then op else op_out bases w.shape.k x.op)
       by true is = ap (op_out bases w.shape.k) (is refl) ∙ op-back bases w.shape.k op high
       by false is = refl
 
@@ -181,12 +181,12 @@ module _ (w : World) (bases : Bases) (era : ℕ) (l : List Lowered) (within : Al
       by a b true one two = rw (one, two) refl
       by a b false one two = rw (one, two) refl
 
-    asks : Each HasOp es → told_from bases w.shape.k era (noted l (lowered_by w bases (Ask caller op p)) place_behind)
+    asks : Each HasOp es → told_from bases w.shape.k era (lowered_until l (lowered_by w bases (Ask caller op p)) place_behind)
         (length w.log) es ≡ map (tell_by bases w.shape.k era (Some call)) es
     asks own = by (is_low bases w.shape.k op.act) refl where
       by : (b : Bool) → is_low bases w.shape.k op.act ≡ b
           → told_from bases w.shape.k era
-          (noted l (if b then Some
+          (lowered_until l (if b then Some
           (record { from = length w.log; until = length w.log; caller = caller; call = at 0 w.asked caller; op = op })
           else None) place_behind) (length w.log) es
           ≡ map (tell_by bases w.shape.k era (Some call)) es
@@ -195,7 +195,7 @@ module _ (w : World) (bases : Bases) (era : ℕ) (l : List Lowered) (within : Al
 
   -- what stood in the log is told as before
   before : (x : Option Lowered) → ((y : Lowered) → x ≡ Some y → y.from ≡ length w.log)
-      → told_from bases w.shape.k era (noted l x place_behind) 0 w.log ≡ told_from bases w.shape.k era l 0 w.log
+      → told_from bases w.shape.k era (lowered_until l x place_behind) 0 w.log ≡ told_from bases w.shape.k era l 0 w.log
   before None from = refl
   before (Some y) from = let at_end : y.from ≡ length w.log = from y refl in
       told-early bases w.shape.k era l (record y { until = place_behind }) 0 w.log (omega (arith, at_end))
@@ -221,7 +221,7 @@ lowered-from w bases (Trace caller number d p) y is = absurd (none-some y is)
 pub told-step : (w : World) (bases : Bases) (past : List (List Entry)) (l : List Lowered) (e : Event)
     → All (IsOldTicket w) w.tickets → All (λ x. x.until ≤ length w.log) l
     → eras_of (step w (event_in bases w.shape.k e)).world bases past
-    (noted l (lowered_by w bases e) (length (step w (event_in bases w.shape.k e)).world.log))
+    (lowered_until l (lowered_by w bases e) (length (step w (event_in bases w.shape.k e)).world.log))
     ≡ (era_step (eras_of w bases past l) e).eras
 told-step w bases past l e old within = ap (λ (log : List EraEntry). record { era = length past; world = t.world; bases = bases; log = log }) whole where
   t : WorldStep
@@ -237,14 +237,14 @@ told-step w bases past l e old within = ap (λ (log : List EraEntry). record { e
   many = ap length grows ∙ length-append w.log es
 
   now : List Lowered
-  now = noted l (lowered_by w bases e) (length w.log + length es)
+  now = lowered_until l (lowered_by w bases e) (length w.log + length es)
 
   own : (e : Event)
       → told_from bases w.shape.k (length past)
-      (noted l (lowered_by w bases e) (length w.log + length (step w (event_in bases w.shape.k e)).turn.logged))
+      (lowered_until l (lowered_by w bases e) (length w.log + length (step w (event_in bases w.shape.k e)).turn.logged))
       (length w.log) (step w (event_in bases w.shape.k e)).turn.logged
       ≡ map (tell_by bases w.shape.k (length past) (call_of w e)) (step w (event_in bases w.shape.k e)).turn.logged
-  own (Ask caller op p) = asks w bases (length past) l within _ caller op p (logged-ops w caller (op_in bases w.shape.k op) p old)
+  own (Ask caller op p) = asks w bases (length past) l within _ caller op p (logged-ops w caller (op_for_era bases w.shape.k op) p old)
   own (Collect caller number p) = quiet w bases (length past) l within _ (Collect caller number p) refl refl
   own (Deliver from to) = quiet w bases (length past) l within _ (Deliver from to) refl refl
   own (Fail p keep) = quiet w bases (length past) l within _ (Fail p keep) refl refl
@@ -261,9 +261,9 @@ told-step w bases past l e old within = ap (λ (log : List EraEntry). record { e
       (before w bases (length past) l within es (lowered_by w bases e) (lowered-from w bases e))
       ∙ ap (λ (xs : List EraEntry). told_from bases w.shape.k (length past) l 0 w.log ++ xs) (own e)
 
-  whole : past_from 0 past ++ told_from bases w.shape.k (length past) (noted l (lowered_by w bases e) (length t.world.log)) 0 t.world.log
+  whole : past_from 0 past ++ told_from bases w.shape.k (length past) (lowered_until l (lowered_by w bases e) (length t.world.log)) 0 t.world.log
       ≡ (past_from 0 past ++ told_from bases w.shape.k (length past) l 0 w.log) ++ map (tell_by bases w.shape.k (length past) (call_of w e)) es
-  whole = ap (λ (n : ℕ). past_from 0 past ++ told_from bases w.shape.k (length past) (noted l (lowered_by w bases e) n) 0 t.world.log) many
+  whole = ap (λ (n : ℕ). past_from 0 past ++ told_from bases w.shape.k (length past) (lowered_until l (lowered_by w bases e) n) 0 t.world.log) many
       ∙ ap (λ (log : List Entry). past_from 0 past ++ told_from bases w.shape.k (length past) now 0 log) grows
       ∙ ap (λ (xs : List EraEntry). past_from 0 past ++ xs) parts
       ∙ sym (append_assoc (past_from 0 past) (told_from bases w.shape.k (length past) l 0 w.log) _)

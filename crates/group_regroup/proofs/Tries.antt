@@ -18,12 +18,12 @@ use Rattle.group_run.specs.Causes.{IsFailure}
 use Rattle.group_run.specs.Headline.{MayCome}
 use Rattle.group_run.specs.Meaning.{IsDown, is_dead}
 use Rattle.group_run.specs.World.{World, WorldStep, step, world_after}
-use Rattle.group_eras.specs.Carry.{Getting, bytes_of, drained, draining, get_with, got_behind, is_retry, only_got}
+use Rattle.group_eras.specs.Carry.{Getting, bytes_got, drained, draining, get_with, got_behind, is_retry, only_got}
 use Rattle.group_eras.specs.Items.{first_living, head_of}
 use Rattle.group_eras.proofs.Draining.{up-still}
 use Rattle.scenario_run.proofs.Leading.{keeps-shape}
 use Rattle.group_regroup.specs.Parts.{MayAsk, IsPart}
-use Rattle.group_regroup.specs.Reading.{IsFound, found_in, tried}
+use Rattle.group_regroup.specs.Reading.{IsValueFound, tried, value_found}
 use Rattle.group_regroup.proofs.Draining.{after-push, take-front}
 
 pub ask-up : (w v : World) (e : Event) → MayAsk w e → ¬ (IsDown w) → v ≡ (step w e).world → ¬ (IsDown v)
@@ -118,12 +118,12 @@ pub record Trying (w : World) (get : Event) (v : World) (value : Option (List �
   pub before : List Event
   pub last : WorldStep
   pub world : v ≡ last.world
-  pub found : IsFound last.turn.answer value
+  pub found : IsValueFound last.turn.answer value
   pub after : v ≡ world_after w (before ++ get ∷ [])
   pub whole : tried w get ≡ got_behind before (get_with tries get last)
 
 pub Trying-first : (w v : World) (get : Event) (value : Option (List ℕ)) → MayAsk w get → ¬ (IsDown v)
-    → v ≡ (step w get).world → IsFound (step w get).turn.answer value → Trying w get v value w.shape.blocks
+    → v ≡ (step w get).world → IsValueFound (step w get).turn.answer value → Trying w get v value w.shape.blocks
 Trying-first w v get value ask up is found = record {
   ask = ask-later w v get ask (ap (λ (x : World). x.shape) is);
   up = up;
@@ -210,14 +210,14 @@ module _ (w v : World) (get : Event) (value : Option (List ℕ)) (tries : ℕ) (
               ∙ sym (append_assoc (t.before ++ get ∷ draining v) (get ∷ []) _)
 
     pub Trying-next : (u x : World) (found : Option (List ℕ)) → u ≡ drained v → ¬ (IsDown x) → x ≡ (step u get).world
-        → IsFound (step u get).turn.answer found → Trying w get x found n
+        → IsValueFound (step u get).turn.answer found → Trying w get x found n
     Trying-next u x found drained_is up is found_is = record {
       ask = ask-later v x get t.ask (ap (λ (y : World). y.shape) (is ∙ ap (λ (y : World). (step y get).world) drained_is) ∙ keeps-shape v (draining v));
       up = up;
       before = t.before ++ get ∷ draining v;
       last = step (drained v) get;
       world = is ∙ ap (λ (y : World). (step y get).world) drained_is;
-      found = subst (λ (y : World). IsFound (step y get).turn.answer found) drained_is found_is;
+      found = subst (λ (y : World). IsValueFound (step y get).turn.answer found) drained_is found_is;
       after = is ∙ ap (λ (y : World). (step y get).world) (drained_is ∙ led-now) ∙ sym (after-push w (t.before ++ get ∷ draining v) get);
       whole = whole-next;
     }
@@ -227,7 +227,7 @@ module _ (w v : World) (get : Event) (value : Option (List ℕ)) (tries : ℕ) (
   ends zero s is = refl
   ends (suc n) s is = ap (λ (b : Bool). if b then got_behind (get ∷ draining s.world) (get_with n get (step (drained s.world) get)) else only_got get s) is
 
-  found-some : (x : List ℕ) (a : Answer) → Some x ≡ found_in a → (is_retry a ≡ false) × (x ≡ bytes_of a)
+  found-some : (x : List ℕ) (a : Answer) → Some x ≡ value_found a → (is_retry a ≡ false) × (x ≡ bytes_got a)
   found-some x (says.Reply (reply.Value item)) is = (refl, ap (λ (o : Option (List ℕ)). unwrap_or o x) is)
   found-some x (says.Reply reply.Miss) is = absurd (none-some x (sym is))
   found-some x (says.Reply reply.Stored) is = absurd (none-some x (sym is))
@@ -254,7 +254,7 @@ module _ (w v : World) (get : Event) (value : Option (List ℕ)) (tries : ℕ) (
   found-some x (says.Stale k) is = absurd (none-some x (sym is))
 
   module _ (x : List ℕ) (some : value ≡ Some x) where
-    last-is : (is_retry t.last.turn.answer ≡ false) × (x ≡ bytes_of t.last.turn.answer)
+    last-is : (is_retry t.last.turn.answer ≡ false) × (x ≡ bytes_got t.last.turn.answer)
     last-is = found-some x t.last.turn.answer (sym some ∙ t.found.value_is)
 
     whole-is : tried w get ≡ got_behind t.before (only_got get t.last)
@@ -263,8 +263,8 @@ module _ (w v : World) (get : Event) (value : Option (List ℕ)) (tries : ℕ) (
     pub got-world : v ≡ (tried w get).world
     got-world = t.world ∙ sym (ap (λ (g : Getting). g.world) whole-is)
 
-    pub got-value : x ≡ bytes_of (tried w get).answer
-    got-value = last-is.1 ∙ sym (ap (λ (g : Getting). bytes_of g.answer) whole-is)
+    pub got-value : x ≡ bytes_got (tried w get).answer
+    got-value = last-is.1 ∙ sym (ap (λ (g : Getting). bytes_got g.answer) whole-is)
 
 pub none-of : {X : Type 0} (o : Option X) → is_some o ≡ false → o ≡ None
 none-of None is = refl

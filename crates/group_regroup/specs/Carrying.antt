@@ -7,27 +7,27 @@ use Rattle.group_run.specs.Meaning.{count_logged}
 use Rattle.group_run.specs.World.{World, opening, world_after}
 use Rattle.group_eras.specs.Carry.{IsBegun, Parcel, setting}
 use Rattle.group_eras.specs.Eras.{Eras}
-use Rattle.group_eras.specs.Items.{Load, bytes_in}
+use Rattle.group_eras.specs.Items.{Load, bytes_in_partition}
 use Rattle.group_eras.specs.Told.{Bases}
 use Rattle.group_eras.specs.declared.fault.CarryFault.{CarryFault}
 use Rattle.group_eras.specs.declared.fault.CarryFault.TheVariants.{Down, NoSpace, NotDrained, Want}
-use Rattle.group_regroup.specs.Items.{loads_of}
+use Rattle.group_regroup.specs.Items.{item_loads}
 use Rattle.group_regroup.specs.Kept.{entries_from}
 use Rattle.group_regroup.specs.declared.changing.Lowered.{Lowered}
 use Rattle.group_regroup.specs.declared.fresh.Fresh.{Fresh}
 use Rattle.group_regroup.specs.declared.items.Item.{Item}
 
 -- a load, wherever its value stands and whatever its number is
-abbrev pub known_of : Load → Load
-known_of x = record { partition = x.partition; key = x.key; slot = record { at = 0; len = x.slot.len; flags = x.slot.flags; cas = 0; until = x.slot.until } }
+abbrev pub load_known : Load → Load
+load_known x = record { partition = x.partition; key = x.key; slot = record { at = 0; len = x.slot.len; flags = x.slot.flags; cas = 0; until = x.slot.until } }
 
 -- items stand for loads
 abbrev pub StandFor : List Item → List Load → Type 0
-StandFor items xs = loads_of items ≡ map known_of xs
+StandFor items xs = item_loads items ≡ map load_known xs
 
 -- the items of each of the first so many partitions fit in a space
 abbrev pub AllFit : World → ℕ → ℕ → Type 0
-AllFit w space many = (d : ℕ) → d < many → bytes_in w d ≤ space
+AllFit w space many = (d : ℕ) → d < many → bytes_in_partition w d ≤ space
 
 -- the bases behind a world
 abbrev pub bases_after : World → Bases → Bases
@@ -40,8 +40,8 @@ pub record IsFresh (w : World) (old : Bases) (lowered : List Lowered) (s : Dimen
   pub told : fresh.told.items ≡ entries_from old w.shape.k lowered 0 w.log
 
 -- after want of memory the first events of the reading stand, and after each other fault all is as it was
-abbrev pub IsLeft : Eras → Eras → CarryFault → Type 0
-IsLeft before after Want = IsBegun before after
-IsLeft before after Down = after ≡ before
-IsLeft before after NotDrained = after ≡ before
-IsLeft before after (NoSpace _) = after ≡ before
+abbrev pub IsLeftByFault : Eras → Eras → CarryFault → Type 0
+IsLeftByFault before after Want = IsBegun before after
+IsLeftByFault before after Down = after ≡ before
+IsLeftByFault before after NotDrained = after ≡ before
+IsLeftByFault before after (NoSpace _) = after ≡ before

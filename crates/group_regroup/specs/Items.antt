@@ -12,11 +12,11 @@ use Rattle.group_core.specs.declared.items.ItemHead.{ItemHead}
 use Rattle.group_regroup.specs.declared.items.Parcel.{Parcel}
 
 -- the load of an item, wherever its value stands and whatever its number is
-abbrev pub load_of : Item → Load
-load_of x = record { partition = x.partition.0; key = x.key; slot = record { at = 0; len = x.len; flags = x.flags; cas = 0; until = x.until } }
+abbrev pub item_load : Item → Load
+item_load x = record { partition = x.partition.0; key = x.key; slot = record { at = 0; len = x.len; flags = x.flags; cas = 0; until = x.until } }
 
-abbrev pub loads_of : List Item → List Load
-loads_of xs = map load_of xs
+abbrev pub item_loads : List Item → List Load
+item_loads xs = map item_load xs
 
 -- an item with its value
 abbrev pub parcel_as : Parcel → carry.Parcel
@@ -45,8 +45,8 @@ live_items p [] = []
 live_items p (h ∷ hs) = if is_live 0 h.until then item_of p h ∷ live_items p hs else live_items p hs
 
 -- how many bytes their values have
-abbrev pub bytes_of : List Item → ℕ
-bytes_of xs = sum_by (λ x. x.len) xs
+abbrev pub value_bytes : List Item → ℕ
+value_bytes xs = sum_by (λ x. x.len) xs
 
 -- they have more than the space, or memory was wanted
 abbrev pub IsLongFault : Partition → ℕ → ℕ → CarryFault → Type 0

@@ -7,7 +7,7 @@ use Rattle.memc_table.specs.Act.{key_of}
 use Rattle.memc_table.specs.Asked.{Asked}
 use Rattle.memc_table.specs.declared.act.Act.{Act}
 use Rattle.memc_table.specs.declared.act.Act.TheVariants.{Cas}
-use Rattle.group_calls.specs.Turns.{CallName, entry_of, name_of}
+use Rattle.group_calls.specs.Turns.{CallName, call_entry, name_of}
 use Rattle.group_calls.specs.declared.entry.Entry.{Entry}
 use Rattle.group_calls.specs.declared.event.Event.{Event}
 use Rattle.group_calls.specs.declared.event.Event.TheVariants.{Ask}
@@ -28,7 +28,7 @@ op_asked (x ∷ xs) place name = if covers x place name then Some x.op else op_a
 
 -- the entry at a place of the current world's log, as it is told
 abbrev pub told_at : Bases → ℕ → List Lowered → ℕ → Entry → Entry
-told_at bases k lowered place entry = entry_of (name_of entry) (unwrap_or (op_asked lowered place (name_of entry)) (op_out bases k entry.op))
+told_at bases k lowered place entry = call_entry (name_of entry) (unwrap_or (op_asked lowered place (name_of entry)) (op_out bases k entry.op))
     (told_reply bases (home_of (key_of entry.op.act) k) entry.reply)
 
 -- the entries from a place on
@@ -63,16 +63,16 @@ lowered_by w bases (Ask caller op p) = if is_low bases w.shape.k op.act
 lowered_by w bases _ = None
 
 -- and once it has logged what stands below a place
-abbrev pub noted : List Lowered → Option Lowered → ℕ → List Lowered
-noted xs None place = xs
-noted xs (Some x) place = xs ++ record x { until = place } ∷ []
+abbrev pub lowered_until : List Lowered → Option Lowered → ℕ → List Lowered
+lowered_until xs None place = xs
+lowered_until xs (Some x) place = xs ++ record x { until = place } ∷ []
 
 -- a base is so low that no number told with it has more than 64 bits
 abbrev pub IsLowBase : ℕ → Type 0
 IsLowBase base = base < 13835058055282163712
 
 -- a base for each partition, and no entry lowered that isn't in the log
-pub record AreKept (w : World) (bases : Bases) (lowered : List Lowered) : Type 0 where
+pub record KeptFitsWorld (w : World) (bases : Bases) (lowered : List Lowered) : Type 0 where
   pub many : length bases ≡ w.shape.k
   pub low : All IsLowBase bases
   pub within : All (λ x. x.until ≤ length w.log) lowered
@@ -84,5 +84,5 @@ entries_from bases k lowered place (x ∷ xs) = told_at bases k lowered place x 
 
 -- what is kept stands for eras to which deeds led
 pub record AreLed (w : World) (bases : Bases) (past : List (List Entry)) (lowered : List Lowered) : Type 0 where
-  pub kept : AreKept w bases lowered
+  pub kept : KeptFitsWorld w bases lowered
   pub led : IsLed (eras_of w bases past lowered)

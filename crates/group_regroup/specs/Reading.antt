@@ -27,11 +27,11 @@ abbrev pub got_on : World → ℕ → List ℕ → Getting
 got_on w d key = tried w (get_on w d key)
 
 -- the value that an answer has
-abbrev pub found_in : Answer → Option (List ℕ)
-found_in (says.Reply (reply.Value item)) = Some item.value
-found_in _ = None
+abbrev pub value_found : Answer → Option (List ℕ)
+value_found (says.Reply (reply.Value item)) = Some item.value
+value_found _ = None
 
 -- the value, or none where the call has to be asked again
-pub record IsFound (answer : Answer) (value : Option (List ℕ)) : Type 0 where
-  pub value_is : value ≡ found_in answer
+pub record IsValueFound (answer : Answer) (value : Option (List ℕ)) : Type 0 where
+  pub value_is : value ≡ value_found answer
   pub again : value ≡ None → is_retry answer ≡ true

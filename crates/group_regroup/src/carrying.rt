@@ -1,10 +1,10 @@
 ghost use Rattle.std.specs.Prelude.{◌≡◌, ◌<◌, ◌≤◌, ◌^◌, ◌++◌, List, All, OnOk, IfOk, IfErr};
 ghost use Rattle.group_run.specs.Meaning.{IsDown, IsDrained};
 ghost use Rattle.group_eras.specs.Carry.{carried, many_carried};
-ghost use Rattle.group_eras.specs.Items.{Load, bytes_in, loads, loads_in};
+ghost use Rattle.group_eras.specs.Items.{Load, bytes_in_partition, loads, loads_in};
 ghost use Rattle.group_eras.specs.Promise.{HasCarried};
 ghost use Rattle.group_eras.specs.Refusal.{CanCarry, IsRefused, IsSuccessor};
-ghost use Rattle.group_regroup.specs.Carrying.{IsLeft, StandFor};
+ghost use Rattle.group_regroup.specs.Carrying.{IsLeftByFault, StandFor};
 ghost use Rattle.group_regroup.specs.Items.{AreWithin, IsLongFault};
 
 use crate::fresh::renew;
@@ -30,7 +30,7 @@ impl Regroup {
         ensures can { OnOk result (CanCarry self.old.world shape) }
         ensures kept { OnOk result (HasCarried self.old shape) }
         ensures fault { IfErr result (IsRefused self.old.world shape) }
-        ensures left { IfErr result (IsLeft self.old self.new) }
+        ensures left { IfErr result (IsLeftByFault self.old self.new) }
     {
         self.world.run();
         let items = match loads(self.alloc, &self.world, shape) {
@@ -112,8 +112,8 @@ fn load_from(
         → StandFor items.new.items (xs ++ loads_in world.now partition.0)) }
     ensures within { OnOk result (AreWithin world.now.shape.k items.old.items
         → AreWithin world.now.shape.k items.new.items) }
-    ensures space { OnOk result (bytes_in world.now partition.0 ≤ space) }
-    ensures fault { IfErr result (IsLongFault partition (bytes_in world.now partition.0) space) }
+    ensures space { OnOk result (bytes_in_partition world.now partition.0 ≤ space) }
+    ensures fault { IfErr result (IsLongFault partition (bytes_in_partition world.now partition.0) space) }
 {
     match world.items(partition) {
         Err(_) => Err(CarryFault::Want),

@@ -1,6 +1,6 @@
 ghost use Rattle.std.specs.Prelude.{◌≡◌, ◌≤◌, IfOk};
 ghost use Rattle.group_types.specs.Lists.{at};
-ghost use Rattle.group_eras.specs.Told.{op_in};
+ghost use Rattle.group_eras.specs.Told.{op_for_era};
 
 use group_types::home;
 use memc_table::{Act, Op};
@@ -20,7 +20,7 @@ pub(crate) struct Lowered {
 /// The op as the era's world makes it: the cas number has the base taken off.
 pub(crate) fn changed_op(bases: &[u64], k: u32, op: &Op) -> Result<Op, AllocError>
     requires { 1 ≤ k }
-    ensures { IfOk result (λ changed. changed ≡ op_in bases.now k op.now) }
+    ensures { IfOk result (λ changed. changed ≡ op_for_era bases.now k op.now) }
 {
     match op.act() {
         Act::Cas {

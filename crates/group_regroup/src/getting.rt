@@ -3,10 +3,10 @@ ghost use Rattle.group_types.specs.Names.{IsProcess};
 ghost use Rattle.group_run.specs.Headline.{MayCome};
 ghost use Rattle.group_run.specs.Meaning.{IsDown};
 ghost use Rattle.group_run.specs.World.{step};
-ghost use Rattle.group_eras.specs.Carry.{bytes_of};
+ghost use Rattle.group_eras.specs.Carry.{bytes_got};
 ghost use Rattle.group_eras.specs.Items.{head_of};
 ghost use Rattle.group_regroup.specs.Parts.{MayAsk, IsPart};
-ghost use Rattle.group_regroup.specs.Reading.{IsFound, get_at, got_on, tried};
+ghost use Rattle.group_regroup.specs.Reading.{IsValueFound, get_at, got_on, tried};
 
 use crate::drain::{answer_to, drain};
 use group_calls::{Answer, Cause, Event};
@@ -24,7 +24,7 @@ pub(crate) fn get(world: &mut World, partition: Partition, key: &Key) -> Result<
     requires up { ¬ (IsDown world.old) }
     ensures up { ¬ (IsDown world.new) }
     ensures world { OnOk result (world.new ≡ (got_on world.old partition.0 key.now).world) }
-    ensures value { IfOk result (λ value. value ≡ bytes_of (got_on world.old partition.0 key.now).answer) }
+    ensures value { IfOk result (λ value. value ≡ bytes_got (got_on world.old partition.0 key.now).answer) }
     ensures err { OnErr result (IsPart world.old (got_on world.old partition.0 key.now).events world.new) }
 {
     let at = head(world, partition);
@@ -38,7 +38,7 @@ fn ask_at(world: &mut World, key: Key, at: ProcessId) -> Result<Payload, AllocEr
     requires up { ¬ (IsDown world.old) }
     ensures up { ¬ (IsDown world.new) }
     ensures world { OnOk result (world.new ≡ (tried world.old (get_at key at)).world) }
-    ensures value { IfOk result (λ value. value ≡ bytes_of (tried world.old (get_at key at)).answer) }
+    ensures value { IfOk result (λ value. value ≡ bytes_got (tried world.old (get_at key at)).answer) }
     ensures err { OnErr result (IsPart world.old (tried world.old (get_at key at)).events world.new) }
 {
     let event = Event::Ask {
@@ -55,7 +55,7 @@ fn ask_event(world: &mut World, event: Event) -> Result<Payload, AllocError>
     requires up { ¬ (IsDown world.old) }
     ensures up { ¬ (IsDown world.new) }
     ensures world { OnOk result (world.new ≡ (tried world.old event).world) }
-    ensures value { IfOk result (λ value. value ≡ bytes_of (tried world.old event).answer) }
+    ensures value { IfOk result (λ value. value ≡ bytes_got (tried world.old event).answer) }
     ensures err { OnErr result (IsPart world.old (tried world.old event).events world.new) }
 {
     let value = ask(world, &event);
@@ -69,7 +69,7 @@ fn ask(world: &mut World, event: &Event) -> Result<Payload, AllocError>
     requires up { ¬ (IsDown world.old) }
     ensures up { ¬ (IsDown world.new) }
     ensures world { OnOk result (world.new ≡ (tried world.old event.now).world) }
-    ensures value { IfOk result (λ value. value ≡ bytes_of (tried world.old event.now).answer) }
+    ensures value { IfOk result (λ value. value ≡ bytes_got (tried world.old event.now).answer) }
     ensures err { OnErr result (IsPart world.old (tried world.old event.now).events world.new) }
 {
     world.run();
@@ -93,7 +93,7 @@ fn ask_once(world: &mut World, event: &Event) -> Result<Option<Payload>, AllocEr
     requires up { ¬ (IsDown world.old) }
     ensures up { ¬ (IsDown world.new) }
     ensures world { OnOk result (world.new ≡ (step world.old event.now).world) }
-    ensures value { IfOk result (IsFound (step world.old event.now).turn.answer) }
+    ensures value { IfOk result (IsValueFound (step world.old event.now).turn.answer) }
     ensures err { OnErr result (IsPart world.old (event.now ∷ []) world.new) }
 {
     match answer_to(world, event)? {

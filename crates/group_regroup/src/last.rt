@@ -1,6 +1,6 @@
 ghost use Rattle.std.specs.Prelude.{◌≡◌, ◌≤◌, ◌++◌, drop, IfOk};
 ghost use Rattle.group_regroup.specs.Kept.{entries_from};
-ghost use Rattle.group_regroup.specs.Last.{entries_of};
+ghost use Rattle.group_regroup.specs.Last.{entries_of_era};
 
 use crate::changing::Lowered;
 use crate::entries::told_at;
@@ -21,7 +21,7 @@ impl Regroup {
     /// memory.
     pub fn told(&self, era: usize, from: usize) -> Result<Vec<Entry>, AllocError>
         requires { era ≤ self.now.era }
-        ensures { IfOk result (λ entries. entries.items ≡ drop from (entries_of era self.now.log)) }
+        ensures { IfOk result (λ entries. entries.items ≡ drop from (entries_of_era era self.now.log)) }
     {
         if era < self.past.len() {
             return copies(self.alloc, &self.past[era], from);

@@ -1,6 +1,6 @@
 ghost use Rattle.std.specs.Prelude.{◌≡◌, ◌<◌, ◌≤◌, ◌++◌, OnOk, IfErr};
 ghost use Rattle.memc_table.specs.Expiry.{is_live};
-ghost use Rattle.group_regroup.specs.Items.{IsLongFault, bytes_of, live_items};
+ghost use Rattle.group_regroup.specs.Items.{IsLongFault, live_items, value_bytes};
 
 use crate::items::Item;
 use group_core::ItemHead;
@@ -16,8 +16,8 @@ pub(crate) fn load(
     space: u32,
 ) -> Result<(), CarryFault>
     ensures items { OnOk result (items.new.items ≡ items.old.items ++ live_items partition heads.items) }
-    ensures space { OnOk result (bytes_of (live_items partition heads.items) ≤ space) }
-    ensures fault { IfErr result (IsLongFault partition (bytes_of (live_items partition heads.items)) space) }
+    ensures space { OnOk result (value_bytes (live_items partition heads.items) ≤ space) }
+    ensures fault { IfErr result (IsLongFault partition (value_bytes (live_items partition heads.items)) space) }
 {
     let mut left = space;
     'heads: for head in heads {

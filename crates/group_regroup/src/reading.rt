@@ -1,7 +1,7 @@
 ghost use Rattle.std.specs.Prelude.{◌≡◌, OnOk, OnErr, IfOk};
 ghost use Rattle.group_run.specs.Meaning.{IsDown};
 ghost use Rattle.group_eras.specs.Carry.{read_all};
-ghost use Rattle.group_regroup.specs.Items.{AreWithin, loads_of, parcels_as};
+ghost use Rattle.group_regroup.specs.Items.{AreWithin, item_loads, parcels_as};
 ghost use Rattle.group_regroup.specs.Parts.{IsPart};
 
 use crate::getting::get;
@@ -17,10 +17,10 @@ pub(crate) fn read_all(
 ) -> Result<Vec<Parcel>, AllocError>
     requires up { ¬ (IsDown world.old) }
     requires within { AreWithin world.old.shape.k items.items }
-    ensures world { OnOk result (world.new ≡ (read_all world.old (loads_of items.items)).world) }
+    ensures world { OnOk result (world.new ≡ (read_all world.old (item_loads items.items)).world) }
     ensures parcels { IfOk result (λ parcels. parcels_as parcels.items
-        ≡ (read_all world.old (loads_of items.items)).parcels) }
-    ensures err { OnErr result (IsPart world.old (read_all world.old (loads_of items.items)).events world.new) }
+        ≡ (read_all world.old (item_loads items.items)).parcels) }
+    ensures err { OnErr result (IsPart world.old (read_all world.old (item_loads items.items)).events world.new) }
 {
     let mut parcels = Vec::new(alloc);
     'items: for item in items {

@@ -3,8 +3,8 @@ ghost use Rattle.group_calls.specs.declared.event.Event.TheVariants as happens;
 ghost use Rattle.group_run.specs.Headline.{MayCome};
 ghost use Rattle.group_run.specs.World.{step};
 ghost use Rattle.group_eras.specs.Eras.{MayMake, era_step};
-ghost use Rattle.group_eras.specs.Told.{event_in, op_in, told_to};
-ghost use Rattle.group_regroup.specs.Kept.{IsLowBase, is_low, lowered_by, noted};
+ghost use Rattle.group_eras.specs.Told.{event_in, op_for_era, told_to};
+ghost use Rattle.group_regroup.specs.Kept.{IsLowBase, is_low, lowered_by, lowered_until};
 ghost use Rattle.group_regroup.specs.Laws.{NumbersFitAlways};
 
 use crate::changing::{Lowered, base_of, changed_op};
@@ -91,12 +91,12 @@ fn ask(
     requires low { All IsLowBase bases.now }
     requires may { MayCome world.old (happens.Ask caller op.now at) }
     ensures world { IfOk result (λ _. world.new ≡ (step world.old
-        (happens.Ask caller (op_in bases.now world.old.shape.k op.now) at)).world) }
+        (happens.Ask caller (op_for_era bases.now world.old.shape.k op.now) at)).world) }
     ensures answer { IfOk result (λ out. out.answer ≡ told_to bases.now world.old.shape.k
         (happens.Ask caller op.now at) (step world.old
-        (happens.Ask caller (op_in bases.now world.old.shape.k op.now) at)).turn.answer) }
+        (happens.Ask caller (op_for_era bases.now world.old.shape.k op.now) at)).turn.answer) }
     ensures logged { IfOk result (λ out. out.logged ≡ length
-        (step world.old (happens.Ask caller (op_in bases.now world.old.shape.k op.now) at)).turn.logged) }
+        (step world.old (happens.Ask caller (op_for_era bases.now world.old.shape.k op.now) at)).turn.logged) }
     ensures err { OnErr result (world.new ≡ world.old) }
 {
     world.run();
@@ -125,7 +125,7 @@ fn is_low(bases: &[u64], k: u32, act: &Act) -> bool
 // A call that went in lowered has logged what stands below a place. It takes no memory.
 fn note(list: &mut Vec<Lowered>, lowered: Option<Lowered>, place: usize)
     requires room { vec_len list.old < vec_capacity list.old }
-    ensures { list.new.items ≡ noted list.old.items lowered place }
+    ensures { list.new.items ≡ lowered_until list.old.items lowered place }
 {
     if let Some(mut lowered) = lowered {
         lowered.until = place;

@@ -16,7 +16,7 @@ use Rattle.group_calls.specs.declared.decision.Decision.{Decision}
 use Rattle.group_calls.specs.declared.decision.Decision.TheVariants as decides
 use Rattle.group_run.specs.Deciding.{Found, Bytes, Missing, blind_reply, decide, decide_accepted, decide_blind}
 use Rattle.group_run.specs.Deciding.{decide_found, decide_left, decide_placed, decide_ruled, decide_waiting}
-use Rattle.group_run.specs.Deciding.{decide_written, is_touch, item_found, length_of, outcome_of, ruling_with}
+use Rattle.group_run.specs.Deciding.{decide_written, is_touch, item_found, outcome_of, ruling_with, slot_length}
 use Rattle.group_run.specs.Deciding.{run_needed, unseen, waits_for, window}
 use Rattle.group_run.specs.Free.{place_for}
 use Rattle.group_run.specs.Replica.{Replica, number_on, slot_in}
@@ -82,7 +82,7 @@ module _ (space : ℕ) (r : Replica) (op : Asked) (read : Run → Found) where
     waiting : (slot : Option Slot) (waits : Option ℕ) → ((x : Run) (b : ℕ) → run_needed op slot ≡ Some x → read x ≡ Missing b → Holds (decides.NeedBlock b))
         → waits_for inherited op.act (number_on r.log (key_of op.act)) ≡ waits → Holds (decide_waiting space r op read slot waits)
     waiting slot (Some n) item is = ends.waits n is
-    waiting slot None item is = blind slot (blind_reply (length_of slot) (ruling_with r op slot (unseen slot))) item
+    waiting slot None item is = blind slot (blind_reply (slot_length slot) (ruling_with r op slot (unseen slot))) item
 
     pub decides-by : Holds (decide space inherited r op read)
     decides-by = waiting (slot_in r.items (key_of op.act)) (waits_for inherited op.act (number_on r.log (key_of op.act))) ends.item refl

@@ -10,42 +10,43 @@ use Rattle.group_types.specs.declared.process.ProcessId.{ProcessId}
 use Rattle.group_types.proofs.Lists.{at-put, at-put-within, length-put-le, at-map}
 use Rattle.group_message.specs.declared.message.Message.{Message}
 use Rattle.group_calls.specs.declared.event.Event.TheVariants.{Ask, Collect, Deliver, Fail, Flush, Trace}
-use Rattle.group_run.specs.Locality.{times, OthersStay, SenderKeeps, LosesFirst, LearnsDown, OthersAreTold, SameAt, NamesDecide}
+use Rattle.group_run.specs.Locality.{occurrences, OthersStay, SenderKeeps, LosesFirst, LearnsDown, OthersAreTold, SameAt, NamesDecide}
 use Rattle.group_run.specs.Process.{Node}
 use Rattle.group_run.specs.World.{World, opening_node, GroupStep, one_changes, two_change, all_change, node_failed}
 use Rattle.group_run.specs.World.{dead_nodes, with_node, with_link, with_down, delivered, NodeStep, DeliveryStep}
 use Rattle.group_run.specs.World.{ask_node, collect_node, flush_node, trace_node, deliver_nodes, next_name, node_in}
-use Rattle.group_run.specs.World.{node_of}
+use Rattle.group_run.specs.World.{process_node}
 
 -- a number that never stands in a list isn't its first
-pub times-first : (k x : ℕ) (xs : List ℕ) → times k (x ∷ xs) ≡ 0 → k ≢ x
+pub times-first : (k x : ℕ) (xs : List ℕ) → occurrences k (x ∷ xs) ≡ 0 → k ≢ x
 times-first k x xs none same = grind (arith, common_steps)
 
-pub times-rest : (k x : ℕ) (xs : List ℕ) → times k (x ∷ xs) ≡ 0 → times k xs ≡ 0
+pub times-rest : (k x : ℕ) (xs : List ℕ) → occurrences k (x ∷ xs) ≡ 0 → occurrences k xs ≡ 0
 times-rest k x xs none = omega arith
 
 -- a number of a range stands there
-pub times-range : (k a n : ℕ) → a ≤ k → k < a + n → times k (range_with_len a n) ≢ 0
+pub times-range : (k a n : ℕ) → a ≤ k → k < a + n → occurrences k (range_with_len a n) ≢ 0
 times-range k a zero low high none = absurd (omega arith)
 times-range k a (suc n) low high none =
     let other : k ≢ a = times-first k a (range_with_len (a + 1) n) none in
     times-range k (a + 1) n (omega (arith, other)) (omega arith) (times-rest k a (range_with_len (a + 1) n) none)
 
 one_stays : (w : World) (p : ProcessId) (t : NodeStep) (k : ℕ) (d : Node) → k < length w.nodes
-    → times k (index_of w.shape p ∷ []) ≡ 0 → at d (one_changes w p t).nodes k ≡ at d w.nodes k
+    → occurrences k (index_of w.shape p ∷ []) ≡ 0 → at d (one_changes w p t).nodes k ≡ at d w.nodes k
 one_stays w p t k d within none = at-put-within d (opening_node w.shape p) w.nodes (index_of w.shape p) k t.node
     (times-first k (index_of w.shape p) [] none) within
 
 pub others_stay : OthersStay
-others_stay w (Ask caller op p) k d size within none = one_stays w p (ask_node w.shape (next_name w caller) op (node_of w p)) k d within none
-others_stay w (Collect caller call p) k d size within none = one_stays w p (collect_node w.shape caller call (node_of w p)) k d within none
-others_stay w (Flush p) k d size within none = one_stays w p (flush_node w.shape (node_of w p)) k d within none
-others_stay w (Trace caller call partition p) k d size within none = one_stays w p (trace_node w.shape caller call partition.0 (node_of w p)) k d within none
+others_stay w (Ask caller op p) k d size within none = one_stays w p (ask_node w.shape (next_name w caller) op (process_node w p)) k d within none
+others_stay w (Collect caller call p) k d size within none = one_stays w p (collect_node w.shape caller call (process_node w p)) k d within none
+others_stay w (Flush p) k d size within none = one_stays w p (flush_node w.shape (process_node w p)) k d within none
+others_stay w (Trace caller call partition p) k d size within none =
+    one_stays w p (trace_node w.shape caller call partition.0 (process_node w p)) k d within none
 others_stay w (Fail p keep) k d size within none = absurd (times-range k 0 (w.shape.k + w.shape.m) (omega arith) (omega arith) none)
 others_stay w (Deliver from to) k d size within none =
     let x = index_of w.shape from in
     let y = index_of w.shape to in
-    let both : DeliveryStep = deliver_nodes w.shape from to (node_of w from) (node_of w to) in
+    let both : DeliveryStep = deliver_nodes w.shape from to (process_node w from) (process_node w to) in
     let nodes : List Node = with_node w.shape from both.sender w.nodes in
     at-put-within d (opening_node w.shape to) nodes y k both.receiver.node (times-first k y [] (times-rest k x (y ∷ []) none))
     (let grows = length-put-le (opening_node w.shape from) w.nodes x both.sender in omega arith)
@@ -63,15 +64,15 @@ pub sender_keeps : SenderKeeps
 sender_keeps w from to d other =
     let x = index_of w.shape from in
     let y = index_of w.shape to in
-    let both : DeliveryStep = deliver_nodes w.shape from to (node_of w from) (node_of w to) in
+    let both : DeliveryStep = deliver_nodes w.shape from to (process_node w from) (process_node w to) in
     let nodes : List Node = with_node w.shape from both.sender w.nodes in
     let here : at d nodes x ≡ both.sender = at-put d (opening_node w.shape from) w.nodes x both.sender in
     let within : x < length nodes = put-within (opening_node w.shape from) w.nodes x both.sender in
     let after : at d (with_node w.shape to both.receiver.node nodes) x ≡ both.sender =
     at-put-within d (opening_node w.shape to) nodes y x both.receiver.node other within ∙ here in
-    subst (λ (node : Node). LosesFirst w to (node_of w from) node) (sym after)
-    (loses w from to (node_of w to).down (node_of w to).dead (node_of w from) (node_of w to)
-    (at [] (node_of w from).links y) refl)
+    subst (λ (node : Node). LosesFirst w to (process_node w from) node) (sym after)
+    (loses w from to (process_node w to).down (process_node w to).dead (process_node w from) (process_node w to)
+    (at [] (process_node w from).links y) refl)
   where
     put-within : (e : Node) (xs : List Node) (i : ℕ) (y : Node) → i < length (put e xs i y)
     put-within e [] zero y = omega arith
@@ -81,7 +82,7 @@ sender_keeps w from to d other =
 
 -- a failure changes of another node only the word whether the group is down
 pub others_are_told : OthersAreTold
-others_are_told w p keep k d within other = by (node_of w p).dead where
+others_are_told w p keep k d within other = by (process_node w p).dead where
   told_one : (nodes : List Node) (down : Bool) → k < length nodes → at d nodes k ≡ at d w.nodes k
       → LearnsDown (at d w.nodes k) (at d (map (with_down down) nodes) k)
   told_one nodes down inside same =
@@ -92,17 +93,17 @@ others_are_told w p keep k d within other = by (node_of w p).dead where
   by : (dead : Bool) → LearnsDown (at d w.nodes k) (at d (all_change dead w.shape w.nodes p keep).nodes k)
   by true = refl
   by false =
-      let nodes : List Node = with_node w.shape p (node_failed w.shape p keep (node_of w p)) w.nodes in
+      let nodes : List Node = with_node w.shape p (node_failed w.shape p keep (process_node w p)) w.nodes in
       told_one nodes (nat_lt w.shape.m (dead_nodes nodes))
-      (let grows = length-put-le (opening_node w.shape p) w.nodes (index_of w.shape p) (node_failed w.shape p keep (node_of w p)) in omega arith)
-      (at-put-within d (opening_node w.shape p) w.nodes (index_of w.shape p) k (node_failed w.shape p keep (node_of w p)) other within)
+      (let grows = length-put-le (opening_node w.shape p) w.nodes (index_of w.shape p) (node_failed w.shape p keep (process_node w p)) in omega arith)
+      (at-put-within d (opening_node w.shape p) w.nodes (index_of w.shape p) k (node_failed w.shape p keep (process_node w p)) other within)
 
 -- a number that stands in a list of one is it
-times-one : (k x : ℕ) → 0 < times k (x ∷ []) → k ≡ x
+times-one : (k x : ℕ) → 0 < occurrences k (x ∷ []) → k ≡ x
 times-one k x some = grind (arith, common_steps)
 
 one_same : (w v : World) (p : ProcessId) (t u : NodeStep) (k : ℕ) (d : Node) → w.shape ≡ v.shape → t ≡ u
-    → 0 < times k (index_of w.shape p ∷ []) → SameAt d (one_changes w p t) (one_changes v p u) k
+    → 0 < occurrences k (index_of w.shape p ∷ []) → SameAt d (one_changes w p t) (one_changes v p u) k
 one_same w v p t u k d shape same some =
     let here : k ≡ index_of w.shape p = times-one k (index_of w.shape p) some in
     let there : k ≡ index_of v.shape p = here ∙ ap (λ (s : Dimensions). index_of s p) shape in
@@ -116,7 +117,7 @@ one_same w v p t u k d shape same some =
       node = mine ∙ ap (λ (x : NodeStep). x.node) same ∙ sym its;
     }
 
-times-two : (k x y : ℕ) → 0 < times k (x ∷ y ∷ []) → k ≢ y → k ≡ x
+times-two : (k x y : ℕ) → 0 < occurrences k (x ∷ y ∷ []) → k ≢ y → k ≡ x
 times-two k x y some other = grind (arith, common_steps)
 
 -- the node at an index named by a delivery, the receiver's or else the sender's
@@ -134,7 +135,7 @@ sender_put w from to b k d within other here =
     ∙ at-put d (opening_node w.shape from) w.nodes (index_of w.shape from) b.sender
 
 two_same : (w v : World) (from to : ProcessId) (b c : DeliveryStep) (k : ℕ) (d : Node) → w.shape ≡ v.shape → b ≡ c → k < length w.nodes → k < length v.nodes
-    → 0 < times k (index_of w.shape from ∷ index_of w.shape to ∷ []) → (k ≡ index_of w.shape to) ⊎ (k ≢ index_of w.shape to)
+    → 0 < occurrences k (index_of w.shape from ∷ index_of w.shape to ∷ []) → (k ≡ index_of w.shape to) ⊎ (k ≢ index_of w.shape to)
     → at d (two_change w from to b).nodes k ≡ at d (two_change v from to c).nodes k
 two_same w v from to b c k d shape same mine its some (inl here) =
     receiver_put w from to b k d here ∙ ap (λ (x : DeliveryStep). x.receiver.node) same
@@ -155,7 +156,7 @@ names_decide w v (Flush p) k d same mine its some =
 names_decide w v (Trace caller call partition p) k d same mine its some =
     one_same w v p _ _ k d same.0 (λ i. trace_node (same.0 i) caller call partition.0 (same.1 i)) some
 names_decide w v (Fail p keep) k d same mine its some =
-    let made : all_change (node_of w p).dead w.shape w.nodes p keep ≡ all_change (node_of v p).dead v.shape v.nodes p
+    let made : all_change (process_node w p).dead w.shape w.nodes p keep ≡ all_change (process_node v p).dead v.shape v.nodes p
     keep = λ i. all_change (node_in (same.0 i) (same.1 i) p).dead (same.0 i) (same.1 i) p keep in
     record {
       answer = ap (λ (x : GroupStep). x.answer) made;
@@ -163,8 +164,8 @@ names_decide w v (Fail p keep) k d same mine its some =
       node = ap (λ (x : GroupStep). at d x.nodes k) made;
     }
 names_decide w v (Deliver from to) k d same mine its some =
-    let both : deliver_nodes w.shape from to (node_of w from) (node_of w to) ≡ deliver_nodes v.shape from to
-    (node_of v from) (node_of v to) = λ i. deliver_nodes (same.0 i) from to (same.1 i) (same.2 i) in
+    let both : deliver_nodes w.shape from to (process_node w from) (process_node w to) ≡ deliver_nodes v.shape from to
+    (process_node v from) (process_node v to) = λ i. deliver_nodes (same.0 i) from to (same.1 i) (same.2 i) in
     record {
       answer = ap (λ (x : DeliveryStep). x.receiver.answer) both;
       settled = ap (λ (x : DeliveryStep). x.receiver.settled) both;

@@ -246,7 +246,7 @@ abbrev pub AnswersHaveCauses : World → Type 0
 AnswersHaveCauses w = (e : Event) → MayCome w e → CauseOf w e (step w e).world (step w e).turn.answer
 
 -- nothing stands in the way of a call at the head of its partition
-pub record IsClear (w : World) (p : ProcessId) (op : Asked) : Type 0 where
+pub record CanProceed (w : World) (p : ProcessId) (op : Asked) : Type 0 where
   pub up : IsUp w p
   pub ready : IsReady w p (home_in w op)
   pub key : number_on (replica_for w p op).log (key_of op.act) ≡ None
@@ -262,7 +262,7 @@ IsServed w op _ = ⊥
 
 -- a call that nothing stands in the way of is served
 abbrev pub ClearIsServed : World → Type 0
-ClearIsServed w = (caller : ℕ) (op : Asked) (p : ProcessId) → MayCome w (Ask caller op p) → IsClear w p op → IsServed w op (step w (Ask caller op p)).turn.answer
+ClearIsServed w = (caller : ℕ) (op : Asked) (p : ProcessId) → MayCome w (Ask caller op p) → CanProceed w p op → IsServed w op (step w (Ask caller op p)).turn.answer
 
 -- log, places and tickets are as before
 pub record KeepsLedger (w after : World) : Type 0 where

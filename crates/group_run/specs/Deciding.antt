@@ -64,13 +64,13 @@ ruling_with r op None bytes = ruling_of op.moment (suc (last_of r)) op.act None
 ruling_with r op (Some slot) bytes = ruling_of op.moment (suc (last_of r)) op.act (live_at op.moment (Some (held_as slot bytes)))
 
 -- how many bytes an item has, 0 where there is none
-abbrev pub length_of : Option Slot → ℕ
-length_of None = 0
-length_of (Some slot) = slot.len
+abbrev pub slot_length : Option Slot → ℕ
+slot_length None = 0
+slot_length (Some slot) = slot.len
 
 -- the bytes of an item that nobody looks at: as many zeros, which are no digits
 abbrev pub unseen : Option Slot → List ℕ
-unseen slot = replicate (length_of slot) 0
+unseen slot = replicate (slot_length slot) 0
 
 -- a refusal holds whatever the bytes of the item are: all but its value, where it has some, and but
 -- that it is no number, where it has 1 to 20
@@ -140,7 +140,7 @@ decide_blind space r op read slot None = decide_found space r op read slot (item
 -- the decision once it is known what the op has to wait for
 abbrev pub decide_waiting : ℕ → Replica → Asked → (Run → Found) → Option Slot → Option ℕ → Decision
 decide_waiting space r op read slot (Some n) = Retry n
-decide_waiting space r op read slot None = decide_blind space r op read slot (blind_reply (length_of slot) (ruling_with r op slot (unseen slot)))
+decide_waiting space r op read slot None = decide_blind space r op read slot (blind_reply (slot_length slot) (ruling_with r op slot (unseen slot)))
 
 -- what a head that inherited updates up to a number decides of an op, from its replica and from what it
 -- finds in runs

@@ -8,7 +8,7 @@ use Rattle.group_message.specs.declared.message.Message.{Message}
 use Rattle.group_calls.specs.declared.event.Event.{Event}
 use Rattle.group_calls.specs.declared.event.Event.TheVariants.{Deliver}
 use Rattle.group_run.specs.Process.{Node}
-use Rattle.group_run.specs.World.{World, node_of, step}
+use Rattle.group_run.specs.World.{World, process_node, step}
 
 -- there is a message
 abbrev pub some_message : List Message → Bool
@@ -17,7 +17,7 @@ some_message (_ ∷ _) = true
 
 -- the node at an index
 abbrev pub node_at : World → ℕ → Node
-node_at w x = node_of w (process_at w.shape x)
+node_at w x = process_node w (process_at w.shape x)
 
 -- a message is on its way from one index to another, whose process lives
 abbrev pub is_waiting : World → ℕ → ℕ → Bool

@@ -10,7 +10,7 @@ use Rattle.group_types.specs.declared.process.ProcessId.{ProcessId}
 use Rattle.group_types.specs.declared.process.ProcessId.TheVariants.{DataNode, ParityNode}
 use Rattle.group_types.specs.declared.run.Run.{Run}
 use Rattle.item_index.specs.declared.slot.Slot.{Slot}
-use Rattle.memc_table.specs.Act.{key_of, value_of}
+use Rattle.memc_table.specs.Act.{act_value, key_of}
 use Rattle.memc_table.specs.declared.holding.Holding.{Holding}
 use Rattle.group_message.specs.declared.update.Update.{Update}
 use Rattle.group_calls.specs.Log.{IsLegal}
@@ -30,7 +30,7 @@ use Rattle.group_run.specs.World.{World, after, turns_of, step, opening}
 -- an event that may come: its callers and processes are in range, a value consists of bytes, a link is
 -- between two, and the call that is traced was asked
 abbrev pub MayCome : World → Event → Type 0
-MayCome w (Ask caller op p) = (caller < callers) × IsProcess w.shape p × All (λ b. b < 256) (value_of op.act)
+MayCome w (Ask caller op p) = (caller < callers) × IsProcess w.shape p × All (λ b. b < 256) (act_value op.act)
 MayCome w (Collect caller call p) = (caller < callers) × IsProcess w.shape p
 MayCome w (Deliver from to) = IsProcess w.shape from × IsProcess w.shape to × (from ≢ to)
 MayCome w (Fail p keep) = IsProcess w.shape p

@@ -7,14 +7,14 @@ use Rattle.group_types.specs.Lists.{at, put}
 use Rattle.group_message.specs.declared.update.Update.{Update}
 use Rattle.group_calls.specs.declared.event.Event.{Event}
 use Rattle.group_run.specs.Applying.{Settlement}
-use Rattle.group_run.specs.World.{World, Call, call_of, group_step, new_ones, opening, settled_in, step}
+use Rattle.group_run.specs.World.{AskedCall, World, call_of, group_step, new_ones, opening, settled_in, step}
 use Rattle.group_run.specs.Replica.{Replica}
 
 -- a group, the settled updates of each of its partitions, and the calls that were asked
 pub record History : Type 0 where
   pub world : World
   pub settled : List (List Update)
-  pub asked : List Call
+  pub asked : List AskedCall
 
 -- the updates of partition d that were settled before, with those that a step settles for the first time
 abbrev pub settled_with : List Settlement → ℕ → List Update → List Update

@@ -12,7 +12,7 @@ use Rattle.group_run.specs.Asking.{reply_from}
 use Rattle.group_run.specs.Meaning.{Logged, Lives, updates_of, process_of}
 use Rattle.group_run.specs.Process.{Held}
 use Rattle.group_run.specs.Replica.{Replica, callers}
-use Rattle.group_run.specs.World.{World, dead_nodes, node_of}
+use Rattle.group_run.specs.World.{World, dead_nodes, process_node}
 
 -- the last of some updates that is a caller's
 abbrev pub last_by : ℕ → Option Logged → List Logged → Option Logged
@@ -46,4 +46,4 @@ HeldIsHeld w = (p : ProcessId) (d : ℕ) (h : Held) → Lives w p → d < w.shap
 
 -- each node's word whether the group is down is right
 abbrev pub NodesKnowDown : World → Type 0
-NodesKnowDown w = (p : ProcessId) → IsProcess w.shape p → (node_of w p).down ≡ nat_lt w.shape.m (dead_nodes w.nodes)
+NodesKnowDown w = (p : ProcessId) → IsProcess w.shape p → (process_node w p).down ≡ nat_lt w.shape.m (dead_nodes w.nodes)

@@ -6,17 +6,17 @@ use Rattle.group_types.specs.declared.process.ProcessId.{ProcessId}
 use Rattle.group_calls.specs.declared.event.Event.{Event}
 use Rattle.group_calls.specs.declared.event.Event.TheVariants.{Ask, Collect, Deliver, Fail, Flush, Trace}
 use Rattle.group_run.specs.Process.{Node}
-use Rattle.group_run.specs.World.{World, GroupStep, group_step, names, node_of, next_name, with_link, with_down}
+use Rattle.group_run.specs.World.{World, GroupStep, group_step, names, process_node, next_name, with_link, with_down}
 
 -- how often a number stands in a list
-abbrev pub times : ℕ → List ℕ → ℕ
-times k [] = 0
-times k (x ∷ xs) = (if x == k then 1 else 0) + times k xs
+abbrev pub occurrences : ℕ → List ℕ → ℕ
+occurrences k [] = 0
+occurrences k (x ∷ xs) = (if x == k then 1 else 0) + occurrences k xs
 
 -- every node that an event doesn't name stays as it is
 abbrev pub OthersStay : Type 0
 OthersStay = (w : World) (e : Event) (k : ℕ) (default : Node)
-    → length w.nodes ≤ w.shape.k + w.shape.m → k < length w.nodes → times k (names w.shape e) ≡ 0
+    → length w.nodes ≤ w.shape.k + w.shape.m → k < length w.nodes → occurrences k (names w.shape e) ≡ 0
     → at default (group_step w e).nodes k ≡ at default w.nodes k
 
 -- a node that lost the first message of one link, or nothing
@@ -26,7 +26,7 @@ LosesFirst w to old new = (new ≡ old) ⊎ (new ≡ with_link w.shape to (drop 
 -- a delivery changes of its sender only the link that it takes from
 abbrev pub SenderKeeps : Type 0
 SenderKeeps = (w : World) (from to : ProcessId) (default : Node) → index_of w.shape from ≢ index_of w.shape to
-    → LosesFirst w to (node_of w from) (at default (group_step w (Deliver from to)).nodes (index_of w.shape from))
+    → LosesFirst w to (process_node w from) (at default (group_step w (Deliver from to)).nodes (index_of w.shape from))
 
 -- a node that was told whether the group is down, and nothing else
 abbrev pub LearnsDown : Node → Node → Type 0
@@ -39,12 +39,12 @@ OthersAreTold = (w : World) (p : ProcessId) (keep k : ℕ) (default : Node) → 
 
 -- two groups of one shape have the same nodes where an event names them, and the same position of its call
 abbrev pub AreSameFor : World → World → Event → Type 0
-AreSameFor w v (Ask caller _ p) = (w.shape ≡ v.shape) × (node_of w p ≡ node_of v p) × (next_name w caller ≡ next_name v caller)
-AreSameFor w v (Collect _ _ p) = (w.shape ≡ v.shape) × (node_of w p ≡ node_of v p)
-AreSameFor w v (Deliver from to) = (w.shape ≡ v.shape) × (node_of w from ≡ node_of v from) × (node_of w to ≡ node_of v to)
+AreSameFor w v (Ask caller _ p) = (w.shape ≡ v.shape) × (process_node w p ≡ process_node v p) × (next_name w caller ≡ next_name v caller)
+AreSameFor w v (Collect _ _ p) = (w.shape ≡ v.shape) × (process_node w p ≡ process_node v p)
+AreSameFor w v (Deliver from to) = (w.shape ≡ v.shape) × (process_node w from ≡ process_node v from) × (process_node w to ≡ process_node v to)
 AreSameFor w v (Fail _ _) = (w.shape ≡ v.shape) × (w.nodes ≡ v.nodes)
-AreSameFor w v (Flush p) = (w.shape ≡ v.shape) × (node_of w p ≡ node_of v p)
-AreSameFor w v (Trace _ _ _ p) = (w.shape ≡ v.shape) × (node_of w p ≡ node_of v p)
+AreSameFor w v (Flush p) = (w.shape ≡ v.shape) × (process_node w p ≡ process_node v p)
+AreSameFor w v (Trace _ _ _ p) = (w.shape ≡ v.shape) × (process_node w p ≡ process_node v p)
 
 -- what two groups make of an event has the same answer, settles the same updates, and has this one node in common
 pub record SameAt (d : Node) (a b : GroupStep) (k : ℕ) : Type 0 where
@@ -55,5 +55,5 @@ pub record SameAt (d : Node) (a b : GroupStep) (k : ℕ) : Type 0 where
 -- an event's answer and the new nodes that it names depend on nothing else
 abbrev pub NamesDecide : Type 0
 NamesDecide = (w v : World) (e : Event) (k : ℕ) (default : Node)
-    → AreSameFor w v e → k < length w.nodes → k < length v.nodes → 0 < times k (names w.shape e)
+    → AreSameFor w v e → k < length w.nodes → k < length v.nodes → 0 < occurrences k (names w.shape e)
     → SameAt default (group_step w e) (group_step v e) k

@@ -19,7 +19,7 @@ use Rattle.group_calls.specs.declared.entry.Entry.{Entry}
 use Rattle.group_run.specs.Applying.{replica_of, head_at}
 use Rattle.group_run.specs.Process.{Head, Process}
 use Rattle.group_run.specs.Replica.{last_of}
-use Rattle.group_run.specs.World.{World, node_of, dead_nodes, front_if}
+use Rattle.group_run.specs.World.{World, dead_nodes, front_if, process_node}
 
 -- an update of a partition, as the log tells it: its entry, its run, and the value that its key has in
 -- the table after it, if the key has an item then
@@ -74,14 +74,14 @@ table_at w d n = table_of (empty_table w.shape.k) (cut_after w.shape.k d n w.log
 
 -- the run of a key's item after an update on the key: its own, the old one where it has none, and none
 -- where it leaves no item
-abbrev pub run_after : Option Holding → Option Run → Option Run → Option Run
-run_after None run old = None
-run_after (Some _) None old = old
-run_after (Some _) (Some run) old = Some run
+abbrev pub item_run_after : Option Holding → Option Run → Option Run → Option Run
+item_run_after None run old = None
+item_run_after (Some _) None old = old
+item_run_after (Some _) (Some run) old = Some run
 
 -- the run of a key after an update, which changes it only where it is on that key
 abbrev pub run_unless : Bool → Logged → Option Run → Option Run
-run_unless true u old = run_after u.item u.run old
+run_unless true u old = item_run_after u.item u.run old
 run_unless false u old = old
 
 -- the run of a key after updates, in order: that of the last update on it that has one
@@ -111,11 +111,11 @@ spaces_at w d (n ∷ ns) = values_after w d n ∷ spaces_at w (suc d) ns
 
 -- the process of a node
 abbrev pub process_of : World → ProcessId → Process
-process_of w p = (node_of w p).process
+process_of w p = (process_node w p).process
 
 -- whether a process is dead
 abbrev pub is_dead : World → ProcessId → Bool
-is_dead w p = (node_of w p).dead
+is_dead w p = (process_node w p).dead
 
 -- the process is one of the group, and lives
 abbrev pub Lives : World → ProcessId → Type 0
@@ -127,7 +127,7 @@ IsDown w = w.shape.m < dead_nodes w.nodes
 
 -- the link from one process to another
 abbrev pub link : World → ProcessId → ProcessId → List Message
-link w from to = at [] (node_of w from).links (index_of w.shape to)
+link w from to = at [] (process_node w from).links (index_of w.shape to)
 
 -- the process of rank r heads partition d: it lives, and those of lower rank are dead
 abbrev pub Heads : World → ℕ → ℕ → Type 0

@@ -6,13 +6,13 @@ use Rattle.group_types.specs.Lists.{at, put}
 use Rattle.group_types.specs.Names.{index_of, process_at, same_process}
 use Rattle.group_types.specs.declared.process.ProcessId.{ProcessId}
 use Rattle.group_types.specs.declared.run.Run.{Run}
-use Rattle.membership.specs.Members.{Membership, knows_dead, count_dead}
+use Rattle.membership.specs.Members.{Membership, count_dead_words, knows_dead}
 use Rattle.memc_table.specs.Asked.{Asked}
 use Rattle.memc_table.specs.declared.reply.Reply.{Reply}
 use Rattle.group_message.specs.declared.message.Message.{Message}
 use Rattle.group_message.specs.declared.message.Message.TheVariants as tells
 use Rattle.group_message.specs.declared.update.Update.{Update}
-use Rattle.group_calls.specs.Turns.{Turn, CallName, name_of, entry_of, accepts}
+use Rattle.group_calls.specs.Turns.{Turn, CallName, name_of, call_entry, accepts}
 use Rattle.group_calls.specs.declared.entry.Entry.{Entry}
 use Rattle.group_calls.specs.declared.event.Answer.{Answer}
 use Rattle.group_calls.specs.declared.event.Answer.TheVariants as says
@@ -156,7 +156,7 @@ pub record Ticket : Type 0 where
 
 -- the group: its nodes by index, the number of events, of each caller's asks, the log, per partition the
 -- run of each logged update, and the calls whose update was issued. A place of a list that nobody has
--- written reads as it was at the start: `node_of` as a process that opens, `at 0 asked` as no ask, and
+-- written reads as it was at the start: `process_node` as a process that opens, `at 0 asked` as no ask, and
 -- `at [] places` as no update
 pub record World : Type 0 where
   pub shape : Dimensions
@@ -188,8 +188,8 @@ abbrev pub node_in : Dimensions → List Node → ProcessId → Node
 node_in s nodes p = at (opening_node s p) nodes (index_of s p)
 
 -- the node of a process
-abbrev pub node_of : World → ProcessId → Node
-node_of w p = node_in w.shape w.nodes p
+abbrev pub process_node : World → ProcessId → Node
+process_node w p = node_in w.shape w.nodes p
 
 -- the nodes, but for one that is now this
 abbrev pub with_node : Dimensions → ProcessId → Node → List Node → List Node
@@ -197,7 +197,7 @@ with_node s p node nodes = put (opening_node s p) nodes (index_of s p) node
 
 -- how many nodes are dead
 abbrev pub dead_nodes : List Node → ℕ
-dead_nodes nodes = count_dead (map (λ node. node.dead) nodes)
+dead_nodes nodes = count_dead_words (map (λ node. node.dead) nodes)
 
 -- what a group makes of an event: its nodes, the answer, and what is settled
 pub record GroupStep : Type 0 where
@@ -235,25 +235,25 @@ next_name w caller = record { caller = caller; call = at 0 w.asked caller }
 
 -- what a group makes of each event
 abbrev pub group_step : World → Event → GroupStep
-group_step w (Ask caller op p) = one_changes w p (ask_node w.shape (next_name w caller) op (node_of w p))
-group_step w (Collect caller call p) = one_changes w p (collect_node w.shape caller call (node_of w p))
-group_step w (Deliver from to) = two_change w from to (deliver_nodes w.shape from to (node_of w from) (node_of w to))
-group_step w (Fail p keep) = all_change (node_of w p).dead w.shape w.nodes p keep
-group_step w (Flush p) = one_changes w p (flush_node w.shape (node_of w p))
-group_step w (Trace caller call d p) = one_changes w p (trace_node w.shape caller call d.0 (node_of w p))
+group_step w (Ask caller op p) = one_changes w p (ask_node w.shape (next_name w caller) op (process_node w p))
+group_step w (Collect caller call p) = one_changes w p (collect_node w.shape caller call (process_node w p))
+group_step w (Deliver from to) = two_change w from to (deliver_nodes w.shape from to (process_node w from) (process_node w to))
+group_step w (Fail p keep) = all_change (process_node w p).dead w.shape w.nodes p keep
+group_step w (Flush p) = one_changes w p (flush_node w.shape (process_node w p))
+group_step w (Trace caller call d p) = one_changes w p (trace_node w.shape caller call d.0 (process_node w p))
 
 -- a call that is asked
-pub record Call : Type 0 where
+pub record AskedCall : Type 0 where
   pub name : CallName
   pub op : Asked
 
 -- the call that an event asks, if it asks one
-abbrev pub call_of : World → Event → Option Call
+abbrev pub call_of : World → Event → Option AskedCall
 call_of w (Ask caller op p) = Some (record { name = next_name w caller; op = op })
 call_of w _ = None
 
 -- how often each caller asked, after a call
-abbrev pub asked_after : List ℕ → Option Call → List ℕ
+abbrev pub asked_after : List ℕ → Option AskedCall → List ℕ
 asked_after asked None = asked
 asked_after asked (Some c) = put 0 asked c.name.caller (suc (at 0 asked c.name.caller))
 
@@ -264,20 +264,20 @@ is_issued (says.Reply reply) = accepts reply
 is_issued _ = false
 
 -- the calls whose update was issued, with this one behind
-abbrev pub ticket_if : Bool → ℕ → Call → List Ticket → List Ticket
+abbrev pub ticket_if : Bool → ℕ → AskedCall → List Ticket → List Ticket
 ticket_if true since c tickets = tickets ++ record { name = c.name; since = since; op = Some c.op } ∷ []
 ticket_if false since c tickets = tickets
 
-abbrev pub tickets_after : ℕ → Option Call → Answer → List Ticket → List Ticket
+abbrev pub tickets_after : ℕ → Option AskedCall → Answer → List Ticket → List Ticket
 tickets_after since None answer tickets = tickets
 tickets_after since (Some c) answer tickets = ticket_if (is_issued answer) since c tickets
 
 -- a refusal that is given at once is logged in its ask
-abbrev pub refusal_logged : Bool → Call → Reply → List Entry
+abbrev pub refusal_logged : Bool → AskedCall → Reply → List Entry
 refusal_logged true c reply = []
-refusal_logged false c reply = entry_of c.name c.op reply ∷ []
+refusal_logged false c reply = call_entry c.name c.op reply ∷ []
 
-abbrev pub logged_at_once : Option Call → Answer → List Entry
+abbrev pub logged_at_once : Option AskedCall → Answer → List Entry
 logged_at_once (Some c) (says.Reply reply) = refusal_logged (accepts reply) c reply
 logged_at_once _ _ = []
 
@@ -297,7 +297,7 @@ op_in name (t ∷ ts) = if same_call t.name name then t.op else op_in name ts
 -- the entry of a settled update behind others, if its call has an op
 abbrev pub entry_then : Update → Option Asked → List Entry → List Entry
 entry_then u None entries = entries
-entry_then u (Some op) entries = entry_of (update_name u) op (reply_from u.outcome) ∷ entries
+entry_then u (Some op) entries = call_entry (update_name u) op (reply_from u.outcome) ∷ entries
 
 -- the entries of settled updates: each has the op of its call
 abbrev pub entries_for : List Ticket → List Update → List Entry

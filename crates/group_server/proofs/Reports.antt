@@ -7,7 +7,7 @@ use Rattle.edge_io.specs.Moving.{Appends, Input}
 use Rattle.edge_io.specs.Writing.{HasWritten}
 use Rattle.edge_io.proofs.Moving.{Appends-nil, Appends-trans}
 use Rattle.group_config.specs.Reading.{ComesOf}
-use Rattle.group_config.specs.Text.{HasRead}
+use Rattle.group_config.specs.Text.{HasReadSettings}
 use Rattle.group_config.specs.declared.fault.ConfigFault.{ConfigFault}
 use Rattle.group_config.specs.declared.fault.ConfigFault.TheVariants as config
 use Rattle.group_config.specs.declared.settings.Settings.{Settings}
@@ -22,7 +22,7 @@ use Rattle.group_server.specs.declared.fault.ServiceFault.TheVariants.{TooLong, 
 
 -- a text that gives no settings
 pub refused : (before now : Input) (text : List ℕ) (fault : ConfigFault) (out : Result Settings ServiceFault)
-    → HasRead before now text → ComesOf text (Err fault)
+    → HasReadSettings before now text → ComesOf text (Err fault)
     → IsErrAnd out (λ e. e ≡ of_config fault) → IsGivenOr before now out
 refused before now text fault (Ok settings) read comes is = absurd is
 refused before now text (config.BadConfig key) (Err e) read comes is =

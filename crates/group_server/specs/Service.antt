@@ -3,8 +3,8 @@ use Rattle.std.specs.Prelude.{◌≡◌, ◌⊎◌, ℕ, Bool, List, ◌++◌, c
 use Rattle.std.specs.Fmt.{decimal}
 use Rattle.edge_io.specs.Moving.{Appends, Input}
 use Rattle.edge_io.specs.Writing.{HasWritten}
-use Rattle.group_config.specs.Reading.{Gives, Refuses}
-use Rattle.group_config.specs.Text.{HasRead, HasReadTooMuch}
+use Rattle.group_config.specs.Reading.{GivesSettings, RefusesAtKey}
+use Rattle.group_config.specs.Text.{HasReadSettings, HasReadTooMuch}
 use Rattle.group_config.specs.declared.settings.Settings.{Settings}
 use Rattle.group_types.specs.declared.config_key.ConfigKey.{ConfigKey}
 use Rattle.node_worker.specs.Served.{HasAccepted, IsDone}
@@ -24,20 +24,20 @@ pub record Tally : Type 0 where
   pub accepted : ℕ
   pub over : Bool
 
-abbrev pub tally : Option (List ℕ) → ℕ → Bool → Tally
-tally at accepted over = record { at = at; accepted = accepted; over = over }
+abbrev pub tally_with : Option (List ℕ) → ℕ → Bool → Tally
+tally_with at accepted over = record { at = at; accepted = accepted; over = over }
 
 -- the source was read to its end, and its text gives these settings
-pub record HasGiven (before now : Input) (settings : Settings) : Type 0 where
+pub record HasGivenSettings (before now : Input) (settings : Settings) : Type 0 where
   pub text : List ℕ
-  pub read : HasRead before now text
-  pub gives : Gives text settings
+  pub read : HasReadSettings before now text
+  pub gives : GivesSettings text settings
 
 -- the source was read to its end, and its text is refused at this key
 pub record HasRefused (before now : Input) (key : ConfigKey) : Type 0 where
   pub text : List ℕ
-  pub read : HasRead before now text
-  pub refuses : Refuses text key
+  pub read : HasReadSettings before now text
+  pub refuses : RefusesAtKey text key
 
 -- what `listen` tells, and what a listener tells of itself
 module _ {L : Type 0} (listened : L → List ℕ → L → Type 0) (tells : L → Tally) where
@@ -65,4 +65,4 @@ module _ {L : Type 0} (listened : L → List ℕ → L → Type 0) (tells : L �
   HasServedGroup input input_now held held_now l l_now (Err (BadConfig key)) = HasRefused input input_now key × (held_now ≡ held) × (l_now ≡ l)
   HasServedGroup input input_now held held_now l l_now (Err ReadFault) = (held_now ≡ held) × (l_now ≡ l)
   HasServedGroup input input_now held held_now l l_now (Err Want) = (n : ℕ) × HasWritten held held_now (listening ++ served n)
-  HasServedGroup input input_now held held_now l l_now result = (settings : Settings) × HasGiven input input_now settings × HasServedBy settings held held_now l l_now result
+  HasServedGroup input input_now held held_now l l_now result = (settings : Settings) × HasGivenSettings input input_now settings × HasServedBy settings held held_now l l_now result

@@ -6,13 +6,13 @@ use Rattle.group_config.specs.Text.{HasReadTooMuch}
 use Rattle.group_config.specs.declared.settings.Settings.{Settings}
 use Rattle.node_worker.specs.declared.fault.ServeFault.{ServeFault}
 use Rattle.group_server.specs.Faults.{of_serving}
-use Rattle.group_server.specs.Service.{HasGiven, HasRefused, Tally, listening, served}
+use Rattle.group_server.specs.Service.{HasGivenSettings, HasRefused, Tally, listening, served}
 use Rattle.group_server.specs.declared.fault.ServiceFault.{ServiceFault}
 use Rattle.group_server.specs.declared.fault.ServiceFault.TheVariants.{TooLong, BadConfig, ReadFault, WriteFault, AcceptFault, Want}
 
 -- a source gave settings, or why not
 abbrev pub IsGivenOr : Input → Input → Result Settings ServiceFault → Type 0
-IsGivenOr before now (Ok settings) = HasGiven before now settings
+IsGivenOr before now (Ok settings) = HasGivenSettings before now settings
 IsGivenOr before now (Err TooLong) = HasReadTooMuch before now
 IsGivenOr before now (Err (BadConfig key)) = HasRefused before now key
 IsGivenOr before now (Err ReadFault) = ⊤

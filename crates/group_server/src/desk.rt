@@ -1,5 +1,5 @@
 ghost use Rattle.std.specs.Prelude.{◌≡◌, IfOk, IfSome};
-ghost use Rattle.group_stage.specs.Seated.{AreOf};
+ghost use Rattle.group_stage.specs.Seated.{AreSeatsOf};
 
 use crate::losses::Losses;
 use crate::told_caller::ToldCaller;
@@ -28,7 +28,7 @@ impl<'d, 'a, R: Wait> Desk<'d, 'a, R> {
         control: bool,
         losses: &'d Losses,
     ) -> Result<Desk<'d, 'a, R>, AllocError>
-        requires { AreOf stage.now seats.seats }
+        requires { AreSeatsOf stage.now seats.seats }
         ensures control { IfOk result (λ desk. desk.control ≡ control) }
     {
         let mut rest = seats;

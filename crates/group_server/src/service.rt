@@ -3,7 +3,7 @@ ghost use Rattle.edge_io.specs.Faults.{HasCauseOf};
 ghost use Rattle.edge_io.specs.Moving.{Appends};
 ghost use Rattle.group_config.specs.Keys.{HasWorkers};
 ghost use Rattle.group_config.specs.Reading.{ComesOf};
-ghost use Rattle.group_server.specs.Service.{HasServedBy, HasServedGroup, listening, tally};
+ghost use Rattle.group_server.specs.Service.{HasServedBy, HasServedGroup, listening, tally_with};
 ghost use Rattle.group_server.specs.Steps.{HasNotOpened, HasReported, IsGivenOr};
 
 use crate::fault::ServiceFault;
@@ -33,7 +33,7 @@ pub fn serve<R: Threads + Wait + Sync, S: Source, K: Sink, L: ReadyListener, N: 
 where
     L::Incoming: Drop,
     L::Outgoing: Drop,
-    ensures served { HasServedGroup L.listened (λ l. tally (L.at l) (L.accepted l) (L.over l))
+    ensures served { HasServedGroup L.listened (λ l. tally_with (L.at l) (L.accepted l) (L.over l))
         (S.input source.old) (S.input source.new) (K.held sink.old) (K.held sink.new) listener.old listener.new result }
     ensures read { HasCauseOf (S.faults source.old) (S.faults source.new) result ServiceFault.ReadFault }
     ensures write { HasCauseOf (K.faults sink.old) (K.faults sink.new) result ServiceFault.WriteFault }
@@ -90,7 +90,7 @@ where
     L::Incoming: Drop,
     L::Outgoing: Drop,
     requires { HasWorkers settings.now.workers }
-    ensures served { HasServedBy L.listened (λ l. tally (L.at l) (L.accepted l) (L.over l)) settings.now
+    ensures served { HasServedBy L.listened (λ l. tally_with (L.at l) (L.accepted l) (L.over l)) settings.now
         (K.held sink.old) (K.held sink.new) listener.old listener.new result }
     ensures write { HasCauseOf (K.faults sink.old) (K.faults sink.new) result ServiceFault.WriteFault }
     ensures accept { HasCauseOf (L.faults listener.old) (L.faults listener.new) result ServiceFault.AcceptFault }
@@ -115,7 +115,7 @@ fn open<K: Sink, L: ReadyListener, N: Notice>(
     ensures at { OnOk result (L.at listener.new ≡ Some settings.now.address) }
     ensures written { OnOk result (Appends (K.held sink.old) (K.held sink.new) listening) }
     ensures accepted { L.accepted listener.new ≡ L.accepted listener.old }
-    ensures failed { IfErr result (HasNotOpened L.listened (λ l. tally (L.at l) (L.accepted l) (L.over l)) settings.now
+    ensures failed { IfErr result (HasNotOpened L.listened (λ l. tally_with (L.at l) (L.accepted l) (L.over l)) settings.now
         (K.held sink.old) (K.held sink.new) listener.old listener.new) }
     ensures write { HasCauseOf (K.faults sink.old) (K.faults sink.new) result ServiceFault.WriteFault }
     ensures accept { HasCauseOf (L.faults listener.old) (L.faults listener.new) result ServiceFault.AcceptFault }

@@ -16,7 +16,7 @@ use Rattle.group_stage.specs.Dealt.{AreNew, IsNew}
 use Rattle.group_stage.specs.Opened.{AreLaid}
 use Rattle.group_stage.specs.Places.{slot_of}
 use Rattle.group_stage.specs.Schedules.{standing_at}
-use Rattle.group_stage.specs.Seated.{AreOf}
+use Rattle.group_stage.specs.Seated.{AreSeatsOf}
 use Rattle.group_stage.specs.declared.seat.Seat.{Seat}
 use Rattle.group_stage.specs.declared.stage.Stage.{Stage}
 
@@ -58,6 +58,6 @@ laid-more s x xs y laid is = record {
 
 -- new seats of a stage are of the stage
 pub new-of-stage : (stage : Stage) (xs : List Seat) (f : ℕ → ℕ)
-    → ((i : ℕ) (seat : Seat) → std.slice_get xs i ≡ std.Some seat → IsNew stage seat (f i)) → AreOf stage xs
+    → ((i : ℕ) (seat : Seat) → std.slice_get xs i ≡ std.Some seat → IsNew stage seat (f i)) → AreSeatsOf stage xs
 new-of-stage stage [] f all = tt
 new-of-stage stage (x ∷ xs) f all = ((all 0 x refl).of_stage, new-of-stage stage xs (λ i. f (suc i)) (λ i seat is. all (suc i) seat is))

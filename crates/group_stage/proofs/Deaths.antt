@@ -12,7 +12,7 @@ use Rattle.group_calls.specs.declared.event.Event.{Event}
 use Rattle.group_calls.specs.declared.event.Event.TheVariants.{Fail}
 use Rattle.group_run.specs.Headline.{IsRun, MayCome}
 use Rattle.group_run.specs.Process.{Node}
-use Rattle.group_run.specs.World.{GroupStep, World, after, all_change, group_step, node_in, node_of, opening}
+use Rattle.group_run.specs.World.{GroupStep, World, after, all_change, group_step, node_in, opening, process_node}
 use Rattle.group_node.specs.Standing.{NodeStanding}
 use Rattle.group_core.specs.Seats.{AreSeated, nodes_of, seat, seats_of}
 use Rattle.group_core.proofs.Changed.{many-nodes}
@@ -25,7 +25,7 @@ use Rattle.group_stage.specs.Gathered.{AllFailed, CanFail, Failed, GaveBack, Has
 use Rattle.group_stage.specs.Places.{slot_of}
 use Rattle.group_stage.specs.Schedules.{answer_at, ask_by}
 use Rattle.group_stage.specs.Steps.{Knows, Sat}
-use Rattle.group_stage.specs.Views.{begun, committed, held_rest, released, tally, with_held, with_met}
+use Rattle.group_stage.specs.Views.{begun, committed, held_rest, released, tally, with_met, with_node_held}
 use Rattle.group_stage.specs.declared.answer.StageAnswer.{StageAnswer}
 use Rattle.group_stage.specs.declared.answer.StageAnswer.TheVariants.{Busy, Made, Worn}
 use Rattle.group_stage.specs.declared.view.Plan.{Plan}
@@ -101,9 +101,9 @@ pub one-more : (v : View) (ys : List NodeStanding) (y : NodeStanding) (m w : Sat
     → (w ≡ sat_with v (ys ++ y ∷ [])) × ((es : List Event) × Knows es (holding_all v (ys ++ y ∷ [])))
 one-more v ys y m w p here is taken =
     let held : (p, y) ∷ hand_of ys ≡ hand_of (ys ++ y ∷ []) = ap (λ (x : ℕ). (x, y) ∷ hand_of ys) here ∙ sym (hand-more ys y) in
-    let view : with_held m.0 p y ≡ holding_all v (ys ++ y ∷ []) = ap (λ (x : Sat). with_held x.0 p y) is ∙ (λ i. record v { held = held i }) in
+    let view : with_node_held m.0 p y ≡ holding_all v (ys ++ y ∷ []) = ap (λ (x : Sat). with_node_held x.0 p y) is ∙ (λ i. record v { held = held i }) in
     let seat : w ≡ sat_with v (ys ++ y ∷ []) = taken.1.seat
-    ∙ ap (λ (x : Sat). (with_held x.0 p y, (slot_of p, None) ∷ x.1)) is
+    ∙ ap (λ (x : Sat). (with_node_held x.0 p y, (slot_of p, None) ∷ x.1)) is
     ∙ (λ i. (record v { held = held i }, slots_left (held i))) in
     (seat, (taken.0, subst (Knows taken.0) view taken.1.knows))
 
@@ -122,7 +122,7 @@ module _ (s : Dimensions) (es : List Event) (run : IsRun s es) (p : ProcessId) (
   pub seated : AreSeated s ys
   seated = record { many = many; shapes = run-shapes s es 0 ys are }
 
-  node-same : seat (seats_of s ys) p ≡ node_of (after s es) p
+  node-same : seat (seats_of s ys) p ≡ process_node (after s es) p
   node-same = λ i. node_in ((sym shape) i) (nodes i) p
 
   pub named : (seat (seats_of s ys) p).process.name ≡ p
@@ -222,7 +222,7 @@ pub can-fail : (plan : Plan) (v : View) (p : ProcessId) (keep : ℕ) (slots : Li
     (first : NodeStanding) (m : Sat) → IsIdle (v, slots) → v.shape ≡ plan.shape → IsProcess plan.shape p
     → (es : List Event) × InHand (begun (Fail p keep) v) 0 slots first m es → CanFail plan p keep m first
 can-fail plan v p keep slots first m ready shape pin taken =
-    let u : View = with_held (begun (Fail p keep) v) 0 first in
+    let u : View = with_node_held (begun (Fail p keep) v) 0 first in
     let seat : m ≡ (u, (slot_of 0, None) ∷ []) = taken.1.seat ∙ (λ i. (u, (slot_of 0, None) ∷ ready.slots i)) in
     subst (λ (x : Sat). CanFail plan p keep x first) (sym seat) (record {
       process = pin;
@@ -255,7 +255,7 @@ pub failed-ended : (v : View) (p : ProcessId) (keep : ℕ) (slots : List (ℕ ×
     (m w : Sat) (a : StageAnswer) → IsIdle (v, slots) → IsProcess v.shape p
     → (es : List Event) × InHand (begun (Fail p keep) v) 0 slots first m es → Failed m.0 a w → Ended (Fail p keep) v a w.0
 failed-ended v p keep slots first m w a ready pin taken failed = by a (subst (λ (x : Sat). Failed x.0 a w) taken.1.seat failed) where
-  by : (b : StageAnswer) → Failed (with_held (begun (Fail p keep) v) 0 first) b w → Ended (Fail p keep) v b w.0
+  by : (b : StageAnswer) → Failed (with_node_held (begun (Fail p keep) v) 0 first) b w → Ended (Fail p keep) v b w.0
   by (Made answer) (es, all) = subst (λ (x : View). Ended (Fail p keep) v (Made answer) x) (sym (ap (λ (z : Sat). z.0) all.seat)) (
     record { shape = refl; parts = refl; numbers = refl; calls = refl; idle = refl },
     (

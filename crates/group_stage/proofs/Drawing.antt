@@ -7,25 +7,25 @@ use lib.ListN.{get_elem?}
 use Rattle.atomic_table.specs.Table.{Allows, keeps, step}
 use Rattle.atomic_table.proofs.Lists.{at_set}
 use Rattle.group_types.specs.Dimensions.{processes_of}
-use Rattle.group_run.specs.Locality.{times}
+use Rattle.group_run.specs.Locality.{occurrences}
 use Rattle.group_stage.specs.Conditions.{CanDraw}
 use Rattle.group_stage.specs.Counts.{bit, flag, total}
-use Rattle.group_stage.specs.Kept.{Fits, Kept}
+use Rattle.group_stage.specs.Kept.{FitsStage, KeepsPlan}
 use Rattle.group_stage.specs.Places.{drawing_of, word_in, word_of}
 use Rattle.group_stage.specs.Steps.{Draws, Sat}
-use Rattle.group_stage.specs.Views.{asks_by, cleared_of, drawn, holding, met_of, numbered}
+use Rattle.group_stage.specs.Views.{asks_by, cleared_of, holding, met_of, numbered, times_numbered}
 use Rattle.group_stage.specs.declared.view.Plan.{Plan}
 use Rattle.group_stage.specs.declared.view.View.{View}
 use Rattle.group_stage.proofs.Sums.{bit-more, terms_le, total-set, total_le}
 use Rattle.group_stage.proofs.Moves.{St, next_in, stage}
 use Rattle.group_stage.proofs.Taking.{Goes}
 
-next_bound : (plan : Plan) (st : St) → Kept plan st → next_in plan st.words ≤ 256
+next_bound : (plan : Plan) (st : St) → KeepsPlan plan st → next_in plan st.words ≤ 256
 next_bound plan st o =
     let low = total_le (λ (u : View). length u.numbers) (λ (u : View). u.parts) st.views (λ j u e. (o.each j u e).numbers) in
     omega (arith, low, o.parts, o.seats, o.drawing)
 
-module _ (plan : Plan) (st : St) (o : Kept plan st) (id : ℕ) (v : View) (me : get_elem? st.views id ≡ some v)
+module _ (plan : Plan) (st : St) (o : KeepsPlan plan st) (id : ℕ) (v : View) (me : get_elem? st.views id ≡ some v)
     (can : CanDraw v) (n m : ℕ) (found : n ≡ next_in plan st.words) (next : m ≡ n + 1) where
   abbrev w : View
   w = numbered v n
@@ -42,7 +42,7 @@ module _ (plan : Plan) (st : St) (o : Kept plan st) (id : ℕ) (v : View) (me : 
   none-before : length v.numbers ≡ 0
   none-before = ap length can.numbers
 
-  mine : Fits plan.shape o.schedule (n + 1) w
+  mine : FitsStage plan.shape o.schedule (n + 1) w
   mine =
       let fits = o.each id v me in
       record {
@@ -56,11 +56,11 @@ module _ (plan : Plan) (st : St) (o : Kept plan st) (id : ℕ) (v : View) (me : 
         numbers = let p = can.parts in omega (arith, p);
         no_parts = λ z. absurd (let p = can.parts in omega (arith, p, z));
         seen = fits.seen;
-        own = λ c no. fits.own c (ap (times c) can.numbers);
+        own = λ c no. fits.own c (ap (occurrences c) can.numbers);
         pen = λ have. refl;
       }
 
-  other : (j : ℕ) (u : View) → j ≢ id → get_elem? st.views j ≡ some u → Fits plan.shape o.schedule (n + 1) u
+  other : (j : ℕ) (u : View) → j ≢ id → get_elem? st.views j ≡ some u → FitsStage plan.shape o.schedule (n + 1) u
   other j u apart at_j =
       let fits = o.each j u at_j in
       record {
@@ -79,7 +79,7 @@ module _ (plan : Plan) (st : St) (o : Kept plan st) (id : ℕ) (v : View) (me : 
             let p = can.pen in omega (arith, two, o.pens, p, have));
       }
 
-  pub draw-kept : Kept plan (stage (set st.words (drawing_of plan.shape) m) st.homes (set st.views id w))
+  pub draw-kept : KeepsPlan plan (stage (set st.words (drawing_of plan.shape) m) st.homes (set st.views id w))
   draw-kept = record {
     schedule = o.schedule;
     run = o.run;
@@ -90,15 +90,15 @@ module _ (plan : Plan) (st : St) (o : Kept plan st) (id : ℕ) (v : View) (me : 
     pens = omega (arith, total-set (λ (u : View). u.pens) st.views id v w me, o.pens);
     history = word-stays (processes_of plan.shape) (λ x. omega (arith, x)) ∙ o.history;
     many = omega (arith, total-set (λ (u : View). length u.made) st.views id v w me, o.many);
-    once = λ k. omega (arith, total-set (λ (u : View). drawn k u.made) st.views id v w me, o.once k);
+    once = λ k. omega (arith, total-set (λ (u : View). times_numbered k u.made) st.views id v w me, o.once k);
     drawing = omega (arith, total-set (λ (u : View). length u.numbers) st.views id v w me, o.drawing, next-is, none-before, found);
     owners = λ c.
-        let before : times c v.numbers ≡ 0 = ap (times c) can.numbers in
+        let before : occurrences c v.numbers ≡ 0 = ap (occurrences c) can.numbers in
         let here : bit (std.nat_lt c (next_in plan st.words)) ≡ bit (std.nat_lt c n) = ap (λ (x : ℕ). bit (std.nat_lt c x)) (sym found) in
-        let all : total (λ (u : View). times c u.numbers) (set st.views id w) ≡ bit (std.nat_lt c (suc n)) =
+        let all : total (λ (u : View). occurrences c u.numbers) (set st.views id w) ≡ bit (std.nat_lt c (suc n)) =
         omega (
           arith,
-          total-set (λ (u : View). times c u.numbers) st.views id v w me,
+          total-set (λ (u : View). occurrences c u.numbers) st.views id v w me,
           o.owners c,
           before,
           bit-more c n,
@@ -112,12 +112,12 @@ module _ (plan : Plan) (st : St) (o : Kept plan st) (id : ℕ) (v : View) (me : 
     counts = λ q low. let word = word-stays q (λ x. omega (arith, x, low)) in let same = ap flag word in
         omega (arith, total-set (met_of q) st.views id v w me, total-set (cleared_of q) st.views id v w me, o.counts q low, word, same);
     home = λ q low zero_now. o.home q low (sym (word-stays q (λ x. omega (arith, x, low))) ∙ zero_now);
-    each = λ j u at_j. subst (λ (x : ℕ). Fits plan.shape o.schedule x u) (sym next-is)
-        (⊎_elim (λ t. subst (Fits plan.shape o.schedule (n + 1)) t.1 mine) (λ t. other j u t.0 t.1) (at_set st.views id j w u at_j));
+    each = λ j u at_j. subst (λ (x : ℕ). FitsStage plan.shape o.schedule x u) (sym next-is)
+        (⊎_elim (λ t. subst (FitsStage plan.shape o.schedule (n + 1)) t.1 mine) (λ t. other j u t.0 t.1) (at_set st.views id j w u at_j));
   }
 
 pub draws : (plan : Plan) (slots id : ℕ) (m : Sat) (i : ℕ) → i ≡ drawing_of plan.shape → CanDraw m.0
-    → Allows (Kept plan) slots id m i (λ n. (n + 1) % 18446744073709551616) (Draws (step slots i 1 0 none) m)
+    → Allows (KeepsPlan plan) slots id m i (λ n. (n + 1) % 18446744073709551616) (Draws (step slots i 1 0 none) m)
 draws plan slots id m i here can st o wide me low =
     let v : View = m.0 in
     let bound = next_bound plan st o in

@@ -19,11 +19,11 @@ use Rattle.group_stage.specs.Closed.{HasClosed}
 use Rattle.group_types.specs.Each.{Each}
 use Rattle.group_stage.specs.Counts.{total}
 use Rattle.group_stage.specs.Emptied.{AreTaken}
-use Rattle.group_stage.specs.Kept.{IsAnswered, IsWhole, Kept}
+use Rattle.group_stage.specs.Kept.{IsAnswered, IsWholeSchedule, KeepsPlan}
 use Rattle.group_stage.specs.Places.{slot_of}
 use Rattle.group_stage.specs.Schedules.{standing_at}
-use Rattle.group_stage.specs.Seated.{AreOf, IsOf, view_of}
-use Rattle.group_stage.specs.Views.{drawn, joined}
+use Rattle.group_stage.specs.Seated.{AreSeatsOf, IsOf, view_of}
+use Rattle.group_stage.specs.Views.{joined_views, times_numbered}
 use Rattle.group_stage.specs.declared.seat.Seat.{Seat}
 use Rattle.group_stage.specs.declared.stage.Stage.{Stage}
 use Rattle.group_stage.specs.declared.view.Plan.{Plan}
@@ -44,42 +44,44 @@ views-snoc [] x = refl
 views-snoc (y ∷ ys) x = ap (λ (rest : List View). view_of y ∷ rest) (views-snoc ys x)
 
 -- all seats but the last, and the last
-pub front-of : (stage : Stage) (all xs : List Seat) (x : Seat) → all ≡ xs ++ x ∷ [] → AreOf stage all → AreOf stage xs × IsOf stage x
-front-of stage all xs x is of_stage = let both = each-split (IsOf stage) xs (x ∷ []) (subst (AreOf stage) is of_stage) in (both.0, both.1.0)
+pub front-of : (stage : Stage) (all xs : List Seat) (x : Seat) → all ≡ xs ++ x ∷ [] → AreSeatsOf stage all → AreSeatsOf stage xs × IsOf stage x
+front-of stage all xs x is of_stage = let both = each-split (IsOf stage) xs (x ∷ []) (subst (AreSeatsOf stage) is of_stage) in (both.0, both.1.0)
 
 -- a view that is told first, told last
 turned : (f : View → ℕ) (v : View) (xs : List View) → total f (xs ++ v ∷ []) ≡ total f (v ∷ xs)
 turned f v xs = let more = total-append f xs (v ∷ []) in omega (arith, more)
 
-whole-turned : (s : Dimensions) (es : List Event) (v : View) (xs : List View) → IsWhole s es (v ∷ xs) → IsWhole s es (xs ++ v ∷ [])
+whole-turned : (s : Dimensions) (es : List Event) (v : View) (xs : List View) → IsWholeSchedule s es (v ∷ xs) → IsWholeSchedule s es (xs ++ v ∷ [])
 whole-turned s es v xs all = record {
   many = turned (λ (u : View). length u.made) v xs ∙ all.many;
-  once = λ k. turned (λ (u : View). drawn k u.made) v xs ∙ all.once k;
+  once = λ k. turned (λ (u : View). times_numbered k u.made) v xs ∙ all.once k;
   answers = each-snoc (λ (u : View). Each (IsAnswered s es) u.made) xs v all.answers.1 all.answers.0;
 }
 
-apart : (f : View → ℕ) (v w : View) (xs : List View) → f (joined v w) ≡ f v + f w → total f (v ∷ (xs ++ w ∷ [])) ≡ total f (joined v w ∷ xs)
+apart : (f : View → ℕ) (v w : View) (xs : List View) → f (joined_views v w) ≡ f v + f w → total f (v ∷ (xs ++ w ∷ [])) ≡ total f (joined_views v w ∷ xs)
 apart f v w xs same = let more = total-append f xs (w ∷ []) in omega (arith, more, same)
 
-whole-apart : (s : Dimensions) (es : List Event) (v w : View) (xs : List View) → IsWhole s es (joined v w ∷ xs) → IsWhole s es (v ∷ (xs ++ w ∷ []))
+whole-apart : (s : Dimensions) (es : List Event) (v w : View) (xs : List View) → IsWholeSchedule s es (joined_views v w ∷ xs)
+    → IsWholeSchedule s es (v ∷ (xs ++ w ∷ []))
 whole-apart s es v w xs all =
     let both = each-split (IsAnswered s es) v.made w.made all.answers.0 in
     record {
       many = apart (λ (u : View). length u.made) v w xs (length-append v.made w.made) ∙ all.many;
-      once = λ k. apart (λ (u : View). drawn k u.made) v w xs (drawn-append k v.made w.made) ∙ all.once k;
+      once = λ k. apart (λ (u : View). times_numbered k u.made) v w xs (drawn-append k v.made w.made) ∙ all.once k;
       answers = (both.0, each-snoc (λ (u : View). Each (IsAnswered s es) u.made) xs w all.answers.1 both.1);
     }
 
 pub first-whole : (s : Dimensions) (all xs : List Seat) (x : Seat) → all ≡ xs ++ x ∷ [] → (es : List Event)
-    → IsWhole s es (view_of x ∷ map view_of xs) → IsWhole s es (map view_of all)
-first-whole s all xs x is es whole = subst (IsWhole s es) (sym (ap (map view_of) is ∙ views-snoc xs x)) (whole-turned s es (view_of x) (map view_of xs) whole)
+    → IsWholeSchedule s es (view_of x ∷ map view_of xs) → IsWholeSchedule s es (map view_of all)
+first-whole s all xs x is es whole =
+    subst (IsWholeSchedule s es) (sym (ap (map view_of) is ∙ views-snoc xs x)) (whole-turned s es (view_of x) (map view_of xs) whole)
 
 pub next-whole : (s : Dimensions) (v w : View) (all xs : List Seat) (x : Seat) → all ≡ xs ++ x ∷ []
-    → w ≡ joined v (view_of x) → (es : List Event) → IsWhole s es (w ∷ map view_of xs)
-    → IsWhole s es (v ∷ map view_of all)
+    → w ≡ joined_views v (view_of x) → (es : List Event) → IsWholeSchedule s es (w ∷ map view_of xs)
+    → IsWholeSchedule s es (v ∷ map view_of all)
 next-whole s v w all xs x is joins es whole =
-    subst (λ (us : List View). IsWhole s es (v ∷ us)) (sym (ap (map view_of) is ∙ views-snoc xs x))
-    (whole-apart s es v (view_of x) (map view_of xs) (subst (λ (u : View). IsWhole s es (u ∷ map view_of xs)) joins whole))
+    subst (λ (us : List View). IsWholeSchedule s es (v ∷ us)) (sym (ap (map view_of) is ∙ views-snoc xs x))
+    (whole-apart s es v (view_of x) (map view_of xs) (subst (λ (u : View). IsWholeSchedule s es (u ∷ map view_of xs)) joins whole))
 
 -- a slot that has a node isn't empty
 pub not-none : (xs ys : List (std.Option NodeStanding)) (slot p : ℕ) → xs ≡ ys → slot ≡ slot_of p
@@ -146,7 +148,7 @@ shapes-match s (x ∷ xs) f is zero d low =
 shapes-match s (x ∷ xs) f is (suc k) d low = shapes-match s xs (λ p. f (suc p)) (λ p below. is (suc p) (omega (arith, below))) k d (omega (arith, low))
 
 -- what came out are the nodes of the schedule of all seats
-module _ (plan : Plan) (st : St) (o : Kept plan st) (id : ℕ) (v : View) (me : get_elem? st.views id ≡ some v)
+module _ (plan : Plan) (st : St) (o : KeepsPlan plan st) (id : ℕ) (v : View) (me : get_elem? st.views id ≡ some v)
     (all : v.parts ≡ plan.callers) (idle : v.held ≡ []) (xs : List (std.Option NodeStanding))
     (homes : (k : ℕ) (y : std.Option NodeStanding) → get_elem? st.homes k ≡ some (some y) → get_elem? xs k ≡ some y) where
   pub there : (p : ℕ) → p < processes_of plan.shape → get_elem? xs (slot_of p) ≡ some (std.Some (standing_at plan.shape o.schedule p))
@@ -154,7 +156,7 @@ module _ (plan : Plan) (st : St) (o : Kept plan st) (id : ℕ) (v : View) (me : 
 
   pub has-closed : (seats : List Seat) (nodes : List NodeStanding) → length nodes ≡ processes_of plan.shape
       → ((p : ℕ) (y : NodeStanding) → p < processes_of plan.shape → get_elem? xs (slot_of p) ≡ some (std.Some y) → slice_get nodes p ≡ std.Some y)
-      → ((es : List Event) → IsWhole plan.shape es (v ∷ []) → IsWhole plan.shape es (map view_of seats)) → HasClosed plan.shape seats nodes
+      → ((es : List Event) → IsWholeSchedule plan.shape es (v ∷ []) → IsWholeSchedule plan.shape es (map view_of seats)) → HasClosed plan.shape seats nodes
   has-closed seats nodes many out gathered =
       let s = plan.shape in
       let es = o.schedule in
@@ -169,11 +171,11 @@ module _ (plan : Plan) (st : St) (o : Kept plan st) (id : ℕ) (v : View) (me : 
       }
 
 -- one seat of the stage more
-pub of-stage-more : (stage : Stage) (xs all : List Seat) (x : Seat) → all ≡ xs ++ x ∷ [] → AreOf stage xs → IsOf stage x → AreOf stage all
-of-stage-more stage xs all x is of_stage last = subst (AreOf stage) (sym is) (each-snoc (IsOf stage) xs x of_stage last)
+pub of-stage-more : (stage : Stage) (xs all : List Seat) (x : Seat) → all ≡ xs ++ x ∷ [] → AreSeatsOf stage xs → IsOf stage x → AreSeatsOf stage all
+of-stage-more stage xs all x is of_stage last = subst (AreSeatsOf stage) (sym is) (each-snoc (IsOf stage) xs x of_stage last)
 
 -- and one fewer
 pub of-stage-fewer : (stage : Stage) (all xs : List Seat) (r : std.Option Seat) → all ≡ xs ++ option_to_list r
-    → AreOf stage all → AreOf stage xs × std.IfSome r (IsOf stage)
-of-stage-fewer stage all xs std.None is of_stage = ((each-split (IsOf stage) xs [] (subst (AreOf stage) is of_stage)).0, tt)
+    → AreSeatsOf stage all → AreSeatsOf stage xs × std.IfSome r (IsOf stage)
+of-stage-fewer stage all xs std.None is of_stage = ((each-split (IsOf stage) xs [] (subst (AreSeatsOf stage) is of_stage)).0, tt)
 of-stage-fewer stage all xs (std.Some x) is of_stage = front-of stage all xs x is of_stage

@@ -12,32 +12,32 @@ use Rattle.group_node.specs.Standing.{NodeStanding}
 use Rattle.group_stage.specs.Conditions.{HasLast, InHand, Took}
 use Rattle.group_stage.specs.Ended.{WasUp}
 use Rattle.group_stage.specs.Kept.{IsAnswered}
-use Rattle.group_stage.specs.Places.{place_of, slot_of, word_of}
+use Rattle.group_stage.specs.Places.{slot_of, word_of, word_process}
 use Rattle.group_stage.specs.Schedules.{StartsWith, standing_at}
-use Rattle.group_stage.specs.Steps.{IsTaken, Knows, Sat, Takes}
-use Rattle.group_stage.specs.Views.{begun, released, with_held, with_met}
+use Rattle.group_stage.specs.Steps.{IsNodeTaken, Knows, Sat, TakesWord}
+use Rattle.group_stage.specs.Views.{begun, released, with_met, with_node_held}
 use Rattle.group_stage.specs.declared.view.Plan.{Plan}
 use Rattle.group_stage.specs.declared.view.View.{View}
 use Rattle.group_stage.proofs.Taking.{place-is}
 
 pub free-taken : (v : View) (p : ℕ) (slots : List (ℕ × Option NodeStanding)) (found : ℕ) (w : Sat)
-    → Takes v p slots found w → found ≤ 0 → (es : List Event) × IsTaken v p slots w es
+    → TakesWord v p slots found w → found ≤ 0 → (es : List Event) × IsNodeTaken v p slots w es
 free-taken v p slots zero w takes low = takes
 free-taken v p slots (suc n) w takes low = absurd (omega (arith, low))
 
 pub met-taken : (v : View) (p : ℕ) (slots : List (ℕ × Option NodeStanding)) (found : ℕ) (w : Sat)
-    → Takes v p slots found w → 0 < found → w ≡ (with_met v p, slots)
+    → TakesWord v p slots found w → 0 < found → w ≡ (with_met v p, slots)
 met-taken v p slots zero w takes low = absurd (omega (arith, low))
 met-taken v p slots (suc n) w takes low = takes
 
 -- the word is the process's
 pub at-place : (v : View) (p i : ℕ) (slots : List (ℕ × Option NodeStanding)) (found : ℕ) (w : Sat) → i ≡ word_of p
-    → Takes v (place_of i) slots found w → Takes v p slots found w
-at-place v p i slots found w here takes = subst (λ (q : ℕ). Takes v q slots found w) (ap place_of here ∙ place-is p) takes
+    → TakesWord v (word_process i) slots found w → TakesWord v p slots found w
+at-place v p i slots found w here takes = subst (λ (q : ℕ). TakesWord v q slots found w) (ap word_process here ∙ place-is p) takes
 
 -- what the slot had is in hand
 pub in-hand : (v : View) (p : ℕ) (slots : List (ℕ × Option NodeStanding)) (m : Sat) → (es : List Event)
-    × IsTaken v p slots m es → (slot : ℕ) → slot ≡ slot_of p → (r : Option NodeStanding) (w : Sat)
+    × IsNodeTaken v p slots m es → (slot : ℕ) → slot ≡ slot_of p → (r : Option NodeStanding) (w : Sat)
     → m.1 ≡ (slot, r) ∷ rest m.1 → w ≡ (m.0, (slot, None) ∷ rest m.1) → Took v p slots r w
 in-hand v p slots m taken slot here r w had has =
     let es = taken.0 in
@@ -56,7 +56,7 @@ in-hand v p slots m taken slot here r w had has =
     )
 
 pub slot-there : (v : View) (p : ℕ) (slots : List (ℕ × Option NodeStanding)) (m : Sat) → (es : List Event)
-    × IsTaken v p slots m es → (slot : ℕ) → slot ≡ slot_of p
+    × IsNodeTaken v p slots m es → (slot : ℕ) → slot ≡ slot_of p
     → (old : Option NodeStanding) × (m.1 ≡ (slot, old) ∷ rest m.1)
 slot-there v p slots m taken slot here =
     let y : NodeStanding = standing_at v.shape taken.0 p in
@@ -71,9 +71,9 @@ given-back plan m w p y there slot last here is =
     subst F (sym is) (record { part = last.part; within = last.within; held = last.held; slot = λ i. (here i, Some y) ∷ rest m.1 })
 
 pub given : (m w x : Sat) (p i found : ℕ) (y : NodeStanding) (slot : ℕ) → w ≡ (m.0, (slot, Some y) ∷ rest m.1)
-    → i ≡ word_of p → x ≡ (released w.0 (place_of i) found, rest w.1) → x ≡ (released m.0 p found, rest m.1)
+    → i ≡ word_of p → x ≡ (released w.0 (word_process i) found, rest w.1) → x ≡ (released m.0 p found, rest m.1)
 given m w x p i found y slot is here has =
-    has ∙ ap (λ (q : ℕ). (released w.0 q found, rest w.1)) (ap place_of here ∙ place-is p) ∙ ap (λ (z : Sat). (released z.0 p found, rest z.1)) is
+    has ∙ ap (λ (q : ℕ). (released w.0 q found, rest w.1)) (ap word_process here ∙ place-is p) ∙ ap (λ (z : Sat). (released z.0 p found, rest z.1)) is
 
 -- no node was taken
 pub none-took : (v : View) (p : ℕ) (slots : List (ℕ × Option NodeStanding)) (r : Option NodeStanding) (w : Sat)
@@ -116,4 +116,4 @@ pub was-up : (v : View) (e : Event) (q : ProcessId) (p : ℕ) (slots : List (ℕ
     (m : Sat) → Holds v e q p slots y m → y.node.down ≡ false → y.node.dead ≡ false → WasUp v q
 was-up v e q p slots y m held up lives =
     let es = held.taken.0 in
-    up-at v (with_held (begun e v) p y) q p y es refl refl refl held.taken.1.knows held.here held.taken.1.node up lives
+    up-at v (with_node_held (begun e v) p y) q p y es refl refl refl held.taken.1.knows held.here held.taken.1.node up lives

@@ -9,7 +9,7 @@ use Rattle.group_types.specs.declared.process.ProcessId.{ProcessId}
 use Rattle.group_types.proofs.Names.{index-below, index-one}
 use Rattle.group_calls.specs.declared.event.Event.{Event}
 use Rattle.group_calls.specs.declared.event.Event.TheVariants.{Deliver}
-use Rattle.group_run.specs.Locality.{times}
+use Rattle.group_run.specs.Locality.{occurrences}
 use Rattle.group_run.specs.World.{names}
 use Rattle.group_node.specs.Standing.{NodeStanding}
 use Rattle.group_stage.specs.Conditions.{CanTake, InHand, IsIdle}
@@ -36,13 +36,13 @@ other-in : (s : Dimensions) (up : Bool) (from to : ProcessId) → IsProcess s fr
 other-in s true from to fin tin = tin
 other-in s false from to fin tin = fin
 
-named-other : (s : Dimensions) (up : Bool) (from to : ProcessId) (q : ℕ) → q ≡ index_of s (other_of up from to) → 0 < times q (names s (Deliver from to))
+named-other : (s : Dimensions) (up : Bool) (from to : ProcessId) (q : ℕ) → q ≡ index_of s (other_of up from to) → 0 < occurrences q (names s (Deliver from to))
 named-other s true from to q here =
-    let same = ap (λ (x : ℕ). times q (index_of s from ∷ x ∷ [])) here in
+    let same = ap (λ (x : ℕ). occurrences q (index_of s from ∷ x ∷ [])) here in
     let one = times-here q [] in
     omega (arith, same, one)
 named-other s false from to q here =
-    let same = ap (λ (x : ℕ). times q (x ∷ index_of s to ∷ [])) here in
+    let same = ap (λ (x : ℕ). occurrences q (x ∷ index_of s to ∷ [])) here in
     let one = times-here q (index_of s to ∷ []) in
     omega (arith, same, one)
 
@@ -90,7 +90,7 @@ module _ (plan : Plan) (v : View) (f : Event) (up : Bool) (from to one other : P
     due = refl;
     within = let below = index-below plan.shape (other_of up from to) (other-in plan.shape up from to from_in to_in) in
         let second = there in omega (arith, below, second);
-    named = subst (λ (e : Event). 0 < times q (names plan.shape e)) (sym event) (named-other plan.shape up from to q there);
+    named = subst (λ (e : Event). 0 < occurrences q (names plan.shape e)) (sym event) (named-other plan.shape up from to q there);
     order = (ahead, subst (Each (λ (h : ℕ × NodeStanding). h.0 < q)) (sym ready.idle) tt);
   })
 

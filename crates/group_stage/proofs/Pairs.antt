@@ -12,9 +12,9 @@ use Rattle.group_calls.specs.declared.event.Answer.{Answer}
 use Rattle.group_calls.specs.declared.event.Event.{Event}
 use Rattle.group_calls.specs.declared.event.Event.TheVariants.{Deliver}
 use Rattle.group_run.specs.Headline.{IsRun, MayCome}
-use Rattle.group_run.specs.Locality.{times}
+use Rattle.group_run.specs.Locality.{occurrences}
 use Rattle.group_run.specs.Process.{Node, Process}
-use Rattle.group_run.specs.World.{DeliveryStep, GroupStep, World, after, deliver_nodes, group_step, names, node_of, opening, opening_node, two_change}
+use Rattle.group_run.specs.World.{DeliveryStep, GroupStep, World, after, deliver_nodes, group_step, names, opening, opening_node, process_node, two_change}
 use Rattle.group_node.specs.Delivering.{Comes}
 use Rattle.group_node.specs.Standing.{NodeStanding}
 use Rattle.group_node.specs.Steps.{made}
@@ -30,7 +30,7 @@ use Rattle.group_stage.specs.Pairing.{CanDeliver, one_of, other_of}
 use Rattle.group_stage.specs.Places.{slot_of}
 use Rattle.group_stage.specs.Schedules.{answer_at, ask_by, standing_at}
 use Rattle.group_stage.specs.Steps.{Knows, Sat}
-use Rattle.group_stage.specs.Views.{asks_by, begun, committed, released, with_held, with_met}
+use Rattle.group_stage.specs.Views.{asks_by, begun, committed, released, with_met, with_node_held}
 use Rattle.group_stage.specs.declared.answer.StageAnswer.TheVariants.{Busy, Made}
 use Rattle.group_stage.specs.declared.view.Plan.{Plan}
 use Rattle.group_stage.specs.declared.view.View.{View}
@@ -42,13 +42,13 @@ use Rattle.group_stage.proofs.Runs.{run-more}
 
 -- an event of two processes, which the caller of this view may make
 pub record IsTwo (s : Dimensions) (v : View) (e : Event) (p q : ℕ) : Type 0 where
-  pub named : (x : ℕ) → times x (names s e) ≡ times x (q ∷ p ∷ [])
-  pub own : (c : ℕ) → times c v.numbers ≡ 0 → ask_by c e ≡ 0
-  pub may : (w : World) → w.shape ≡ s → ((c : ℕ) → 0 < times c v.numbers → at 0 w.asked c ≡ asks_by c v.made) → MayCome w e
+  pub named : (x : ℕ) → occurrences x (names s e) ≡ occurrences x (q ∷ p ∷ [])
+  pub own : (c : ℕ) → occurrences c v.numbers ≡ 0 → ask_by c e ≡ 0
+  pub may : (w : World) → w.shape ≡ s → ((c : ℕ) → 0 < occurrences c v.numbers → at 0 w.asked c ≡ asks_by c v.made) → MayCome w e
 
 -- the view with both nodes in hand
 abbrev pub two_held : View → Event → ℕ → NodeStanding → ℕ → NodeStanding → View
-two_held v e p y q z = with_held (with_held (begun e v) p y) q z
+two_held v e p y q z = with_node_held (with_node_held (begun e v) p y) q z
 
 -- the nodes treat it as the machine does, with the machine's answer
 abbrev pub TreatsTwo : View → Event → ℕ → NodeStanding → ℕ → NodeStanding → NodeStanding → NodeStanding → Answer → Type 0
@@ -118,10 +118,10 @@ module _ (s : Dimensions) (es : List Event) (run : IsRun s es) (from to : Proces
   tin' : IsProcess (after s es).shape to
   tin' = subst (λ (t : Dimensions). IsProcess t to) (sym shape) tin
 
-  sender-node : sender.node ≡ node_of (after s es) from
+  sender-node : sender.node ≡ process_node (after s es) from
   sender-node = ap (λ (z : NodeStanding). z.node) sent ∙ node-is s es from fin
 
-  receiver-node : receiver.node ≡ node_of (after s es) to
+  receiver-node : receiver.node ≡ process_node (after s es) to
   receiver-node = ap (λ (z : NodeStanding). z.node) received ∙ node-is s es to tin
 
   sender-name : sender.node.process.name ≡ from
@@ -141,15 +141,15 @@ module _ (s : Dimensions) (es : List Event) (run : IsRun s es) (from to : Proces
       → Comes receiver.shape sender.node.process.name m receiver.node.process
   comes up lives m rest first =
       let named = core_runs.named (after s es) has to tin' in
-      let link : at [] (node_of (after s es) from).links (index_of (after s es).shape to) ≡ m ∷ rest
+      let link : at [] (process_node (after s es) from).links (index_of (after s es).shape to) ≡ m ∷ rest
       = (λ i. at [] ((sym sender-node) i).links (index_of ((sym receiver-shape) i) ((sym receiver-name) i))) ∙ first in
       let all = first-comes (after s es) has from to m rest fin' tin' apart named
       (ap (λ (n : Node). n.down) (sym receiver-node) ∙ up) (ap (λ (n : Node). n.dead) (sym receiver-node) ∙ lives)
       link in
-      let at_shape : Comes receiver.shape from m (node_of (after s es) to).process =
-      subst (λ (t : Dimensions). Comes t from m (node_of (after s es) to).process) (sym receiver-shape) all in
-      let by_name : Comes receiver.shape sender.node.process.name m (node_of (after s es) to).process =
-      subst (λ (x : ProcessId). Comes receiver.shape x m (node_of (after s es) to).process) (sym sender-name)
+      let at_shape : Comes receiver.shape from m (process_node (after s es) to).process =
+      subst (λ (t : Dimensions). Comes t from m (process_node (after s es) to).process) (sym receiver-shape) all in
+      let by_name : Comes receiver.shape sender.node.process.name m (process_node (after s es) to).process =
+      subst (λ (x : ProcessId). Comes receiver.shape x m (process_node (after s es) to).process) (sym sender-name)
       at_shape in
       subst (λ (x : Process). Comes receiver.shape sender.node.process.name m x) (sym (ap (λ (n : Node). n.process) receiver-node)) by_name
 
@@ -189,9 +189,10 @@ pub can-finish-two : (plan : Plan) (v : View) (e : Event) (p q : ℕ) (y z first
 can-finish-two plan v e p q y z first second a m m' slots ready shape low high two took taken treats =
     let ones : IsTwo plan.shape v e p q = subst (λ (s : Dimensions). IsTwo s v e p q) shape two in
     let u : View = two_held v e p y q z in
-    let before : m ≡ (with_held (begun e v) p y, (slot_of p, None) ∷ []) = took.1.seat
-    ∙ (λ i. (with_held (begun e v) p y, (slot_of p, None) ∷ ready.slots i)) in
-    let seat : m' ≡ (u, (slot_of q, None) ∷ (slot_of p, None) ∷ []) = taken.1.seat ∙ ap (λ (x : Sat). (with_held x.0 q z, (slot_of q, None) ∷ x.1)) before in
+    let before : m ≡ (with_node_held (begun e v) p y, (slot_of p, None) ∷ []) = took.1.seat
+    ∙ (λ i. (with_node_held (begun e v) p y, (slot_of p, None) ∷ ready.slots i)) in
+    let seat : m' ≡ (u, (slot_of q, None) ∷ (slot_of p, None) ∷ []) =
+    taken.1.seat ∙ ap (λ (x : Sat). (with_node_held x.0 q z, (slot_of q, None) ∷ x.1)) before in
     subst (λ (x : Sat). CanFinishTwo plan x p q first second) (sym seat) (record {
       old = y;
       next = z;
@@ -202,8 +203,8 @@ can-finish-two plan v e p q y z first second a m m' slots ready shape low high t
         due = refl;
         holds = λ x below named.
             let none_else : map (λ (h : ℕ × NodeStanding). h.0) v.held ≡ [] = ap (map (λ (h : ℕ × NodeStanding). h.0)) ready.idle in
-            let all : times x (q ∷ p ∷ map (λ (h : ℕ × NodeStanding). h.0) v.held) ≡ times x (q ∷ p ∷ []) =
-            ap (λ (l : List ℕ). times x (q ∷ p ∷ l)) none_else in
+            let all : occurrences x (q ∷ p ∷ map (λ (h : ℕ × NodeStanding). h.0) v.held) ≡ occurrences x (q ∷ p ∷ []) =
+            ap (λ (l : List ℕ). occurrences x (q ∷ p ∷ l)) none_else in
             let same = ones.named x in
             omega (arith, named, same, all);
         own = ones.own;
@@ -223,7 +224,7 @@ pub made-ended-two : (v : View) (e : Event) (p q : ℕ) (y z first second : Node
 made-ended-two v e p q y z first second a m m' w slots ready two took taken treats fin =
     let es = fin.0 in
     let u : View = two_held v e p y q z in
-    let view : m'.0 ≡ u = ap (λ (x : Sat). x.0) taken.1.seat ∙ ap (λ (x : Sat). with_held x.0 q z) took.1.seat in
+    let view : m'.0 ≡ u = ap (λ (x : Sat). x.0) taken.1.seat ∙ ap (λ (x : Sat). with_node_held x.0 q z) took.1.seat in
     let knows : Knows es u = subst (Knows es) view fin.1 in
     let f : ℕ = fin.2.0 in
     let g : ℕ = fin.2.1 in
@@ -267,13 +268,13 @@ pub is-two : (up : Bool) (v : View) (from to : ProcessId) (p q : ℕ) → IsProc
     → from ≢ to → p ≡ index_of v.shape (one_of up from to) → q ≡ index_of v.shape (other_of up from to)
     → IsTwo v.shape v (Deliver from to) p q
 is-two true v from to p q fin tin apart a b = record {
-  named = λ x. let same : times x (index_of v.shape from ∷ index_of v.shape to ∷ []) ≡ times x (p ∷ q ∷ []) =
-      λ i. times x ((sym a) i ∷ (sym b) i ∷ []) in omega (arith, same);
+  named = λ x. let same : occurrences x (index_of v.shape from ∷ index_of v.shape to ∷ []) ≡ occurrences x (p ∷ q ∷ []) =
+      λ i. occurrences x ((sym a) i ∷ (sym b) i ∷ []) in omega (arith, same);
   own = λ c no. refl;
   may = λ w shape known. deliver-may v.shape from to fin tin apart w shape;
 }
 is-two false v from to p q fin tin apart a b = record {
-  named = λ x. (λ i. times x ((sym b) i ∷ (sym a) i ∷ []));
+  named = λ x. (λ i. occurrences x ((sym b) i ∷ (sym a) i ∷ []));
   own = λ c no. refl;
   may = λ w shape known. deliver-may v.shape from to fin tin apart w shape;
 }
@@ -317,13 +318,13 @@ pub busy-second : (v : View) (e : Event) (p q : ℕ) (r : ProcessId) (y : NodeSt
     → (fs : List Event) × InHand (begun e v) p slots y m fs → m' ≡ (with_met m.0 q, m.1) → (found : ℕ) × (w.0 ≡ released m'.0 p found) → Ended e v (Busy r) w.0
 busy-second v e p q r y m m' w slots ready two here apart took met back =
     let found : ℕ = back.0 in
-    let after_all : w.0 ≡ released (with_met (with_held (begun e v) p y) q) p found =
+    let after_all : w.0 ≡ released (with_met (with_node_held (begun e v) p y) q) p found =
     back.1 ∙ ap (λ (x : Sat). released x.0 p found) met ∙ ap (λ (x : Sat). released (with_met x.0 q) p found) took.1.seat in
     subst (λ (x : View). Ended e v (Busy r) x) (sym after_all) (
       record { shape = refl; parts = refl; numbers = refl; calls = refl; idle = ready.idle },
       record {
         named = let one = two.named (index_of v.shape r) in let same =
-            ap (λ (x : ℕ). times (index_of v.shape r) (x ∷ p ∷ [])) here in let more =
+            ap (λ (x : ℕ). occurrences (index_of v.shape r) (x ∷ p ∷ [])) here in let more =
             times-here (index_of v.shape r) (p ∷ []) in omega (arith, one, same, more);
         met = ap (λ (x : ℕ). v.met ++ x ∷ []) here;
         cleared = let more = tally-append (index_of v.shape r) v.cleared ((p, found - 1) ∷ []) in let none_here =
@@ -367,7 +368,7 @@ module _ (plan : Plan) (v : View) (f : Event) (up : Bool) (from to one other : P
 
   module _ (z : NodeStanding) (m' : Sat) (taken : (es : List Event) × InHand m.0 q m.1 z m' es) where
     knows-two : Knows taken.0 (two_held v (Deliver from to) p y q z)
-    knows-two = subst (λ (x : Sat). Knows taken.0 (with_held x.0 q z)) first_in.1.seat taken.1.knows
+    knows-two = subst (λ (x : Sat). Knows taken.0 (with_node_held x.0 q z)) first_in.1.seat taken.1.knows
 
     first-stands : y ≡ standing_at v.shape taken.0 (index_of v.shape (one_of up from to))
     first-stands = knows-two.held.1.0 ∙ ap (standing_at v.shape taken.0) here

@@ -8,12 +8,12 @@ use lib.ListN.{get_elem?}
 use Rattle.atomic_table.specs.Table.{Allows, gives, put_back, rest, step}
 use Rattle.atomic_table.proofs.Lists.{set_else, set_here}
 use Rattle.group_types.specs.Dimensions.{processes_of}
-use Rattle.group_run.specs.Locality.{times}
+use Rattle.group_run.specs.Locality.{occurrences}
 use Rattle.group_node.specs.Standing.{NodeStanding}
 use Rattle.group_stage.specs.Conditions.{HasLast}
 use Rattle.group_types.specs.Each.{Each}
 use Rattle.group_stage.specs.Counts.{flag}
-use Rattle.group_stage.specs.Kept.{Kept}
+use Rattle.group_stage.specs.Kept.{KeepsPlan}
 use Rattle.group_stage.specs.Places.{slot_of, word_in, word_of}
 use Rattle.group_stage.specs.Schedules.{standing_at}
 use Rattle.group_stage.specs.Steps.{Releases, Sat}
@@ -46,14 +46,14 @@ flag-one : (n : ℕ) → 0 < n → flag n ≡ 1
 flag-one zero low = absurd (omega (arith, low))
 flag-one (suc n) low = refl
 
-module _ (plan : Plan) (st : St) (o : Kept plan st) (id : ℕ) (v : View) (me : get_elem? st.views id ≡ some v) (p : ℕ)
+module _ (plan : Plan) (st : St) (o : KeepsPlan plan st) (id : ℕ) (v : View) (me : get_elem? st.views id ≡ some v) (p : ℕ)
     (y : NodeStanding) (part : v.parts ≡ 1) (within : p < processes_of plan.shape)
     (last : v.held ≡ (p, y) ∷ held_rest v.held) where
   others : List ℕ
   others = map (λ h. h.0) (held_rest v.held)
 
-  holding-is : (q : ℕ) → holding q v ≡ times q (p ∷ map (λ h. h.0) (held_rest v.held))
-  holding-is q = ap (λ (hs : List (ℕ × NodeStanding)). times q (map (λ h. h.0) hs)) last
+  holding-is : (q : ℕ) → holding q v ≡ occurrences q (p ∷ map (λ h. h.0) (held_rest v.held))
+  holding-is q = ap (λ (hs : List (ℕ × NodeStanding)). occurrences q (map (λ h. h.0) hs)) last
 
   above : 0 < word_in st.words p
   above =
@@ -78,7 +78,7 @@ module _ (plan : Plan) (st : St) (o : Kept plan st) (id : ℕ) (v : View) (me : 
       (length-set st.words (word_of p) 0) (length-set st.homes (slot_of p) (some (std.Some y)))
       (history-else plan st.words o.wide p 0 within) (drawing-else plan st.words o.wide p 0 within)
       (λ q low. ⊎_elim
-      (λ (e : q ≡ p). subst (λ (x : ℕ). times x (map (λ h. h.0) (held_rest v.held)) + flag (word_in st.words x)
+      (λ (e : q ≡ p). subst (λ (x : ℕ). occurrences x (map (λ h. h.0) (held_rest v.held)) + flag (word_in st.words x)
       ≡ holding x v + flag (word_in (set st.words (word_of p) 0) x)) (sym e)
       (let a = times-here p (map (λ h. h.0) (held_rest v.held)) in let b = holding-is p in let c = ap flag here in omega (arith, a, b, c, up)))
       (λ (ne : q ≢ p). let a = times-else q p (map (λ h. h.0) (held_rest v.held)) (λ e. ne (sym e)) in
@@ -115,7 +115,7 @@ module _ (plan : Plan) (st : St) (o : Kept plan st) (id : ℕ) (v : View) (me : 
       })
 
 pub releases : (plan : Plan) (slots id : ℕ) (m : Sat) (p i : ℕ) (y : NodeStanding) → i ≡ word_of p
-    → HasLast plan m p y (std.Some y) → Allows (Kept plan) slots id m i (λ _. 0) (Releases (step slots i 0 0 none) m)
+    → HasLast plan m p y (std.Some y) → Allows (KeepsPlan plan) slots id m i (λ _. 0) (Releases (step slots i 0 0 none) m)
 releases plan slots id m p i y here last st o wide me low =
     let v : View = m.0 in
     let kept = released-kept plan st o id v me p y last.part last.within last.held in
@@ -124,6 +124,6 @@ releases plan slots id m p i y here last st o wide me low =
       released v p (word_in st.words p),
       gives,
       tt,
-      subst (λ (hs : Homes). Kept plan (stage (set st.words (word_of p) 0) hs (set st.views id (released v p (word_in st.words p))))) homes kept.0,
+      subst (λ (hs : Homes). KeepsPlan plan (stage (set st.words (word_of p) 0) hs (set st.views id (released v p (word_in st.words p))))) homes kept.0,
       ap (λ (q : ℕ). (released v q (word_in st.words p), rest m.1)) (sym (place-is p)),
     )

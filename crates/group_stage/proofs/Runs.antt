@@ -9,7 +9,7 @@ use Rattle.group_types.proofs.Lists.{at-put, at-put-other}
 use Rattle.group_calls.specs.declared.event.Event.{Event}
 use Rattle.group_calls.specs.declared.event.Event.TheVariants.{Ask, Collect, Deliver, Fail, Flush, Trace}
 use Rattle.group_run.specs.Headline.{IsRun, IsRunFrom, MayCome}
-use Rattle.group_run.specs.Locality.{times}
+use Rattle.group_run.specs.Locality.{occurrences}
 use Rattle.group_run.specs.Process.{Node}
 use Rattle.group_run.specs.World.{World, after, asked_after, call_of, names, opening, step, world_after}
 use Rattle.law_answers.proofs.Entries.{after-more}
@@ -34,7 +34,7 @@ events-after s es = let all = events-from (opening s) es in omega (arith, all)
 
 -- a node that the event doesn't name stands as it stood
 pub stands : (s : Dimensions) (es : List Event) (e : Event) (x : ℕ) → IsRun s es → x < s.k + s.m
-    → times x (names s e) ≡ 0 → standing_at s (es ++ e ∷ []) x ≡ standing_at s es x
+    → occurrences x (names s e) ≡ 0 → standing_at s (es ++ e ∷ []) x ≡ standing_at s es x
 stands s es e x run within none = ap (λ (n : Node). record { shape = s; node = n }) (stays s es e x run within none)
 
 abbrev one_if : Bool → ℕ

@@ -6,16 +6,16 @@ use Rattle.group_types.specs.Dimensions.{Dimensions}
 use Rattle.group_types.specs.Lists.{at}
 use Rattle.group_types.specs.Names.{process_at}
 use Rattle.group_calls.specs.declared.event.Event.{Event}
-use Rattle.group_run.specs.Locality.{times}
+use Rattle.group_run.specs.Locality.{occurrences}
 use Rattle.group_run.specs.Process.{Node}
 use Rattle.group_run.specs.World.{after, opening_node}
 use Rattle.group_node.specs.Standing.{NodeStanding}
-use Rattle.group_core.specs.Seats.{AreOf, nodes_of}
+use Rattle.group_core.specs.Seats.{AreNodesOf, nodes_of}
 use Rattle.group_types.specs.Each.{Each}
 use Rattle.group_stage.specs.Gathered.{hand_of, slots_left, stacked}
 use Rattle.group_stage.specs.Places.{slot_of}
 use Rattle.group_stage.specs.Schedules.{standing_at}
-use Rattle.group_stage.specs.Views.{held_at}
+use Rattle.group_stage.specs.Views.{nodes_held_at}
 use Rattle.group_stage.proofs.Sums.{times-here}
 
 -- one node more, behind the others
@@ -43,24 +43,25 @@ hand-before n ys many = stacked-before n 0 ys [] (omega (arith, many)) tt
 
 -- what is under the stack stays in it, and each process of the stack is in it
 under-stack : (q x : ℕ) (ys : List NodeStanding) (below : List (ℕ × NodeStanding))
-    → times q (map (λ (h : ℕ × NodeStanding). h.0) below)
-    ≤ times q (map (λ (h : ℕ × NodeStanding). h.0) (stacked x ys below))
+    → occurrences q (map (λ (h : ℕ × NodeStanding). h.0) below)
+    ≤ occurrences q (map (λ (h : ℕ × NodeStanding). h.0) (stacked x ys below))
 under-stack q x [] below = omega arith
 under-stack q x (y ∷ ys) below =
     let rest = under-stack q (suc x) ys ((x, y) ∷ below) in
-    let more : times q (map (λ (h : ℕ × NodeStanding). h.0) below) ≤ times q (x ∷ map (λ (h : ℕ × NodeStanding). h.0) below) = omega arith in
+    let more : occurrences q (map (λ (h : ℕ × NodeStanding). h.0) below) ≤ occurrences q (x ∷ map (λ (h : ℕ × NodeStanding). h.0) below) = omega arith in
     omega (arith, rest, more)
 
 pub in-stack : (q x : ℕ) (ys : List NodeStanding) (below : List (ℕ × NodeStanding)) → x ≤ q → q < x + length ys
-    → 0 < times q (map (λ (h : ℕ × NodeStanding). h.0) (stacked x ys below))
+    → 0 < occurrences q (map (λ (h : ℕ × NodeStanding). h.0) (stacked x ys below))
 in-stack q x [] below low high = absurd (omega (arith, low, high))
 in-stack q x (y ∷ ys) below low high = by (cases_eq q x) (in-stack q (suc x) ys ((x, y) ∷ below)) (under-stack q (suc x) ys ((x, y) ∷ below)) where
-  by : (q ≡ x) ⊎ (q ≢ x) → (suc x ≤ q → q < suc x + length ys → 0 < times q (map (λ (h : ℕ × NodeStanding). h.0) (stacked (suc x) ys ((x, y) ∷ below))))
-      → times q (x ∷ map (λ (h : ℕ × NodeStanding). h.0) below) ≤ times q (map (λ (h : ℕ × NodeStanding). h.0) (stacked (suc x) ys ((x, y) ∷ below)))
-      → 0 < times q (map (λ (h : ℕ × NodeStanding). h.0) (stacked (suc x) ys ((x, y) ∷ below)))
+  by : (q ≡ x) ⊎ (q ≢ x) → (suc x ≤ q → q < suc x + length ys → 0 < occurrences q (map (λ (h : ℕ × NodeStanding). h.0) (stacked (suc x) ys ((x, y) ∷ below))))
+      → occurrences q (x ∷ map (λ (h : ℕ × NodeStanding). h.0) below) ≤ occurrences q
+      (map (λ (h : ℕ × NodeStanding). h.0) (stacked (suc x) ys ((x, y) ∷ below)))
+      → 0 < occurrences q (map (λ (h : ℕ × NodeStanding). h.0) (stacked (suc x) ys ((x, y) ∷ below)))
   by (inl same) rest under =
-      let here : times q (x ∷ map (λ (h : ℕ × NodeStanding). h.0) below) ≡ 1 + times q (map (λ (h : ℕ × NodeStanding). h.0) below)
-      = ap (λ (n : ℕ). times q (n ∷ map (λ (h : ℕ × NodeStanding). h.0) below)) (sym same) ∙ times-here q (map (λ (h : ℕ × NodeStanding). h.0) below) in
+      let here : occurrences q (x ∷ map (λ (h : ℕ × NodeStanding). h.0) below) ≡ 1 + occurrences q (map (λ (h : ℕ × NodeStanding). h.0) below)
+      = ap (λ (n : ℕ). occurrences q (n ∷ map (λ (h : ℕ × NodeStanding). h.0) below)) (sym same) ∙ times-here q (map (λ (h : ℕ × NodeStanding). h.0) below) in
       omega (arith, here, under)
   by (inr other) rest under = rest (omega (arith, low, other)) (omega (arith, high))
 
@@ -79,8 +80,8 @@ each-run s es x (y ∷ ys) below all =
 
 -- what nodes of a run become
 pub run-stack : (s : Dimensions) (es : List Event) (x : ℕ) (ys zs : List NodeStanding)
-    (below next : List (ℕ × NodeStanding)) → length ys ≡ length zs → AreRun s es x zs → held_at s es below ≡ next
-    → held_at s es (stacked x ys below) ≡ stacked x zs next
+    (below next : List (ℕ × NodeStanding)) → length ys ≡ length zs → AreRun s es x zs → nodes_held_at s es below ≡ next
+    → nodes_held_at s es (stacked x ys below) ≡ stacked x zs next
 run-stack s es x [] [] below next long run is = is
 run-stack s es x [] (z ∷ zs) below next long run is = absurd (omega (arith, long))
 run-stack s es x (y ∷ ys) [] below next long run is = absurd (omega (arith, long))
@@ -124,7 +125,7 @@ all-nodes s es ys long run = run-nodes s es 0 ys (omega (arith, long)) run
 
 -- and the other way
 nodes-run : (s : Dimensions) (es : List Event) (x : ℕ) (ys : List NodeStanding)
-    → x + length ys ≡ length (after s es).nodes → AreOf s ys → nodes_of ys ≡ drop x (after s es).nodes
+    → x + length ys ≡ length (after s es).nodes → AreNodesOf s ys → nodes_of ys ≡ drop x (after s es).nodes
     → AreRun s es x ys
 nodes-run s es x [] long shapes is = tt
 nodes-run s es x (y ∷ ys) long shapes is =
@@ -137,18 +138,18 @@ nodes-run s es x (y ∷ ys) long shapes is =
     let own : y.shape ≡ s = All-first y ys shapes in
     ((λ i. record { shape = own i; node = first i }), nodes-run s es (suc x) ys longer (All-rest y ys shapes) rest)
   where
-    All-first : (y : NodeStanding) (ys : List NodeStanding) → AreOf s (y ∷ ys) → y.shape ≡ s
+    All-first : (y : NodeStanding) (ys : List NodeStanding) → AreNodesOf s (y ∷ ys) → y.shape ≡ s
     All-first y ys all = all 0 y (omega arith)
 
-    All-rest : (y : NodeStanding) (ys : List NodeStanding) → AreOf s (y ∷ ys) → AreOf s ys
+    All-rest : (y : NodeStanding) (ys : List NodeStanding) → AreNodesOf s (y ∷ ys) → AreNodesOf s ys
     All-rest y ys all k d low = all (suc k) d (omega (arith, low))
 
 pub all-run : (s : Dimensions) (es : List Event) (ys : List NodeStanding) → length ys ≡ length (after s es).nodes
-    → AreOf s ys → nodes_of ys ≡ (after s es).nodes → AreRun s es 0 ys
+    → AreNodesOf s ys → nodes_of ys ≡ (after s es).nodes → AreRun s es 0 ys
 all-run s es ys long shapes is = nodes-run s es 0 ys (omega (arith, long)) shapes is
 
 -- their shapes
-pub run-shapes : (s : Dimensions) (es : List Event) (x : ℕ) (ys : List NodeStanding) → AreRun s es x ys → AreOf s ys
+pub run-shapes : (s : Dimensions) (es : List Event) (x : ℕ) (ys : List NodeStanding) → AreRun s es x ys → AreNodesOf s ys
 run-shapes s es x [] run k d low = absurd (omega (arith, low))
 run-shapes s es x (y ∷ ys) run zero d low = ap (λ (z : NodeStanding). z.shape) run.0
 run-shapes s es x (y ∷ ys) run (suc k) d low = run-shapes s es (suc x) ys run.1 k d (omega (arith, low))

@@ -6,14 +6,14 @@ use lib.ListN.{get_elem?}
 use Rattle.atomic_table.specs.Table.{opening}
 use Rattle.group_types.specs.Dimensions.{callers, processes_of}
 use Rattle.group_types.proofs.Lists.{at-replicate}
-use Rattle.group_run.specs.Locality.{times}
+use Rattle.group_run.specs.Locality.{occurrences}
 use Rattle.group_node.specs.Standing.{NodeStanding}
 use Rattle.group_stage.specs.Conditions.{IsAtStart}
 use Rattle.group_stage.specs.Counts.{bit, flag, total}
-use Rattle.group_stage.specs.Kept.{Fits, IsSpent, IsWhole, Kept}
-use Rattle.group_stage.specs.Places.{drawing_of, history_of, slot_of, word_in, word_of}
+use Rattle.group_stage.specs.Kept.{FitsStage, IsSpent, IsWholeSchedule, KeepsPlan}
+use Rattle.group_stage.specs.Places.{drawing_of, history_word, slot_of, word_in, word_of}
 use Rattle.group_stage.specs.Schedules.{standing_at}
-use Rattle.group_stage.specs.Views.{blank, drawn, holding}
+use Rattle.group_stage.specs.Views.{blank, holding, times_numbered}
 use Rattle.group_stage.specs.declared.view.Plan.{Plan}
 use Rattle.group_stage.specs.declared.view.View.{View}
 use Rattle.group_stage.proofs.Sums.{bit-no, flag-none, only_one}
@@ -41,10 +41,10 @@ length-zeros zero = refl
 length-zeros (suc n) = ap suc (length-zeros n)
 
 pub opens : (plan : Plan) (ws : List ℕ) (xs : List (std.Option NodeStanding)) → IsAtStart plan ws xs
-    → Kept plan (opening ws xs (blank plan.shape plan.callers 1 0))
+    → KeepsPlan plan (opening ws xs (blank plan.shape plan.callers 1 0))
 opens plan ws xs start =
     let zeros : (i : ℕ) → get_or ws i 0 ≡ 0 = λ i. ap (λ (l : List ℕ). get_or l i 0) start.words ∙ word-zero (word_of (processes_of plan.shape + 2)) i in
-    let first : Fits plan.shape [] (next_in plan ws) (blank plan.shape plan.callers 1 0) = record {
+    let first : FitsStage plan.shape [] (next_in plan ws) (blank plan.shape plan.callers 1 0) = record {
       shape = λ some_part. refl;
       inside = tt;
       held = tt;
@@ -66,7 +66,7 @@ opens plan ws xs start =
       seats = start.seats;
       parts = omega arith;
       pens = omega arith;
-      history = zeros (history_of plan.shape);
+      history = zeros (history_word plan.shape);
       many = refl;
       once = λ k. sym (bit-no k 0 (omega arith));
       drawing = sym (zeros (drawing_of plan.shape));
@@ -79,22 +79,22 @@ opens plan ws xs start =
     }
   where
     at-first : (j : ℕ) (u : View) → get_elem? (blank plan.shape plan.callers 1 0 ∷ []) j ≡ some u
-        → Fits plan.shape [] (next_in plan ws) (blank plan.shape plan.callers 1 0)
-        → Fits plan.shape [] (next_in plan ws) u
-    at-first zero u e first = subst (Fits plan.shape [] (next_in plan ws)) (some-injective _ u e) first
+        → FitsStage plan.shape [] (next_in plan ws) (blank plan.shape plan.callers 1 0)
+        → FitsStage plan.shape [] (next_in plan ws) u
+    at-first zero u e first = subst (FitsStage plan.shape [] (next_in plan ws)) (some-injective _ u e) first
     at-first (suc j) u e first = absurd (some-ne-none u (sym e))
 
 -- a seat that has all parts knows the whole schedule, and each node is at home
-module _ (plan : Plan) (st : St) (o : Kept plan st) (id : ℕ) (v : View) (me : get_elem? st.views id ≡ some v) (all : v.parts ≡ plan.callers) where
+module _ (plan : Plan) (st : St) (o : KeepsPlan plan st) (id : ℕ) (v : View) (me : get_elem? st.views id ≡ some v) (all : v.parts ≡ plan.callers) where
   -- what only seats with a part have is all here
   pub all-here : (f : View → ℕ) → ((u : View) → IsSpent u → f u ≡ 0) → total f st.views ≡ f v
   all-here f spent = only_one (λ (u : View). u.parts) f st.views id v me (omega (arith, o.parts, all)) (λ j u e z. spent u ((o.each j u e).no_parts z))
 
-  pub whole : IsWhole plan.shape o.schedule (v ∷ [])
+  pub whole : IsWholeSchedule plan.shape o.schedule (v ∷ [])
   whole = record {
     many = let here = all-here (λ (u : View). length u.made) (λ u is. ap length is.made) in omega (arith, here, o.many);
-    once = λ k. let here = all-here (λ (u : View). drawn k u.made) (λ u is. ap (drawn k) is.made) in let sum =
-        o.once k in sum-one (drawn k v.made) (total (λ (u : View). drawn k u.made) st.views) _ here sum;
+    once = λ k. let here = all-here (λ (u : View). times_numbered k u.made) (λ u is. ap (times_numbered k) is.made) in let sum =
+        o.once k in sum-one (times_numbered k v.made) (total (λ (u : View). times_numbered k u.made) st.views) _ here sum;
     answers = ((o.each id v me).made, tt);
   }
     where
@@ -104,6 +104,6 @@ module _ (plan : Plan) (st : St) (o : Kept plan st) (id : ℕ) (v : View) (me : 
   pub at-home : v.held ≡ [] → (p : ℕ) → p < processes_of plan.shape → get_elem? st.homes (slot_of p)
       ≡ some (some (std.Some (standing_at plan.shape o.schedule p)))
   at-home idle p low =
-      let none_held : holding p v ≡ 0 = ap (λ (hs : List (ℕ × NodeStanding)). times p (map (λ h. h.0) hs)) idle in
-      let here = all-here (holding p) (λ u is. ap (λ (hs : List (ℕ × NodeStanding)). times p (map (λ h. h.0) hs)) is.held) in
+      let none_held : holding p v ≡ 0 = ap (λ (hs : List (ℕ × NodeStanding)). occurrences p (map (λ h. h.0) hs)) idle in
+      let here = all-here (holding p) (λ u is. ap (λ (hs : List (ℕ × NodeStanding)). occurrences p (map (λ h. h.0) hs)) is.held) in
       o.home p low (flag-none (word_in st.words p) (omega (arith, here, none_held, o.taken p low)))

@@ -5,7 +5,7 @@ use Rattle.std.proofs.Common.{cond}
 use Rattle.std.proofs.lemmas.Bool.{cases_eq, cases_lt}
 use mathlib.Core.Option.{some, some-injective, some-ne-none}
 use lib.ListN.{get_elem?}
-use Rattle.group_run.specs.Locality.{times}
+use Rattle.group_run.specs.Locality.{occurrences}
 use Rattle.group_types.proofs.Eaches.{each-append}
 use Rattle.group_types.specs.Each.{Each}
 use Rattle.group_stage.specs.Counts.{bit, flag, total}
@@ -71,19 +71,19 @@ module _ {A : Type 0} where
   each-snoc P l x all last = each-append P l (x ∷ []) all (last, tt)
 
 -- how often a number stands in a list
-pub times-append : (k : ℕ) (l m : List ℕ) → times k (l ++ m) ≡ times k l + times k m
+pub times-append : (k : ℕ) (l m : List ℕ) → occurrences k (l ++ m) ≡ occurrences k l + occurrences k m
 times-append k [] m = omega arith
 times-append k (x ∷ xs) m = omega (arith, times-append k xs m)
 
-pub times-here : (k : ℕ) (xs : List ℕ) → times k (k ∷ xs) ≡ 1 + times k xs
-times-here k xs = ap (λ (b : Bool). cond b 1 0 + times k xs) (eq-eqb k k refl)
+pub times-here : (k : ℕ) (xs : List ℕ) → occurrences k (k ∷ xs) ≡ 1 + occurrences k xs
+times-here k xs = ap (λ (b : Bool). cond b 1 0 + occurrences k xs) (eq-eqb k k refl)
 
-pub times-else : (k x : ℕ) (xs : List ℕ) → x ≢ k → times k (x ∷ xs) ≡ times k xs
-times-else k x xs n = ap (λ (b : Bool). cond b 1 0 + times k xs) (ne_eqb x k n) ∙ omega arith
+pub times-else : (k x : ℕ) (xs : List ℕ) → x ≢ k → occurrences k (x ∷ xs) ≡ occurrences k xs
+times-else k x xs n = ap (λ (b : Bool). cond b 1 0 + occurrences k xs) (ne_eqb x k n) ∙ omega arith
 
-pub times_length : (k : ℕ) (xs : List ℕ) → times k xs ≤ length xs
+pub times_length : (k : ℕ) (xs : List ℕ) → occurrences k xs ≤ length xs
 times_length k [] = omega arith
-times_length k (x ∷ xs) = more (eqb x k) (times k xs) (length xs) (times_length k xs) where
+times_length k (x ∷ xs) = more (eqb x k) (occurrences k xs) (length xs) (times_length k xs) where
   more : (b : Bool) (a n : ℕ) → a ≤ n → cond b 1 0 + a ≤ suc n
   more true a n le = omega (arith, le)
   more false a n le = omega (arith, le)
@@ -95,12 +95,12 @@ pub bit-no : (a b : ℕ) → b ≤ a → bit (nat_lt a b) ≡ 0
 bit-no a b less = ap bit (le-ltb a b less)
 
 -- one more below a bound
-pub bit-more : (k n : ℕ) → bit (nat_lt k (suc n)) ≡ bit (nat_lt k n) + times k (n ∷ [])
+pub bit-more : (k n : ℕ) → bit (nat_lt k (suc n)) ≡ bit (nat_lt k n) + occurrences k (n ∷ [])
 bit-more k n = ⊎_elim (λ (h : k < n). omega (arith, bit-yes k n h, bit-yes k (suc n) (omega arith), times-else k n [] (λ e. omega arith)))
     (λ (h : n ≤ k). ⊎_elim
-    (λ (e : n ≡ k). let here : times k (n ∷ []) ≡ 1 = ap (λ (x : ℕ). times k (x ∷ [])) e ∙ times-here k [] in
+    (λ (e : n ≡ k). let here : occurrences k (n ∷ []) ≡ 1 = ap (λ (x : ℕ). occurrences k (x ∷ [])) e ∙ times-here k [] in
     omega (arith, bit-no k n h, bit-yes k (suc n) (omega arith), here))
-    (λ (ne : n ≢ k). let gone : times k (n ∷ []) ≡ 0 = times-else k n [] ne in omega (arith, bit-no k n h, bit-no k (suc n) (omega arith), gone))
+    (λ (ne : n ≢ k). let gone : occurrences k (n ∷ []) ≡ 0 = times-else k n [] ne in omega (arith, bit-no k n h, bit-no k (suc n) (omega arith), gone))
     (cases_eq n k))
     (cases_lt k n)
 

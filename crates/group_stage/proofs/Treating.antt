@@ -9,20 +9,20 @@ use Rattle.group_types.specs.declared.process.ProcessId.{ProcessId}
 use Rattle.group_types.specs.declared.process.Partition.{Partition}
 use Rattle.group_types.proofs.Lists.{at-put}
 use Rattle.group_types.proofs.Names.{index-below}
-use Rattle.memc_table.specs.Act.{value_of}
+use Rattle.memc_table.specs.Act.{act_value}
 use Rattle.memc_table.specs.Asked.{Asked}
 use Rattle.group_calls.specs.declared.event.Answer.{Answer}
 use Rattle.group_calls.specs.declared.event.Event.{Event}
 use Rattle.group_calls.specs.declared.event.Event.TheVariants.{Ask, Collect, Flush, Trace}
 use Rattle.group_run.specs.Headline.{MayCome}
-use Rattle.group_run.specs.Locality.{times}
+use Rattle.group_run.specs.Locality.{occurrences}
 use Rattle.group_run.specs.Meaning.{Lives}
 use Rattle.group_run.specs.Process.{Node}
 use Rattle.group_run.specs.Replica.{last_of}
 use Rattle.law_answers.specs.Numbers.{NumbersAreLow}
 use Rattle.law_answers.proofs.Numbers.{numbers_low_always}
 use Rattle.group_run.specs.World.{GroupStep, NodeStep, World, after, ask_node, collect_node, flush_node, group_step}
-use Rattle.group_run.specs.World.{names, next_name, node_of, one_changes, opening, opening_node, step, trace_node}
+use Rattle.group_run.specs.World.{names, next_name, one_changes, opening, opening_node, process_node, step, trace_node}
 use Rattle.group_run.specs.World.{unchanged}
 use Rattle.group_node.specs.Standing.{NodeStanding}
 use Rattle.group_node.specs.Steps.{made}
@@ -32,26 +32,27 @@ use Rattle.group_stage.specs.Ended.{Ended}
 use Rattle.group_stage.specs.Places.{slot_of}
 use Rattle.group_stage.specs.Schedules.{answer_at, ask_by, asked_at, standing_at}
 use Rattle.group_stage.specs.Steps.{Knows, Sat}
-use Rattle.group_stage.specs.Views.{asks_by, begun, committed, released, with_held}
+use Rattle.group_stage.specs.Views.{asks_by, begun, committed, released, with_node_held}
 use Rattle.group_stage.specs.declared.answer.StageAnswer.TheVariants.{Made}
 use Rattle.group_stage.specs.declared.view.Plan.{Plan}
 use Rattle.group_stage.specs.declared.view.View.{View}
 use Rattle.group_stage.proofs.Hands.{Holds}
 use Rattle.group_stage.proofs.Sums.{times-here}
 use Rattle.law_answers.proofs.Entries.{after-more}
-use Rattle.group_core.specs.Schedules.{node_at}
+use Rattle.group_core.specs.Schedules.{node_after_schedule}
 use Rattle.group_core.proofs.Schedules.{node-is, shape-is}
 use Rattle.group_stage.proofs.Runs.{events-after, run-more}
 
 -- an event of one process, which the caller of this view may make
 pub record IsOne (s : Dimensions) (v : View) (e : Event) (p : ProcessId) : Type 0 where
   pub named : names s e ≡ index_of s p ∷ []
-  pub own : (c : ℕ) → times c v.numbers ≡ 0 → ask_by c e ≡ 0
-  pub may : (w : World) → w.shape ≡ s → ((c : ℕ) → 0 < times c v.numbers → at 0 w.asked c ≡ asks_by c v.made) → MayCome w e
+  pub own : (c : ℕ) → occurrences c v.numbers ≡ 0 → ask_by c e ≡ 0
+  pub may : (w : World) → w.shape ≡ s → ((c : ℕ) → 0 < occurrences c v.numbers → at 0 w.asked c ≡ asks_by c v.made) → MayCome w e
 
 -- the node treats it as the machine does, with the machine's answer
 abbrev pub Treats : View → Event → ℕ → NodeStanding → NodeStanding → Answer → Type 0
-Treats v e p y new a = (es : List Event) → Knows es (with_held (begun e v) p y) → (new ≡ standing_at v.shape (es ++ e ∷ []) p) × (a ≡ answer_at v.shape es e)
+Treats v e p y new a = (es : List Event) → Knows es (with_node_held (begun e v) p y)
+    → (new ≡ standing_at v.shape (es ++ e ∷ []) p) × (a ≡ answer_at v.shape es e)
 
 pub one-treated : (s : Dimensions) (es : List Event) (e : Event) (p : ProcessId) (t : NodeStep) → IsProcess s p
     → group_step (after s es) e ≡ one_changes (after s es) p t
@@ -61,30 +62,30 @@ one-treated s es e p t pin is =
     let x : ℕ = index_of s p in
     let d : Node = opening_node s (process_at s x) in
     let shape = shape-is s es in
-    let node : node_at s (es ++ e ∷ []) x ≡ t.node =
+    let node : node_after_schedule s (es ++ e ∷ []) x ≡ t.node =
     ap (λ (v : World). at d v.nodes x) (after-more (opening s) es e) ∙ ap (λ (g : GroupStep). at d g.nodes x) is
     ∙ (λ i. at d (put (opening_node (shape i) p) w.nodes (index_of (shape i) p) t.node) x) ∙ at-put d (opening_node s p) w.nodes x t.node in
     (ap (λ (n : Node). record { shape = s; node = n }) node, ap (λ (g : GroupStep). g.answer) is)
 
 -- the shape and the node in hand are those of the run
 module _ (v : View) (e : Event) (p : ℕ) (q : ProcessId) (y : NodeStanding) (pin : IsProcess v.shape q) (here : p ≡ index_of v.shape q) where
-  held-is : (es : List Event) → Knows es (with_held (begun e v) p y) → y ≡ standing_at v.shape es (index_of v.shape q)
+  held-is : (es : List Event) → Knows es (with_node_held (begun e v) p y) → y ≡ standing_at v.shape es (index_of v.shape q)
   held-is es knows = knows.held.0 ∙ ap (standing_at v.shape es) here
 
-  own-node : (es : List Event) → Knows es (with_held (begun e v) p y) → y.node ≡ node_of (after v.shape es) q
+  own-node : (es : List Event) → Knows es (with_node_held (begun e v) p y) → y.node ≡ process_node (after v.shape es) q
   own-node es knows = ap (λ (z : NodeStanding). z.node) (held-is es knows) ∙ node-is v.shape es q pin
 
-  own-shape : (es : List Event) → Knows es (with_held (begun e v) p y) → y.shape ≡ (after v.shape es).shape
+  own-shape : (es : List Event) → Knows es (with_node_held (begun e v) p y) → y.shape ≡ (after v.shape es).shape
   own-shape es knows = ap (λ (z : NodeStanding). z.shape) (held-is es knows) ∙ sym (shape-is v.shape es)
 
   -- a step of the node by its shape, its node and the world
   pub treats : (new : NodeStanding) (a : Answer) (f : World → Dimensions → Node → NodeStep) (t : NodeStep)
-      → ((w : World) → group_step w e ≡ one_changes w q (f w w.shape (node_of w q)))
+      → ((w : World) → group_step w e ≡ one_changes w q (f w w.shape (process_node w q)))
       → new.shape ≡ y.shape → new.node ≡ t.node → a ≡ t.answer
-      → ((es : List Event) → Knows es (with_held (begun e v) p y) → f (after v.shape es) y.shape y.node ≡ t) → Treats v e p y new a
+      → ((es : List Event) → Knows es (with_node_held (begun e v) p y) → f (after v.shape es) y.shape y.node ≡ t) → Treats v e p y new a
   treats new a f t step same node answer is es knows =
       let w : World = after v.shape es in
-      let turned : f w w.shape (node_of w q) ≡ t = (λ i. f w ((sym (own-shape es knows)) i) ((sym (own-node es knows)) i)) ∙ is es knows in
+      let turned : f w w.shape (process_node w q) ≡ t = (λ i. f w ((sym (own-shape es knows)) i) ((sym (own-node es knows)) i)) ∙ is es knows in
       let both = one-treated v.shape es e q t pin (step w ∙ ap (one_changes w q) turned) in
       let shape : new.shape ≡ v.shape = same ∙ ap (λ (z : NodeStanding). z.shape) (held-is es knows) in
       let stand : new ≡ record { shape = v.shape; node = t.node } = λ i. record { shape = shape i; node = node i } in
@@ -99,7 +100,7 @@ can-finish plan v e p q slots y new a m ready shape held one treats =
     let here : p ≡ index_of plan.shape q = held.here ∙ ap (λ (s : Dimensions). index_of s q) shape in
     let pin : IsProcess plan.shape q = subst (λ (s : Dimensions). IsProcess s q) shape held.inside in
     let ones : IsOne plan.shape v e q = subst (λ (s : Dimensions). IsOne s v e q) shape one in
-    let u : View = with_held (begun e v) p y in
+    let u : View = with_node_held (begun e v) p y in
     subst (λ (x : Sat). CanFinish plan x p new) (sym (is.seat ∙ (λ i. (u, (slot_of p, None) ∷ ready.slots i)))) (record {
       old = y;
       within = let low = index-below plan.shape q pin in omega (arith, low, here);
@@ -107,10 +108,11 @@ can-finish plan v e p q slots y new a m ready shape held one treats =
         part = ready.part;
         due = refl;
         holds = λ x low named.
-            let at_one : times x (index_of plan.shape q ∷ []) ≡ times x (p ∷ []) = ap (λ (z : ℕ). times x (z ∷ [])) (sym here) in
-            let some_named : times x (names plan.shape e) ≡ times x (p ∷ []) = ap (times x) ones.named ∙ at_one in
+            let at_one : occurrences x (index_of plan.shape q ∷ []) ≡ occurrences x (p ∷ []) = ap (λ (z : ℕ). occurrences x (z ∷ [])) (sym here) in
+            let some_named : occurrences x (names plan.shape e) ≡ occurrences x (p ∷ []) = ap (occurrences x) ones.named ∙ at_one in
             let none_else : map (λ (h : ℕ × NodeStanding). h.0) v.held ≡ [] = ap (map (λ (h : ℕ × NodeStanding). h.0)) ready.idle in
-            let all : times x (p ∷ map (λ (h : ℕ × NodeStanding). h.0) v.held) ≡ times x (p ∷ []) = ap (λ (l : List ℕ). times x (p ∷ l)) none_else in
+            let all : occurrences x (p ∷ map (λ (h : ℕ × NodeStanding). h.0) v.held) ≡ occurrences x (p ∷ []) =
+            ap (λ (l : List ℕ). occurrences x (p ∷ l)) none_else in
             omega (arith, named, some_named, all);
         own = ones.own;
         may = ones.may;
@@ -128,7 +130,7 @@ pub made-ended : (v : View) (e : Event) (p : ℕ) (q : ProcessId) (slots : List 
 made-ended v e p q slots y new a m w ready held one treats fin =
     let is = held.taken.1 in
     let fs = fin.0 in
-    let u : View = with_held (begun e v) p y in
+    let u : View = with_node_held (begun e v) p y in
     let view : m.0 ≡ u = ap (λ (x : Sat). x.0) is.seat in
     let knows : Knows fs u = subst (Knows fs) view fin.1 in
     let after_all : w.0 ≡ released (committed fs u) p fin.2.0 = ap (λ (x : Sat). x.0) fin.2.1 ∙ ap (λ (x : View). released (committed fs x) p fin.2.0) view in
@@ -182,8 +184,8 @@ collect-treats v p caller call q y new a pin here shape is =
     (λ w. refl) shape refl refl (λ es knows. is)
 
 -- a caller's own number
-own-times : (v : View) (caller : ℕ) → v.numbers ≡ caller ∷ [] → 0 < times caller v.numbers
-own-times v caller own = let one = times-here caller [] in let same = ap (times caller) own in omega (arith, one, same)
+own-times : (v : View) (caller : ℕ) → v.numbers ≡ caller ∷ [] → 0 < occurrences caller v.numbers
+own-times v caller own = let one = times-here caller [] in let same = ap (occurrences caller) own in omega (arith, one, same)
 
 pub trace-one : (s : Dimensions) (v : View) (caller call : ℕ) (d : Partition) (p : ProcessId) → caller < callers
     → v.numbers ≡ caller ∷ [] → call < asks_by caller v.made → d.0 < s.k → IsProcess s p
@@ -207,10 +209,10 @@ trace-treats v p caller call d q y a pin here is =
     (λ w. refl) refl refl refl (λ es knows. is)
 
 pub ask-one : (s : Dimensions) (v : View) (caller : ℕ) (op : Asked) (p : ProcessId) → caller < callers
-    → v.numbers ≡ caller ∷ [] → All (λ b. b < 256) (value_of op.act) → IsProcess s p → IsOne s v (Ask caller op p) p
+    → v.numbers ≡ caller ∷ [] → All (λ b. b < 256) (act_value op.act) → IsProcess s p → IsOne s v (Ask caller op p) p
 ask-one s v caller op p low own bytes pin = record {
   named = refl;
-  own = λ c no. let same = ap (times c) own in omega (arith, same, no);
+  own = λ c no. let same = ap (occurrences c) own in omega (arith, same, no);
   may = λ w shape asked. (low, subst (λ (t : Dimensions). IsProcess t p) (sym shape) pin, bytes);
 }
 
@@ -229,7 +231,7 @@ module _ (v : View) (e : Event) (p : ℕ) (q : ProcessId) (slots : List (ℕ × 
   low-is : NumbersAreLow (after v.shape held.taken.0)
   low-is = numbers_low_always v.shape held.taken.0 held.taken.1.knows.run
 
-  node-same : y.node ≡ node_of (after v.shape held.taken.0) q
+  node-same : y.node ≡ process_node (after v.shape held.taken.0) q
   node-same = ap (λ (z : NodeStanding). z.node) (held.taken.1.node ∙ ap (standing_at v.shape held.taken.0) held.here)
       ∙ node-is v.shape held.taken.0 q held.inside
 

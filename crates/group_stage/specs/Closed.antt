@@ -6,7 +6,7 @@ use Rattle.group_run.specs.Headline.{IsRun}
 use Rattle.group_run.specs.World.{after}
 use Rattle.group_core.specs.Seats.{AreSeated, nodes_of}
 use Rattle.group_node.specs.Standing.{NodeStanding}
-use Rattle.group_stage.specs.Kept.{IsWhole}
+use Rattle.group_stage.specs.Kept.{IsWholeSchedule}
 use Rattle.group_stage.specs.Seated.{view_of}
 use Rattle.group_stage.specs.declared.seat.Seat.{Seat}
 
@@ -14,6 +14,6 @@ use Rattle.group_stage.specs.declared.seat.Seat.{Seat}
 pub record HasClosed (s : Dimensions) (seats : List Seat) (list : List NodeStanding) : Type 0 where
   pub schedule : List Event
   pub run : IsRun s schedule
-  pub whole : IsWhole s schedule (map view_of seats)
+  pub whole : IsWholeSchedule s schedule (map view_of seats)
   pub seated : AreSeated s list
   pub nodes : nodes_of list ≡ (after s schedule).nodes

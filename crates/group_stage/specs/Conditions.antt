@@ -9,14 +9,14 @@ use Rattle.group_types.specs.Lists.{at}
 use Rattle.group_types.specs.Shape.{IsShape}
 use Rattle.group_calls.specs.declared.event.Event.{Event}
 use Rattle.group_run.specs.Headline.{MayCome}
-use Rattle.group_run.specs.Locality.{times}
+use Rattle.group_run.specs.Locality.{occurrences}
 use Rattle.group_run.specs.World.{World, names}
 use Rattle.group_node.specs.Standing.{NodeStanding}
 use Rattle.group_stage.specs.Kept.{most_calls}
 use Rattle.group_stage.specs.Places.{slot_of, word_of}
 use Rattle.group_stage.specs.Schedules.{ask_by, standing_at}
 use Rattle.group_stage.specs.Steps.{Knows, Sat}
-use Rattle.group_stage.specs.Views.{asks_by, held_rest, holding, with_held, with_met}
+use Rattle.group_stage.specs.Views.{asks_by, held_rest, holding, with_met, with_node_held}
 use Rattle.group_stage.specs.declared.view.Plan.{Plan}
 use Rattle.group_stage.specs.declared.view.View.{View}
 
@@ -33,23 +33,23 @@ pub record CanBegin (plan : Plan) (v : View) (e : Event) (p : ℕ) : Type 0 wher
   pub calls : v.calls < most_calls
   pub idle : v.held ≡ []
   pub within : p < processes_of plan.shape
-  pub named : 0 < times p (names plan.shape e)
+  pub named : 0 < occurrences p (names plan.shape e)
 
 -- a call may go on with a further process, which comes behind all whose nodes it holds
 pub record CanTake (plan : Plan) (v : View) (p : ℕ) : Type 0 where
   pub part : v.parts ≡ 1
   pub due : v.due ≡ 1
   pub within : p < processes_of plan.shape
-  pub named : 0 < times p (names plan.shape v.call)
+  pub named : 0 < occurrences p (names plan.shape v.call)
   pub order : Each (λ h. h.0 < p) v.held
 
 -- a call may become an event: all nodes that it names are held, and it may come
 pub record CanCommit (plan : Plan) (v : View) : Type 0 where
   pub part : v.parts ≡ 1
   pub due : v.due ≡ 1
-  pub holds : (q : ℕ) → q < processes_of plan.shape → 0 < times q (names plan.shape v.call) → 0 < holding q v
-  pub own : (c : ℕ) → times c v.numbers ≡ 0 → ask_by c v.call ≡ 0
-  pub may : (w : World) → w.shape ≡ plan.shape → ((c : ℕ) → 0 < times c v.numbers → at 0 w.asked c ≡ asks_by c v.made) → MayCome w v.call
+  pub holds : (q : ℕ) → q < processes_of plan.shape → 0 < occurrences q (names plan.shape v.call) → 0 < holding q v
+  pub own : (c : ℕ) → occurrences c v.numbers ≡ 0 → ask_by c v.call ≡ 0
+  pub may : (w : World) → w.shape ≡ plan.shape → ((c : ℕ) → 0 < occurrences c v.numbers → at 0 w.asked c ≡ asks_by c v.made) → MayCome w v.call
 
 -- a node is the one that was taken last, and its slot, whatever is there, is the seat's
 pub record HasLast (plan : Plan) (m : Sat) (p : ℕ) (y : NodeStanding) (there : Option NodeStanding) : Type 0 where
@@ -88,8 +88,8 @@ pub record IsAtStart (plan : Plan) (ws : List ℕ) (xs : List (Option NodeStandi
 -- a node is in hand, as it stands in the run of the schedule
 pub record InHand (v : View) (p : ℕ) (slots : List (ℕ × Option NodeStanding)) (y : NodeStanding) (w : Sat) (es : List Event) : Type 0 where
   pub node : y ≡ standing_at v.shape es p
-  pub knows : Knows es (with_held v p y)
-  pub seat : w ≡ (with_held v p y, (slot_of p, None) ∷ slots)
+  pub knows : Knows es (with_node_held v p y)
+  pub seat : w ≡ (with_node_held v p y, (slot_of p, None) ∷ slots)
 
 -- a process's node is in hand, or its word was met held
 abbrev pub Took : View → ℕ → List (ℕ × Option NodeStanding) → Option NodeStanding → Sat → Type 0

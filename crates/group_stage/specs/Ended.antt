@@ -7,9 +7,9 @@ use Rattle.group_types.specs.declared.process.ProcessId.{ProcessId}
 use Rattle.group_calls.specs.declared.event.Answer.{Answer}
 use Rattle.group_calls.specs.declared.event.Event.{Event}
 use Rattle.group_run.specs.Headline.{IsRun}
-use Rattle.group_run.specs.Locality.{times}
+use Rattle.group_run.specs.Locality.{occurrences}
 use Rattle.group_run.specs.World.{names}
-use Rattle.group_core.specs.Schedules.{node_at}
+use Rattle.group_core.specs.Schedules.{node_after_schedule}
 use Rattle.group_types.specs.Each.{Each}
 use Rattle.group_stage.specs.Kept.{IsAnswered, most_calls}
 use Rattle.group_stage.specs.Schedules.{StartsWith, answer_at, asked_at}
@@ -29,11 +29,11 @@ pub record HasReturned (v w : View) : Type 0 where
 
 -- the event was added behind the schedule es, and the answer is the machine's there. All events of the seat before it
 -- stand in es, and a caller number that the seat has asked there as often as the seat did
-pub record IsMade (e : Event) (v : View) (a : Answer) (w : View) (es : List Event) : Type 0 where
+pub record IsEventAdded (e : Event) (v : View) (a : Answer) (w : View) (es : List Event) : Type 0 where
   pub run : IsRun v.shape (es ++ e ∷ [])
   pub seen : StartsWith es v.seen
   pub earlier : Each (IsAnswered v.shape es) v.made
-  pub position : (c : ℕ) → 0 < times c v.numbers → asked_at v.shape es c ≡ asks_by c v.made
+  pub position : (c : ℕ) → 0 < occurrences c v.numbers → asked_at v.shape es c ≡ asks_by c v.made
   pub answer : a ≡ answer_at v.shape es e
   pub made : w.made ≡ v.made ++ record { number = length es; event = e; answer = a } ∷ []
   pub after : w.seen ≡ es ++ e ∷ []
@@ -41,7 +41,7 @@ pub record IsMade (e : Event) (v : View) (a : Answer) (w : View) (es : List Even
 
 -- the seat's own addition found the word of a process held that the call names, and not by itself, and no event was made
 pub record IsBusy (e : Event) (v : View) (p : ProcessId) (w : View) : Type 0 where
-  pub named : 0 < times (index_of v.shape p) (names v.shape e)
+  pub named : 0 < occurrences (index_of v.shape p) (names v.shape e)
   pub met : w.met ≡ v.met ++ index_of v.shape p ∷ []
   pub cleared : cleared_of (index_of v.shape p) w ≡ cleared_of (index_of v.shape p) v
   pub made : w.made ≡ v.made
@@ -59,8 +59,8 @@ pub record WasUpAfter (es : List Event) (v : View) (p : ProcessId) : Type 0 wher
   pub run : IsRun v.shape es
   pub seen : StartsWith es v.seen
   pub earlier : Each (IsAnswered v.shape es) v.made
-  pub up : (node_at v.shape es (index_of v.shape p)).down ≡ false
-  pub lives : (node_at v.shape es (index_of v.shape p)).dead ≡ false
+  pub up : (node_after_schedule v.shape es (index_of v.shape p)).down ≡ false
+  pub lives : (node_after_schedule v.shape es (index_of v.shape p)).dead ≡ false
 
 abbrev pub WasUp : View → ProcessId → Type 0
 WasUp v p = (es : List Event) × WasUpAfter es v p
@@ -72,7 +72,7 @@ pub record IsWorn (v w : View) : Type 0 where
 
 -- what a call of an event ended in, from one view of its seat to the next
 abbrev pub Ended : Event → View → StageAnswer → View → Type 0
-Ended e v (Made a) w = HasReturned v w × ((es : List Event) × IsMade e v a w es)
+Ended e v (Made a) w = HasReturned v w × ((es : List Event) × IsEventAdded e v a w es)
 Ended e v (Busy p) w = HasReturned v w × IsBusy e v p w
 Ended e v Worn w = IsWorn v w
 

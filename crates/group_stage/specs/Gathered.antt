@@ -6,7 +6,7 @@ use Rattle.group_types.specs.declared.process.ProcessId.{ProcessId}
 use Rattle.group_calls.specs.declared.event.Answer.{Answer}
 use Rattle.group_calls.specs.declared.event.Event.TheVariants.{Fail}
 use Rattle.group_calls.specs.declared.event.Event.{Event}
-use Rattle.group_run.specs.Locality.{times}
+use Rattle.group_run.specs.Locality.{occurrences}
 use Rattle.group_run.specs.World.{names}
 use Rattle.group_node.specs.Standing.{NodeStanding}
 use Rattle.group_types.specs.Each.{Each}
@@ -49,7 +49,7 @@ pub record HasAll (plan : Plan) (m : Sat) (ys : List NodeStanding) : Type 0 wher
 pub record NamesAll (plan : Plan) (v : View) : Type 0 where
   pub part : v.parts ≡ 1
   pub due : v.due ≡ 1
-  pub named : (q : ℕ) → q < processes_of plan.shape → 0 < times q (names plan.shape v.call)
+  pub named : (q : ℕ) → q < processes_of plan.shape → 0 < occurrences q (names plan.shape v.call)
 
 -- they went back, and only their own words were cleared
 pub record GaveBack (m w : Sat) (n : ℕ) : Type 0 where

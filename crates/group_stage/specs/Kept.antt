@@ -6,14 +6,14 @@ use Rattle.atomic_table.specs.Table.{State}
 use Rattle.group_types.specs.Dimensions.{Dimensions, callers, processes_of}
 use Rattle.group_calls.specs.declared.event.Event.{Event}
 use Rattle.group_run.specs.Headline.{IsRun}
-use Rattle.group_run.specs.Locality.{times}
+use Rattle.group_run.specs.Locality.{occurrences}
 use Rattle.group_run.specs.World.{names}
 use Rattle.group_node.specs.Standing.{NodeStanding}
 use Rattle.group_types.specs.Each.{Each}
 use Rattle.group_stage.specs.Counts.{bit, flag, total}
-use Rattle.group_stage.specs.Places.{drawing_of, history_of, slot_of, word_in, word_of}
+use Rattle.group_stage.specs.Places.{drawing_of, history_word, slot_of, word_in, word_of}
 use Rattle.group_stage.specs.Schedules.{StartsWith, answer_at, asked_at, standing_at}
-use Rattle.group_stage.specs.Views.{asks_by, cleared_of, drawn, holding, met_of}
+use Rattle.group_stage.specs.Views.{asks_by, cleared_of, holding, met_of, times_numbered}
 use Rattle.group_stage.specs.declared.view.Numbered.{Numbered}
 use Rattle.group_stage.specs.declared.view.Plan.{Plan}
 use Rattle.group_stage.specs.declared.view.View.{View}
@@ -37,23 +37,23 @@ pub record IsSpent (v : View) : Type 0 where
 
 -- a view fits the schedule: what it holds are the nodes of the run, of processes that its call names, and its events
 -- are in the schedule with the machine's answers
-pub record Fits (s : Dimensions) (es : List Event) (next : ℕ) (v : View) : Type 0 where
+pub record FitsStage (s : Dimensions) (es : List Event) (next : ℕ) (v : View) : Type 0 where
   pub shape : 0 < v.parts → v.shape ≡ s
   pub inside : Each (λ h. h.0 < processes_of s) v.held
   pub held : Each (λ h. h.1 ≡ standing_at s es h.0) v.held
-  pub named : Each (λ h. 0 < times h.0 (names s v.call)) v.held
+  pub named : Each (λ h. 0 < occurrences h.0 (names s v.call)) v.held
   pub made : Each (IsAnswered s es) v.made
   pub few : length v.made + length v.met + v.due ≤ v.calls
   pub calls : v.calls ≤ v.parts * most_calls
   pub numbers : length v.numbers ≤ v.parts
   pub no_parts : v.parts ≡ 0 → IsSpent v
   pub seen : StartsWith es v.seen
-  pub own : (c : ℕ) → times c v.numbers ≡ 0 → asks_by c v.made ≡ 0
+  pub own : (c : ℕ) → occurrences c v.numbers ≡ 0 → asks_by c v.made ≡ 0
   pub pen : 0 < v.pens → v.next ≡ next
 
 -- the rule: there is a schedule, of which each node at home is the run's, and the counts of all seats together are
 -- those of the words
-pub record Kept (plan : Plan) (st : State (Option NodeStanding) View) : Type 0 where
+pub record KeepsPlan (plan : Plan) (st : State (Option NodeStanding) View) : Type 0 where
   pub schedule : List Event
   pub run : IsRun plan.shape schedule
   pub wide : length st.words ≡ word_of (processes_of plan.shape + 2)
@@ -63,12 +63,12 @@ pub record Kept (plan : Plan) (st : State (Option NodeStanding) View) : Type 0 w
   pub parts : total (λ v. v.parts) st.views ≡ plan.callers
   pub pens : total (λ v. v.pens) st.views ≤ 1
   -- each number of the schedule is of one event
-  pub history : slice_index st.words (history_of plan.shape) ≡ length schedule
+  pub history : slice_index st.words (history_word plan.shape) ≡ length schedule
   pub many : total (λ v. length v.made) st.views ≡ length schedule
-  pub once : (k : ℕ) → total (λ v. drawn k v.made) st.views ≡ bit (nat_lt k (length schedule))
+  pub once : (k : ℕ) → total (λ v. times_numbered k v.made) st.views ≡ bit (nat_lt k (length schedule))
   -- each caller number that was drawn is of one seat, and all that was asked of it
   pub drawing : total (λ v. length v.numbers) st.views ≡ slice_index st.words (drawing_of plan.shape)
-  pub owners : (c : ℕ) → total (λ v. times c v.numbers) st.views ≡ bit (nat_lt c (slice_index st.words (drawing_of plan.shape)))
+  pub owners : (c : ℕ) → total (λ v. occurrences c v.numbers) st.views ≡ bit (nat_lt c (slice_index st.words (drawing_of plan.shape)))
   pub asked : (c : ℕ) → asked_at plan.shape schedule c ≡ total (λ v. asks_by c v.made) st.views
   -- a process's word is above 0 exactly where one seat holds its node
   pub taken : (p : ℕ) → p < processes_of plan.shape → total (holding p) st.views ≡ flag (word_in st.words p)
@@ -76,10 +76,10 @@ pub record Kept (plan : Plan) (st : State (Option NodeStanding) View) : Type 0 w
   pub counts : (p : ℕ) → p < processes_of plan.shape → total (met_of p) st.views + flag (word_in st.words p) ≡ total (cleared_of p) st.views + word_in st.words p
   pub home : (p : ℕ) → p < processes_of plan.shape → word_in st.words p ≡ 0
       → get_elem? st.homes (slot_of p) ≡ maybe.some (maybe.some (Some (standing_at plan.shape schedule p)))
-  pub each : (j : ℕ) (v : View) → get_elem? st.views j ≡ maybe.some v → Fits plan.shape schedule (slice_index st.words (drawing_of plan.shape)) v
+  pub each : (j : ℕ) (v : View) → get_elem? st.views j ≡ maybe.some v → FitsStage plan.shape schedule (slice_index st.words (drawing_of plan.shape)) v
 
 -- the schedule is exactly that of these views: each number of it is of one of their events, with the machine's answer
-pub record IsWhole (s : Dimensions) (es : List Event) (views : List View) : Type 0 where
+pub record IsWholeSchedule (s : Dimensions) (es : List Event) (views : List View) : Type 0 where
   pub many : total (λ v. length v.made) views ≡ length es
-  pub once : (k : ℕ) → total (λ v. drawn k v.made) views ≡ bit (nat_lt k (length es))
+  pub once : (k : ℕ) → total (λ v. times_numbered k v.made) views ≡ bit (nat_lt k (length es))
   pub answers : Each (λ v. Each (IsAnswered s es) v.made) views

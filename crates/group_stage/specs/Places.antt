@@ -7,16 +7,16 @@ abbrev pub word_of : ℕ → ℕ
 word_of p = p * 8
 
 -- the process whose word it is
-abbrev pub place_of : ℕ → ℕ
-place_of word = word / 8
+abbrev pub word_process : ℕ → ℕ
+word_process word = word / 8
 
 -- the slot of a process's node
 abbrev pub slot_of : ℕ → ℕ
 slot_of p = p * 2
 
 -- the word that counts the events of the schedule
-abbrev pub history_of : Dimensions → ℕ
-history_of s = word_of (processes_of s)
+abbrev pub history_word : Dimensions → ℕ
+history_word s = word_of (processes_of s)
 
 -- the word that counts the caller numbers which were drawn
 abbrev pub drawing_of : Dimensions → ℕ

@@ -7,11 +7,11 @@ use Rattle.group_calls.specs.declared.event.Event.{Event}
 use Rattle.group_calls.specs.declared.event.Event.TheVariants.{Ask}
 use Rattle.group_run.specs.World.{after, group_step}
 use Rattle.group_node.specs.Standing.{NodeStanding}
-use Rattle.group_core.specs.Schedules.{node_at}
+use Rattle.group_core.specs.Schedules.{node_after_schedule}
 
 -- the machine's node of the process at an index, after a schedule, as a node is seen
 abbrev pub standing_at : Dimensions → List Event → ℕ → NodeStanding
-standing_at s es p = record { shape = s; node = node_at s es p }
+standing_at s es p = record { shape = s; node = node_after_schedule s es p }
 
 -- the machine's answer to an event after a schedule
 abbrev pub answer_at : Dimensions → List Event → Event → Answer

@@ -36,5 +36,5 @@ made_in (Ok a) = one_made a
 made_in (Err e) = 0
 
 -- all are seats of this stage
-abbrev pub AreOf : Stage → List Seat → Type 0
-AreOf stage seats = Each (IsOf stage) seats
+abbrev pub AreSeatsOf : Stage → List Seat → Type 0
+AreSeatsOf stage seats = Each (IsOf stage) seats

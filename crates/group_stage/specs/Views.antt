@@ -4,7 +4,7 @@ use Rattle.group_types.specs.Dimensions.{Dimensions}
 use Rattle.group_types.specs.declared.process.ProcessId.TheVariants.{DataNode}
 use Rattle.group_calls.specs.declared.event.Event.{Event}
 use Rattle.group_calls.specs.declared.event.Event.TheVariants.{Flush}
-use Rattle.group_run.specs.Locality.{times}
+use Rattle.group_run.specs.Locality.{occurrences}
 use Rattle.group_node.specs.Standing.{NodeStanding}
 use Rattle.group_stage.specs.Schedules.{answer_at, ask_by, standing_at}
 use Rattle.group_stage.specs.declared.view.Numbered.{Numbered}
@@ -29,30 +29,30 @@ blank s parts pens next = record {
 }
 
 -- the view of a seat that was joined to another
-abbrev pub nobody : View
-nobody = blank (record { k = 1; m = 0; blocks = 1; block = 16 }) 0 0 0
+abbrev pub empty_view : View
+empty_view = blank (record { k = 1; m = 0; blocks = 1; block = 16 }) 0 0 0
 
 -- a call begins
 abbrev pub begun : Event → View → View
 begun e v = record v { call = e; calls = v.calls + 1; due = 1 }
 
 -- a process's word was free, and its node is held
-abbrev pub with_held : View → ℕ → NodeStanding → View
-with_held v p y = record v { held = (p, y) ∷ v.held }
+abbrev pub with_node_held : View → ℕ → NodeStanding → View
+with_node_held v p y = record v { held = (p, y) ∷ v.held }
 
 -- a process's word was held, so that the call ends
 abbrev pub with_met : View → ℕ → View
 with_met v p = record v { met = v.met ++ p ∷ []; due = 0 }
 
 -- the nodes that are held, after a schedule
-abbrev pub held_at : Dimensions → List Event → List (ℕ × NodeStanding) → List (ℕ × NodeStanding)
-held_at s es held = map (λ h. (h.0, standing_at s es h.0)) held
+abbrev pub nodes_held_at : Dimensions → List Event → List (ℕ × NodeStanding) → List (ℕ × NodeStanding)
+nodes_held_at s es held = map (λ h. (h.0, standing_at s es h.0)) held
 
 -- the call becomes the event behind this schedule
 abbrev pub committed : List Event → View → View
 committed es v = record v {
   due = 0;
-  held = held_at v.shape (es ++ v.call ∷ []) v.held;
+  held = nodes_held_at v.shape (es ++ v.call ∷ []) v.held;
   made = v.made ++ record { number = length es; event = v.call; answer = answer_at v.shape es v.call } ∷ [];
   seen = es ++ v.call ∷ [];
 }
@@ -78,8 +78,8 @@ abbrev pub new_part : View → View
 new_part v = blank v.shape (v.parts - 1) v.pens v.next
 
 -- two views as one
-abbrev pub joined : View → View → View
-joined v w = record {
+abbrev pub joined_views : View → View → View
+joined_views v w = record {
   shape = v.shape;
   parts = v.parts + w.parts;
   pens = v.pens + w.pens;
@@ -97,7 +97,7 @@ joined v w = record {
 
 -- how often a process's word was met held
 abbrev pub met_of : ℕ → View → ℕ
-met_of p v = times p v.met
+met_of p v = occurrences p v.met
 
 -- how far a process's word stood above 1 where it was released
 abbrev pub tally : ℕ → List (ℕ × ℕ) → ℕ
@@ -109,11 +109,11 @@ cleared_of p v = tally p v.cleared
 
 -- how many nodes of a process are held
 abbrev pub holding : ℕ → View → ℕ
-holding p v = times p (map (λ h. h.0) v.held)
+holding p v = occurrences p (map (λ h. h.0) v.held)
 
 -- how many events have this number
-abbrev pub drawn : ℕ → List Numbered → ℕ
-drawn k made = times k (map (λ x. x.number) made)
+abbrev pub times_numbered : ℕ → List Numbered → ℕ
+times_numbered k made = occurrences k (map (λ x. x.number) made)
 
 -- how many of the events are asks of this caller
 abbrev pub asks_by : ℕ → List Numbered → ℕ

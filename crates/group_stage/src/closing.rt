@@ -7,9 +7,9 @@ ghost use Rattle.group_types.specs.Dimensions as limits;
 ghost use Rattle.group_node.specs.Standing.{NodeStanding};
 ghost use Rattle.group_stage.specs.Closed.{HasClosed};
 ghost use Rattle.group_stage.specs.Emptied.{AreTaken, HaveNodes};
-ghost use Rattle.group_stage.specs.Kept.{IsWhole};
+ghost use Rattle.group_stage.specs.Kept.{IsWholeSchedule};
 ghost use Rattle.group_stage.specs.Places as places;
-ghost use Rattle.group_stage.specs.Seated.{AreOf, callers_of, shape_of, view_of};
+ghost use Rattle.group_stage.specs.Seated.{AreSeatsOf, callers_of, shape_of, view_of};
 ghost use Rattle.group_stage.specs.declared.seat.Seat.{Seat};
 
 use crate::places::{processes_of, slot_of};
@@ -32,7 +32,7 @@ pub struct Unclosed {
 impl Stage {
     /// The nodes of all processes, as they stand after the events of the seats.
     pub fn close(self, seats: Seats) -> Result<Nodes, Unclosed>
-        requires seats { AreOf self seats.seats }
+        requires seats { AreSeatsOf self seats.seats }
         requires all { length seats.seats ≡ callers_of self }
         ensures closed { IfOk result (λ nodes. HasClosed (shape_of self) seats.seats nodes.nodes) }
         ensures unclosed { IfErr result (λ u. (u.stage ≡ self) × (u.seats ≡ seats)) }
@@ -54,13 +54,13 @@ impl Stage {
 
     // All seats as one.
     fn gather(&self, seats: Seats) -> RawSeat
-        requires seats { AreOf self.now seats.seats }
+        requires seats { AreSeatsOf self.now seats.seats }
         requires all { length seats.seats ≡ self.now.plan.callers }
         ensures table { result.table_id ≡ self.now.table.shared.table_id }
         ensures parts { result.me.0.parts ≡ self.now.plan.callers }
         ensures idle { result.me.0.held ≡ [] }
-        ensures whole { (es : List Event) → IsWhole self.now.plan.shape es (result.me.0 ∷ [])
-            → IsWhole self.now.plan.shape es (map view_of seats.seats) }
+        ensures whole { (es : List Event) → IsWholeSchedule self.now.plan.shape es (result.me.0 ∷ [])
+            → IsWholeSchedule self.now.plan.shape es (map view_of seats.seats) }
     {
         let mut rest = seats;
         let Some(first) = rest.take() else {
@@ -81,8 +81,8 @@ impl Stage {
         requires parts { seat.me.0.parts ≡ self.plan.callers }
         requires idle { seat.me.0.held ≡ [] }
         requires nodes { nodes ≡ record { room = limits.processes_of self.plan.shape; nodes = [] } }
-        ensures { (seats : List Seat) → ((es : List Event) → IsWhole self.plan.shape es (seat.me.0 ∷ [])
-            → IsWhole self.plan.shape es (map view_of seats)) → HasClosed self.plan.shape seats result.nodes }
+        ensures { (seats : List Seat) → ((es : List Event) → IsWholeSchedule self.plan.shape es (seat.me.0 ∷ [])
+            → IsWholeSchedule self.plan.shape es (map view_of seats)) → HasClosed self.plan.shape seats result.nodes }
     {
         let Stage {
             alloc: _,

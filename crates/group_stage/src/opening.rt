@@ -4,7 +4,7 @@ ghost use Rattle.group_types.specs.Dimensions as limits;
 ghost use Rattle.group_stage.specs.Conditions.{CanDraw};
 ghost use Rattle.group_stage.specs.Dealt.{AreNew, IsNew};
 ghost use Rattle.group_stage.specs.Opened.{AreLaid};
-ghost use Rattle.group_stage.specs.Seated.{AreOf};
+ghost use Rattle.group_stage.specs.Seated.{AreSeatsOf};
 ghost use Rattle.group_stage.specs.Views.{blank, numbered};
 
 use crate::places::{processes_of, word_of};
@@ -27,7 +27,7 @@ impl Stage {
         ensures made { IfOk result (λ r. r.1.made ≡ callers) }
         ensures all { IfOk result (λ r. length r.1.seats ≡ callers) }
         ensures new { IfOk result (λ r. AreNew r.0 r.1.seats) }
-        ensures of_stage { IfOk result (λ r. AreOf r.0 r.1.seats) }
+        ensures of_stage { IfOk result (λ r. AreSeatsOf r.0 r.1.seats) }
     {
         let seats = Vec::with_capacity(alloc, callers as usize)?;
         let plan = Plan { shape, callers };
@@ -72,7 +72,7 @@ impl Stage {
         ensures many { length result.items ≡ self.now.plan.callers }
         ensures room { self.now.plan.callers ≤ vec_capacity result }
         ensures new { AreNew self.now result.items }
-        ensures of_stage { AreOf self.now result.items }
+        ensures of_stage { AreSeatsOf self.now result.items }
     {
         let mut raw = first;
         'callers: for number in 1..self.plan.callers {

@@ -8,10 +8,10 @@ use std::marker::{Brand, PhantomData};
 pub struct Rule;
 
 impl TableRule<Option<Node>, View, Plan> for Rule {
-    ghost use Rattle.group_stage.specs.Kept.{Kept};
+    ghost use Rattle.group_stage.specs.Kept.{KeepsPlan};
     ghost use Rattle.group_stage.specs.Views.{blank};
 
-    ghost holds = { Kept };
+    ghost holds = { KeepsPlan };
 
     ghost first = { λ plan. blank plan.shape plan.callers 1 0 };
 }
@@ -34,18 +34,18 @@ impl Calls for Brand {
 pub struct Begin<J: Calls>(PhantomData<J>);
 
 impl<J: Calls> Play<Option<Node>, View> for Begin<J> {
-    ghost use Rattle.group_stage.specs.Steps.{Begins};
+    ghost use Rattle.group_stage.specs.Steps.{TakesFirstWord};
 
-    ghost then = { Begins J.event };
+    ghost then = { TakesFirstWord J.event };
 }
 
 // A call takes a further word.
 pub struct Take;
 
 impl Play<Option<Node>, View> for Take {
-    ghost use Rattle.group_stage.specs.Steps.{TakesNext};
+    ghost use Rattle.group_stage.specs.Steps.{TakesNextWord};
 
-    ghost then = { TakesNext };
+    ghost then = { TakesNextWord };
 }
 
 // A call becomes an event.
@@ -90,9 +90,9 @@ impl Split<View> for Part {
 pub struct Both;
 
 impl Join<View> for Both {
-    ghost use Rattle.group_stage.specs.Views.{joined, nobody};
+    ghost use Rattle.group_stage.specs.Views.{empty_view, joined_views};
 
-    ghost both = { joined };
+    ghost both = { joined_views };
 
-    ghost spent = { nobody };
+    ghost spent = { empty_view };
 }

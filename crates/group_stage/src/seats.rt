@@ -1,5 +1,5 @@
 ghost use Rattle.std.specs.Prelude.{◌≡◌, ◌<◌, ◌++◌, [], ◌∷◌, length, IfSome, MatchOption};
-ghost use Rattle.group_stage.specs.Seated.{AreOf, IsOf};
+ghost use Rattle.group_stage.specs.Seated.{AreSeatsOf, IsOf};
 ghost use Rattle.group_stage.specs.declared.stage.Stage.{Stage};
 
 use crate::seat::Seat;
@@ -30,8 +30,8 @@ impl Seats {
         ensures made { self.new.made ≡ self.old.made }
         ensures last { MatchOption result ((self.old.seats ≡ []) × (self.new.seats ≡ []))
             (λ seat. self.old.seats ≡ self.new.seats ++ seat ∷ []) }
-        ensures of_stage { (stage : Stage) → AreOf stage self.old.seats
-            → AreOf stage self.new.seats × IfSome result (IsOf stage) }
+        ensures of_stage { (stage : Stage) → AreSeatsOf stage self.old.seats
+            → AreSeatsOf stage self.new.seats × IfSome result (IsOf stage) }
     {
         self.seats.pop()
     }
@@ -40,7 +40,7 @@ impl Seats {
     pub fn put(&mut self, seat: Seat)
         requires { length self.old.seats < self.old.made }
         ensures put { self.new ≡ record { made = self.old.made; seats = self.old.seats ++ seat ∷ [] } }
-        ensures of_stage { (stage : Stage) → AreOf stage self.old.seats → IsOf stage seat → AreOf stage self.new.seats }
+        ensures of_stage { (stage : Stage) → AreSeatsOf stage self.old.seats → IsOf stage seat → AreSeatsOf stage self.new.seats }
     {
         self.seats.push_reserved(seat);
     }

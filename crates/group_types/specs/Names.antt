@@ -31,9 +31,9 @@ of_rank d zero = DataNode d
 of_rank d (suc i) = ParityNode i
 
 -- the rank with which a process heads a partition, if it heads it
-abbrev pub rank_of : ProcessId → ℕ
-rank_of (DataNode _) = 0
-rank_of (ParityNode i) = suc i
+abbrev pub heading_rank : ProcessId → ℕ
+heading_rank (DataNode _) = 0
+heading_rank (ParityNode i) = suc i
 
 -- the process of rank r, of at most m, heads partition d: it isn't among the dead, and all those of
 -- lower rank are

@@ -2,7 +2,7 @@ ghost use Rattle.std.specs.Prelude.{◌≡◌, IfOk};
 ghost use Rattle.std.specs.Result.{IsErrOf};
 
 use crate::key_limits::is_key;
-use bytes::Bytes;
+use crate::shared_bytes::SharedBytes;
 use std::alloc::{AllocError, Global};
 use std::error::Error;
 use std::fmt;
@@ -29,7 +29,7 @@ impl Error for KeyFault {}
 /// A key of memcached: 1 to 250 bytes without control characters and spaces.
 #[derive(Debug, Drop, PartialEq, Eq, PartialOrd, Ord, Hash)]
 pub struct Key {
-    bytes: Bytes,
+    bytes: SharedBytes,
 }
 
 impl Model for Key {
@@ -57,7 +57,7 @@ impl Key {
         if !is_key(bytes) {
             return Err(KeyFault::BadKey);
         }
-        match Bytes::copy_from_slice(alloc, bytes) {
+        match SharedBytes::of(alloc, bytes) {
             Ok(bytes) => Ok(Key { bytes }),
             Err(AllocError) => Err(KeyFault::Want),
         }

@@ -14,6 +14,7 @@ pub mod piece_list;
 pub mod process;
 pub mod run;
 pub mod shape;
+mod shared_bytes;
 
 pub use byte_list::ByteList;
 pub use config_key::ConfigKey;

@@ -11,7 +11,7 @@ use Rattle.group_wire.specs.Actions.{Send, Read, Treat, Learn}
 use Rattle.group_wire.specs.Composed.{Composed, composed_with}
 use Rattle.group_wire.specs.GoingOn.{AnswersAtOnce, IsEnd}
 use Rattle.group_wire.specs.May.{IsCaller, MayRead}
-use Rattle.group_wire.specs.Sets.{Processes, changed, changed_at, changed_from, entry_at, one_or, size_of, without}
+use Rattle.group_wire.specs.Sets.{Processes, changed, changed_at, changed_from, entry_at, one_or, size_of, without_nth}
 use Rattle.group_wire.specs.State.{Request, AskFor, Told, Stage, Unasked, AskedOf, Answered, OpenCall, Gateways, Signs, Works, gateway_of}
 use Rattle.group_wire.specs.Sending.{parked_at, sent_on, treating}
 use Rattle.group_wire.specs.Serving.{call_learned, if_open, learned_first, read_first, request_treated, sends_by, stage_learned, stage_told, tell, told_of}
@@ -246,7 +246,7 @@ module _ (s : Dimensions) (named : Processes) (few : size_of s named ≤ s.m) wh
             ++ (record { caller = caller; call = position; traced = false; answer = a }) ∷ [])
 
         left : Gateways
-        left = record c.group.gateways { parked = changed c.group.gateways.parked x (without (c.group.gateways.parked x) (length kept.0)) }
+        left = record c.group.gateways { parked = changed c.group.gateways.parked x (without_nth (c.group.gateways.parked x) (length kept.0)) }
 
         found : parked_at c.group x (length kept.0) ≡ Some (AskFor caller position o.op)
         found = ap (λ (rs : List Request). entry_at rs (length kept.0)) kept.1 ∙ entry-last kept.0 (AskFor caller position o.op)

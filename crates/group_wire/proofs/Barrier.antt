@@ -10,7 +10,7 @@ use Rattle.group_wire.specs.Actions.{Action, Begin, Send, Read, Treat, Collect, 
 use Rattle.group_wire.specs.Actions.{Hear, Permit, Take, Ping, Pong, Count, Show, LetGo, Stop}
 use Rattle.group_wire.specs.Composed.{Composed, failed_after}
 use Rattle.group_wire.specs.May.{MayAct}
-use Rattle.group_wire.specs.Sets.{IsWithin, Processes, changed, either, nobody, one_or, size_of, with_one}
+use Rattle.group_wire.specs.Sets.{IsSubset, Processes, changed, either, nobody, one_or, size_of, with_one}
 use Rattle.group_wire.specs.State.{Words, opening_group}
 use Rattle.group_wire.specs.Sending.{heard_first, words_after}
 use Rattle.group_wire.proofs.Changes.{changed-each, changed-here, changed-other, changed-pairs, either-left}
@@ -25,21 +25,21 @@ told w r p x = w.heard p r x || list_any (λ set. set x) (w.said r p)
 pub record Deposed (s : Dimensions) (w : Words) (failed : Processes) : Type 0 where
   pub by : ProcessId
   pub member : IsProcess s by
-  pub permitted : IsWithin failed (w.permitted by)
+  pub permitted : IsSubset failed (w.permitted by)
   pub told_them : (g x : ProcessId) → failed g ≡ true → told w by g x ≡ true → failed x ≡ true
-  pub heard : (r : ProcessId) → IsProcess s r → r ≢ by → failed r ≡ false → IsWithin failed (w.heard by r)
+  pub heard : (r : ProcessId) → IsProcess s r → r ≢ by → failed r ≡ false → IsSubset failed (w.heard by r)
 
 -- what holds of the words of members and of who has failed
 pub record Barred (s : Dimensions) (w : Words) (failed : Processes) : Type 0 where
   pub own : (p : ProcessId) → w.cut p p ≡ false
-  pub said : (r p : ProcessId) → IsWithin (told w r p) (w.cut r)
+  pub said : (r p : ProcessId) → IsSubset (told w r p) (w.cut r)
   pub not_both : (r p x : ProcessId) → told w r p x ≡ true → told w r x p ≡ true → ⊥
-  pub permitted : (p : ProcessId) → IsWithin (w.permitted p) (w.cut p)
-  pub all_said : (p r : ProcessId) → IsProcess s r → r ≢ p → w.permitted p r ≡ false → IsWithin (w.permitted p) (w.heard p r)
-  pub taken : (p : ProcessId) → IsWithin (w.taken p) (w.permitted p)
+  pub permitted : (p : ProcessId) → IsSubset (w.permitted p) (w.cut p)
+  pub all_said : (p r : ProcessId) → IsProcess s r → r ≢ p → w.permitted p r ≡ false → IsSubset (w.permitted p) (w.heard p r)
+  pub taken : (p : ProcessId) → IsSubset (w.taken p) (w.permitted p)
   pub few : (p : ProcessId) → size_of s (w.cut p) ≤ s.m
   pub cut : (r x : ProcessId) → IsProcess s r → failed r ≡ false → failed x ≡ true → w.cut r x ≡ true
-  pub permits : (p : ProcessId) → IsProcess s p → failed p ≡ false → IsWithin (w.permitted p) failed
+  pub permits : (p : ProcessId) → IsProcess s p → failed p ≡ false → IsSubset (w.permitted p) failed
   pub lost : size_of s failed ≤ s.m
   pub deposed : ((x : ProcessId) → failed x ≡ false) ⊎ Deposed s w failed
 
@@ -146,7 +146,7 @@ told-heard w y p (set ∷ rest) is r q x some = by (same-cases r y) (same-cases 
   by (inl ry) (inr other) some = apart (inr other) some
 
 -- what was heard is heard still
-pub heard-grows : (w : Words) (y p : ProcessId) (sets : List Processes) (q r : ProcessId) → IsWithin (w.heard q r) ((heard_first y p sets w).heard q r)
+pub heard-grows : (w : Words) (y p : ProcessId) (sets : List Processes) (q r : ProcessId) → IsSubset (w.heard q r) ((heard_first y p sets w).heard q r)
 heard-grows w y p [] q r x some = some
 heard-grows w y p (set ∷ rest) q r x some =
     changed-pairs (λ q r now. w.heard q r x ≡ true → now x ≡ true) w.heard p y (either (w.heard p y) set)
@@ -174,8 +174,8 @@ module _ (s : Dimensions) (w : Words) (failed : Processes) (b : Barred s w faile
     depose (inl none) = inl none
     depose (inr d) = inr (record { by = d.by; member = d.member; permitted = d.permitted; told_them = d.told_them; heard = d.heard })
 
-    grows : (r : ProcessId) → IsWithin (w.cut r) (changed w.cut p (with_one (w.cut p) x) r)
-    grows = changed-each (λ r set. IsWithin (w.cut r) set) w.cut p (with_one (w.cut p) x) (grown-set (w.cut p) x) (λ r _ y is. is)
+    grows : (r : ProcessId) → IsSubset (w.cut r) (changed w.cut p (with_one (w.cut p) x) r)
+    grows = changed-each (λ r set. IsSubset (w.cut r) set) w.cut p (with_one (w.cut p) x) (grown-set (w.cut p) x) (λ r _ y is. is)
 
   -- a member says whom it has cut
   barred-said : (p : ProcessId) → Barred s (words_after w (Say p)) failed
@@ -256,14 +256,14 @@ module _ (s : Dimensions) (w : Words) (failed : Processes) (b : Barred s w faile
     not_both = b.not_both;
     permitted = b.permitted;
     all_said = b.all_said;
-    taken = changed-each (λ q set. IsWithin set (w.permitted q)) w.taken p (with_one (w.taken p) x) one_more (λ q _. b.taken q);
+    taken = changed-each (λ q set. IsSubset set (w.permitted q)) w.taken p (with_one (w.taken p) x) one_more (λ q _. b.taken q);
     few = b.few;
     cut = b.cut;
     permits = b.permits;
     lost = b.lost;
     deposed = depose b.deposed;
   } where
-    one_more : IsWithin (with_one (w.taken p) x) (w.permitted p)
+    one_more : IsSubset (with_one (w.taken p) x) (w.permitted p)
     one_more = changed-each (λ y is. is ≡ true → w.permitted p y ≡ true) (w.taken p) x true (λ _. may) (λ y _ is. b.taken p y is)
 
     depose : ((x : ProcessId) → failed x ≡ false) ⊎ Deposed s w failed → ((x : ProcessId) → failed x ≡ false) ⊎ Deposed s (words_after w (Take x p)) failed
@@ -271,19 +271,19 @@ module _ (s : Dimensions) (w : Words) (failed : Processes) (b : Barred s w faile
     depose (inr d) = inr (record { by = d.by; member = d.member; permitted = d.permitted; told_them = d.told_them; heard = d.heard })
 
   -- a member permits itself all that it has cut
-  module _ (p : ProcessId) (pin : IsProcess s p) (all : (r : ProcessId) → IsProcess s r → r ≢ p → w.cut p r ≡ false → IsWithin (w.cut p) (w.heard p r)) where
+  module _ (p : ProcessId) (pin : IsProcess s p) (all : (r : ProcessId) → IsProcess s r → r ≢ p → w.cut p r ≡ false → IsSubset (w.cut p) (w.heard p r)) where
     abbrev pub may_take : Words
     may_take = words_after w (Permit p)
 
-    permitted_now : (q : ProcessId) → IsWithin (may_take.permitted q) (w.cut q)
-    permitted_now = changed-each (λ q set. IsWithin set (w.cut q)) w.permitted p (w.cut p) (λ x is. is) (λ q _. b.permitted q)
+    permitted_now : (q : ProcessId) → IsSubset (may_take.permitted q) (w.cut q)
+    permitted_now = changed-each (λ q set. IsSubset set (w.cut q)) w.permitted p (w.cut p) (λ x is. is) (λ q _. b.permitted q)
 
-    all_said_now : (q r : ProcessId) → IsProcess s r → r ≢ q → may_take.permitted q r ≡ false → IsWithin (may_take.permitted q) (w.heard q r)
-    all_said_now q r rin other = changed-each (λ q set. r ≢ q → set r ≡ false → IsWithin set (w.heard q r)) w.permitted p (w.cut p)
+    all_said_now : (q r : ProcessId) → IsProcess s r → r ≢ q → may_take.permitted q r ≡ false → IsSubset (may_take.permitted q) (w.heard q r)
+    all_said_now q r rin other = changed-each (λ q set. r ≢ q → set r ≡ false → IsSubset set (w.heard q r)) w.permitted p (w.cut p)
         (λ other out. all r rin other out) (λ q _ other out. b.all_said q r rin other out) q other
 
-    taken_now : (q : ProcessId) → IsWithin (w.taken q) (may_take.permitted q)
-    taken_now = changed-each (λ q set. IsWithin (w.taken q) set) w.permitted p (w.cut p) (λ x is. b.permitted p x (b.taken p x is)) (λ q _. b.taken q)
+    taken_now : (q : ProcessId) → IsSubset (w.taken q) (may_take.permitted q)
+    taken_now = changed-each (λ q set. IsSubset (w.taken q) set) w.permitted p (w.cut p) (λ x is. b.permitted p x (b.taken p x is)) (λ q _. b.taken q)
 
     -- and has failed itself: nobody fails
     barred-ghost : failed p ≡ true → Barred s may_take failed
@@ -296,7 +296,7 @@ module _ (s : Dimensions) (w : Words) (failed : Processes) (b : Barred s w faile
       taken = taken_now;
       few = b.few;
       cut = b.cut;
-      permits = changed-each (λ q set. IsProcess s q → failed q ≡ false → IsWithin set failed) w.permitted p (w.cut p)
+      permits = changed-each (λ q set. IsProcess s q → failed q ≡ false → IsSubset set failed) w.permitted p (w.cut p)
           (λ qin lives. cc (lives, ghost)) (λ q _. b.permits q);
       lost = b.lost;
       deposed = depose b.deposed;
@@ -306,7 +306,7 @@ module _ (s : Dimensions) (w : Words) (failed : Processes) (b : Barred s w faile
       depose (inr d) = inr (record {
         by = d.by;
         member = d.member;
-        permitted = changed-each (λ q set. IsWithin failed (w.permitted q) → IsWithin failed set) w.permitted p
+        permitted = changed-each (λ q set. IsSubset failed (w.permitted q) → IsSubset failed set) w.permitted p
             (w.cut p) (λ old x fails. b.permitted p x (old x fails)) (λ q _ old. old) d.by d.permitted;
         told_them = d.told_them;
         heard = d.heard;
@@ -317,7 +317,7 @@ module _ (s : Dimensions) (w : Words) (failed : Processes) (b : Barred s w faile
       abbrev pub now : Processes
       now = either failed (w.cut p)
 
-      pub permitted-fails : IsWithin now (w.cut p)
+      pub permitted-fails : IsSubset now (w.cut p)
       permitted-fails x fails = by (either-which failed (w.cut p) x fails) where
         by : (failed x ≡ true) ⊎ (w.cut p x ≡ true) → w.cut p x ≡ true
         by (inl before) = b.cut p x pin lives before
@@ -333,7 +333,7 @@ module _ (s : Dimensions) (w : Words) (failed : Processes) (b : Barred s w faile
         taken = taken_now;
         few = b.few;
         cut = λ r x rin living fails. cuts r x rin (either-not failed (w.cut p) r living) (either-which failed (w.cut p) x fails);
-        permits = changed-each (λ q set. IsProcess s q → now q ≡ false → IsWithin set now) w.permitted p (w.cut p)
+        permits = changed-each (λ q set. IsProcess s q → now q ≡ false → IsSubset set now) w.permitted p (w.cut p)
             (λ qin living. either-right failed (w.cut p))
             (λ q _ qin living x is. either-left failed (w.cut p) x (b.permits q qin (either-not failed (w.cut p) q living).0 x is));
         lost = let fewer = size-within s now (w.cut p) permitted-fails in let few = b.few p in omega (arith, fewer, few);

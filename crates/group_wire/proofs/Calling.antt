@@ -6,7 +6,7 @@ use Rattle.group_types.specs.Dimensions.{Dimensions, callers}
 use Rattle.group_types.specs.Each.{Each}
 use Rattle.group_types.specs.Names.{IsProcess}
 use Rattle.group_types.specs.declared.process.ProcessId.{ProcessId}
-use Rattle.memc_table.specs.Act.{value_of}
+use Rattle.memc_table.specs.Act.{act_value}
 use Rattle.memc_table.specs.declared.act.Act.{Act}
 use Rattle.memc_table.specs.declared.act.Act.TheVariants as act
 use Rattle.group_calls.specs.declared.event.Answer.{Answer}
@@ -113,7 +113,7 @@ module _ (s : Dimensions) (cut : ProcessId → Processes) (failed : Processes) (
     r : Request
     r = AskFor who (gw.next who) o.op
 
-    fits : failed (gateway_of s who) ≡ false → All (λ b. b < 256) (value_of o.op.act) × (asked who ≡ gw.next who)
+    fits : failed (gateway_of s who) ≡ false → All (λ b. b < 256) (act_value o.op.act) × (asked who ≡ gw.next who)
         × NoneWait s failed (waits s cut gw.requests gw.parked who)
     fits lives =
         let f : CallFits s failed (waits s cut gw.requests gw.parked who) (asked who) (gw.next who) (Some o) =

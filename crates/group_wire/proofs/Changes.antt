@@ -7,8 +7,8 @@ use Rattle.group_types.specs.Dimensions.{Dimensions}
 use Rattle.group_types.specs.Names.{process_at, same_process}
 use Rattle.group_types.specs.declared.process.ProcessId.{ProcessId}
 use Rattle.group_types.proofs.Names.{same-eq, same-ne, same-refl}
-use Rattle.membership.specs.Members.{count_dead}
-use Rattle.group_wire.specs.Sets.{IsWithin, Processes, changed, changed_at, changed_from, either, one_or, size_of, with_one}
+use Rattle.membership.specs.Members.{count_dead_words}
+use Rattle.group_wire.specs.Sets.{IsSubset, Processes, changed, changed_at, changed_from, either, one_or, size_of, with_one}
 
 pub changed-here : {X : Type 0} (f : ProcessId → X) (p : ProcessId) (x : X) → changed f p x p ≡ x
 changed-here f p x = ap (λ (b : Bool). one_or b x (f p)) (same-refl p)
@@ -47,13 +47,13 @@ one_or-is P true x y first second = first refl
 one_or-is P false x y first second = second refl
 
 -- sets
-pub grown-set : (set : Processes) (x : ProcessId) → IsWithin set (with_one set x)
+pub grown-set : (set : Processes) (x : ProcessId) → IsSubset set (with_one set x)
 grown-set set x = changed-each (λ p b. set p ≡ true → b ≡ true) set x true (λ _. refl) (λ p _ inn. inn)
 
-pub either-left : (a b : Processes) → IsWithin a (either a b)
+pub either-left : (a b : Processes) → IsSubset a (either a b)
 either-left a b p inn = ap (λ (c : Bool). c || b p) inn
 
-pub either-right : (a b : Processes) → IsWithin b (either a b)
+pub either-right : (a b : Processes) → IsSubset b (either a b)
 either-right a b p inn = by (a p) where
   by : (c : Bool) → (c || b p) ≡ true
   by true = refl
@@ -72,23 +72,23 @@ either-not a b p out = by (a p) out where
   by false out = (refl, out)
 
 -- a set within another has no more members
-count-within : (a b : Processes) (s : Dimensions) (xs : List ℕ) → IsWithin a b
-    → count_dead (map (λ x. a (process_at s x)) xs) ≤ count_dead (map (λ x. b (process_at s x)) xs)
+count-within : (a b : Processes) (s : Dimensions) (xs : List ℕ) → IsSubset a b
+    → count_dead_words (map (λ x. a (process_at s x)) xs) ≤ count_dead_words (map (λ x. b (process_at s x)) xs)
 count-within a b s [] within = omega arith
 count-within a b s (x ∷ xs) within = by (a (process_at s x)) (b (process_at s x)) (within (process_at s x)) (count-within a b s xs within) where
-  by : (c d : Bool) → (c ≡ true → d ≡ true) → count_dead (map (λ x. a (process_at s x)) xs) ≤ count_dead (map (λ x. b (process_at s x)) xs)
-      → (if c then 1 else 0) + count_dead (map (λ x. a (process_at s x)) xs) ≤ (if d then 1 else 0) + count_dead (map (λ x. b (process_at s x)) xs)
+  by : (c d : Bool) → (c ≡ true → d ≡ true) → count_dead_words (map (λ x. a (process_at s x)) xs) ≤ count_dead_words (map (λ x. b (process_at s x)) xs)
+      → (if c then 1 else 0) + count_dead_words (map (λ x. a (process_at s x)) xs) ≤ (if d then 1 else 0) + count_dead_words (map (λ x. b (process_at s x)) xs)
   by true true inn rest = omega (arith, rest)
   by false true inn rest = omega (arith, rest)
   by false false inn rest = omega (arith, rest)
   by true false inn rest = cc (inn refl)
 
-pub size-within : (s : Dimensions) (a b : Processes) → IsWithin a b → size_of s a ≤ size_of s b
+pub size-within : (s : Dimensions) (a b : Processes) → IsSubset a b → size_of s a ≤ size_of s b
 size-within s a b within = count-within a b s (range_with_len 0 (s.k + s.m)) within
 
 pub size-nobody : (s : Dimensions) (a : Processes) → ((p : ProcessId) → a p ≡ false) → size_of s a ≡ 0
 size-nobody s a none = by (range_with_len 0 (s.k + s.m)) where
-  by : (xs : List ℕ) → count_dead (map (λ x. a (process_at s x)) xs) ≡ 0
+  by : (xs : List ℕ) → count_dead_words (map (λ x. a (process_at s x)) xs) ≡ 0
   by [] = refl
   by (x ∷ xs) =
       let rest = by xs in

@@ -11,7 +11,7 @@ use Rattle.group_types.specs.Shape.{IsShape}
 use Rattle.group_types.specs.declared.process.ProcessId.{ProcessId}
 use Rattle.group_types.specs.declared.process.ProcessId.TheVariants.{DataNode, ParityNode}
 use Rattle.group_types.proofs.Names.{index-below, process_at-index, same-ne, same-refl}
-use Rattle.memc_table.specs.Act.{value_of}
+use Rattle.memc_table.specs.Act.{act_value}
 use Rattle.group_wire.specs.Actions.{Action, Begin, Send, Read, Treat, Collect, Flush, Learn, Receive, GiveUp, Cut, Say}
 use Rattle.group_wire.specs.Actions.{Hear, Permit, Take, Ping, Pong, Count, Show, LetGo, Stop}
 use Rattle.group_wire.specs.Composed.{AreActions, AreActionsFrom, Composed, composed_with, opening_composed}
@@ -177,7 +177,7 @@ module _ (g : Group) where
   bytes-are bytes is k d low = lt-is _ 256 (AllPass-from_list_all (λ b. nat_lt b 256) bytes is k d low)
 
   abbrev may_act : Action → Bool
-  may_act (Begin caller op) = is_caller caller && (is_none (g.gateways.call caller) && are_bytes (value_of op.act))
+  may_act (Begin caller op) = is_caller caller && (is_none (g.gateways.call caller) && are_bytes (act_value op.act))
   may_act (Send caller x) = is_caller caller && is_process g.shape x
   may_act (Read x p) = may_read x p
   may_act (Treat p place) = is_here p
@@ -200,9 +200,9 @@ module _ (g : Group) where
 
   may-is : (a : Action) → ((p x : ProcessId) → g.words.cut p x ≡ true → IsProcess g.shape x) → may_act a ≡ true → MayAct g a
   may-is (Begin caller op) inside is =
-      let parts = both (is_caller caller) (is_none (g.gateways.call caller) && are_bytes (value_of op.act)) is in
-      let rest = both (is_none (g.gateways.call caller)) (are_bytes (value_of op.act)) parts.1 in
-      (caller-is caller parts.0, none-is (g.gateways.call caller) rest.0, bytes-are (value_of op.act) rest.1)
+      let parts = both (is_caller caller) (is_none (g.gateways.call caller) && are_bytes (act_value op.act)) is in
+      let rest = both (is_none (g.gateways.call caller)) (are_bytes (act_value op.act)) parts.1 in
+      (caller-is caller parts.0, none-is (g.gateways.call caller) rest.0, bytes-are (act_value op.act) rest.1)
   may-is (Send caller x) inside is = let parts = both (is_caller caller) (is_process g.shape x) is in (caller-is caller parts.0, process-is g.shape x parts.1)
   may-is (Read x p) inside is = read-is x p is
   may-is (Treat p place) inside is = here-is p is

@@ -22,7 +22,7 @@ use Rattle.group_wire.specs.Composed.{Composed, Made, asks_among, call_given_up,
 use Rattle.group_wire.specs.Composed.{given_up, lost_ask, made_by, message_made, opening_composed, request_made}
 use Rattle.group_wire.specs.Composed.{stands_if}
 use Rattle.group_wire.specs.May.{MayAct}
-use Rattle.group_wire.specs.Sets.{Processes, changed, changed_at, changed_from, either, one_or, with_one, without}
+use Rattle.group_wire.specs.Sets.{Processes, changed, changed_at, changed_from, either, one_or, with_one, without_nth}
 use Rattle.group_wire.specs.State.{Request, AskFor, TraceOf, Told, Stage, Unasked, AskedOf, Unknown, TracedAt, Answered, OpenCall, Gateways, Group, gateway_of}
 use Rattle.group_wire.specs.Sending.{heard_first, parked_at, sent_on, treating, words_after}
 use Rattle.group_wire.specs.Serving.{call_learned, handed_to, if_open, learned_first, read_first, request_treated}
@@ -140,7 +140,7 @@ module _ (c : Composed) (h : Whole c) (l : LearnedAt c) (b : WantedAt c) where
       wanted-tell c.group c.failed c.lived
       (record c.group.gateways {
         parked = changed c.group.gateways.parked p
-            (without (c.group.gateways.parked p) place);
+            (without_nth (c.group.gateways.parked p) place);
       }) (c.made ++ stands_if lost (request_made c.group p (Some r))) p
       (told_of r (treating c.group.shape r (c.group.works.process p)).answer)
       (record {

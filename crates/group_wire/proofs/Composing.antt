@@ -7,7 +7,7 @@ use Rattle.group_types.specs.Lists.{at}
 use Rattle.group_types.specs.Names.{IsProcess, index_of}
 use Rattle.group_types.specs.declared.process.ProcessId.{ProcessId}
 use Rattle.membership.specs.Members.{knows_dead}
-use Rattle.memc_table.specs.Act.{value_of}
+use Rattle.memc_table.specs.Act.{act_value}
 use Rattle.memc_table.specs.Asked.{Asked}
 use Rattle.group_message.specs.declared.message.Message.{Message}
 use Rattle.group_message.specs.declared.message.Message.TheVariants as tells
@@ -23,7 +23,7 @@ use Rattle.group_run.specs.Process.{Node, Process}
 use Rattle.group_run.specs.Receiving.{receive}
 use Rattle.group_run.specs.Replica.{callers}
 use Rattle.group_run.specs.World.{World, NodeStep, after, ask_node, deliver_nodes, delivered, flush_process, if_up}
-use Rattle.group_run.specs.World.{next_name, node_in, node_of, receive_node, step, treated, unchanged, with_link}
+use Rattle.group_run.specs.World.{next_name, node_in, process_node, receive_node, step, treated, unchanged, with_link}
 use Rattle.group_run.specs.World.{with_node}
 use Rattle.law_moves.proofs.Reading.{node-back, node-here, node-other, size-with_node}
 use Rattle.law_moves.proofs.Steps.{NodeActs, node_acts, node_receives}
@@ -94,8 +94,9 @@ module _ (s : Dimensions) (cut : ProcessId → Processes) (failed : Processes) (
   -- a member treats what it was asked
   acts-treated : (e : Event) (p : ProcessId) (v : Dimensions → Node → NodeStep) (t : Process → ProcessStep) (a : Process → Answer) → Living s failed p
       → (step (after s (events_in made)) e).world.nodes ≡ with_node w.shape p
-      (if_up (node_of w p).down (node_of w p).dead (node_of w p) (v w.shape (node_of w p))).node w.nodes
-      → (step (after s (events_in made)) e).turn.answer ≡ (if_up (node_of w p).down (node_of w p).dead (node_of w p) (v w.shape (node_of w p))).answer
+      (if_up (process_node w p).down (process_node w p).dead (process_node w p) (v w.shape (process_node w p))).node w.nodes
+      → (step (after s (events_in made)) e).turn.answer ≡
+      (if_up (process_node w p).down (process_node w p).dead (process_node w p) (v w.shape (process_node w p))).answer
       → ((n : Node) → NodeActs s n (v s n).node (t n.process)) → ((n : Node) → (v s n).answer ≡ a n.process) → MayCome w e
       → Composes s cut failed taken (stepped cut p (t (works.process p)) works) (made ++ record { event = e; answer = a (works.process p) } ∷ [])
   acts-treated e p v t a pl nodes answer acts says may =
@@ -106,20 +107,20 @@ module _ (s : Dimensions) (cut : ProcessId → Processes) (failed : Processes) (
       (nodes ∙ (λ i. with_node (shape i) p (in-all i).node w.nodes))
       (answer ∙ (λ i. (in-all i).answer) ∙ says (node_in s w.nodes p) ∙ ap a (c.mirrors.process p pl))
     where
-      in-shape : if_up (node_of w p).down (node_of w p).dead (node_of w p) (v w.shape (node_of w p))
+      in-shape : if_up (process_node w p).down (process_node w p).dead (process_node w p) (v w.shape (process_node w p))
           ≡ if_up (node_in s w.nodes p).down (node_in s w.nodes p).dead (node_in s w.nodes p)
           (v s (node_in s w.nodes p))
       in-shape = λ i. if_up (node_in (shape i) w.nodes p).down (node_in (shape i) w.nodes p).dead
           (node_in (shape i) w.nodes p) (v (shape i) (node_in (shape i) w.nodes p))
 
-      in-all : if_up (node_of w p).down (node_of w p).dead (node_of w p) (v w.shape (node_of w p)) ≡ v s (node_in s w.nodes p)
+      in-all : if_up (process_node w p).down (process_node w p).dead (process_node w p) (v w.shape (process_node w p)) ≡ v s (node_in s w.nodes p)
       in-all = in-shape ∙ (λ i. if_up (up-here p pl i) (lives-here p pl i) (node_in s w.nodes p) (v s (node_in s w.nodes p)))
 
   is-in : (p : ProcessId) → IsProcess s p → IsProcess w.shape p
   is-in p pin = subst (λ (t : Dimensions). IsProcess t p) (sym shape) pin
 
   pub composes-ask : (p : ProcessId) (caller call : ℕ) (op : Asked) → Living s failed p → caller < callers
-      → All (λ b. b < 256) (value_of op.act) → call ≡ asked_by made caller
+      → All (λ b. b < 256) (act_value op.act) → call ≡ asked_by made caller
       → Composes s cut failed taken (stepped cut p (ask_process s (record { caller = caller; call = call }) op (works.process p)).step works)
       (made ++ record { event = event.Ask caller op p; answer = (ask_process s (record { caller = caller; call = call }) op (works.process p)).answer } ∷ [])
   composes-ask p caller call op pl low bytes is =
@@ -182,7 +183,8 @@ module _ (s : Dimensions) (cut : ProcessId → Processes) (failed : Processes) (
       (λ i. with_node (shape i) p (in-all i).receiver.node (with_node (shape i) x (in-all i).sender w.nodes))
       (λ i. (in-all i).receiver.answer)
     where
-      in-all : deliver_nodes w.shape x p (node_of w x) (node_of w p) ≡ delivered false false s x p (node_in s w.nodes x) (node_in s w.nodes p) (m ∷ rest)
+      in-all : deliver_nodes w.shape x p (process_node w x) (process_node w p) ≡ delivered false false s x p (node_in s w.nodes x) (node_in s w.nodes p)
+          (m ∷ rest)
       in-all =
           (λ i. deliver_nodes (shape i) x p (node_in (shape i) w.nodes x) (node_in (shape i) w.nodes p))
           ∙ (λ i. delivered (up-here p pl i) (lives-here p pl i) s x p (node_in s w.nodes x) (node_in s w.nodes p) (first i))
@@ -210,7 +212,7 @@ module _ (s : Dimensions) (cut : ProcessId → Processes) (failed : Processes) (
       (mirrors-taken s w.nodes many cut failed taken works c.mirrors x p xin pl.0 [] refl lost)
 
   -- a call that is asked of a process that has failed is lost, and changes nothing
-  pub composes-lost : (x : ProcessId) (caller : ℕ) (op : Asked) → IsProcess s x → failed x ≡ true → caller < callers → All (λ b. b < 256) (value_of op.act)
+  pub composes-lost : (x : ProcessId) (caller : ℕ) (op : Asked) → IsProcess s x → failed x ≡ true → caller < callers → All (λ b. b < 256) (act_value op.act)
       → Composes s cut failed taken works (made ++ record { event = event.Ask caller op x; answer = says.Lost } ∷ [])
   composes-lost x caller op xin lost low bytes = record {
     makes = makes-more s made (record { event = event.Ask caller op x; answer = says.Lost }) c.makes (low, is-in x xin, bytes) (λ i. (path i).answer);
@@ -220,7 +222,7 @@ module _ (s : Dimensions) (cut : ProcessId → Processes) (failed : Processes) (
         ∙ (λ i. with_node (shape i) x (path i).node w.nodes) ∙ node-back s w.nodes x xin many))
         c.mirrors;
   } where
-    path : ask_node w.shape (next_name w caller) op (node_of w x) ≡ unchanged says.Lost (node_in s w.nodes x)
+    path : ask_node w.shape (next_name w caller) op (process_node w x) ≡ unchanged says.Lost (node_in s w.nodes x)
     path =
         (λ i. ask_node (shape i) (next_name w caller) op (node_in (shape i) w.nodes x))
         ∙ (λ i. if_up (up-after s (events_in made) c.makes.run failed c.mirrors.dead few x xin i)

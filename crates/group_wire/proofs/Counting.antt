@@ -7,26 +7,27 @@ use Rattle.group_types.specs.Dimensions.{Dimensions}
 use Rattle.group_types.specs.Names.{IsProcess, index_of, process_at, same_process}
 use Rattle.group_types.specs.declared.process.ProcessId.{ProcessId}
 use Rattle.group_types.proofs.Names.{index-below, process_at-index, process_at-in, same-refl, same-eq}
-use Rattle.membership.specs.Members.{count_dead}
-use Rattle.group_wire.specs.Sets.{IsWithin, Processes, either, size_of}
+use Rattle.membership.specs.Members.{count_dead_words}
+use Rattle.group_wire.specs.Sets.{IsSubset, Processes, either, size_of}
 
 abbrev bit : Bool → ℕ
 bit b = if b then 1 else 0
 
 count-three : (a t u f : ℕ → Bool) (xs : List ℕ) → ((x : ℕ) → bit (a x) + bit (t x) + bit (u x) ≤ bit (f x))
-    → count_dead (map a xs) + count_dead (map t xs) + count_dead (map u xs) ≤ count_dead (map f xs)
+    → count_dead_words (map a xs) + count_dead_words (map t xs) + count_dead_words (map u xs) ≤ count_dead_words (map f xs)
 count-three a t u f [] each = omega arith
 count-three a t u f (x ∷ xs) each = let rest = count-three a t u f xs each in let first = each x in omega (arith, rest, first)
 
-one-hit : (u : ℕ → Bool) (i a n : ℕ) → a ≤ i → i < a + n → u i ≡ true → 1 ≤ count_dead (map u (range_with_len a n))
+one-hit : (u : ℕ → Bool) (i a n : ℕ) → a ≤ i → i < a + n → u i ≡ true → 1 ≤ count_dead_words (map u (range_with_len a n))
 one-hit u i a zero low high hit = absurd (omega (arith, low, high))
 one-hit u i a (suc n) low high hit = by (cases_eq i a) (λ above. one-hit u i (a + 1) n above (omega (arith, high)) hit) where
-  by : (i ≡ a) ⊎ (i ≢ a) → (a + 1 ≤ i → 1 ≤ count_dead (map u (range_with_len (a + 1) n))) → 1 ≤ bit (u a) + count_dead (map u (range_with_len (a + 1) n))
+  by : (i ≡ a) ⊎ (i ≢ a) → (a + 1 ≤ i → 1 ≤ count_dead_words (map u (range_with_len (a + 1) n)))
+      → 1 ≤ bit (u a) + count_dead_words (map u (range_with_len (a + 1) n))
   by (inl same) later = let one : bit (u a) ≡ 1 = ap bit (ap u (sym same) ∙ hit) in omega (arith, one)
   by (inr other) later = let rest = later (omega (arith, low, other)) in omega (arith, rest)
 
 -- two sets apart from one another, and one more process, within a set
-pub size-apart : (s : Dimensions) (a t f : Processes) (g : ProcessId) → IsProcess s g → IsWithin a f → IsWithin t f
+pub size-apart : (s : Dimensions) (a t f : Processes) (g : ProcessId) → IsProcess s g → IsSubset a f → IsSubset t f
     → f g ≡ true → ((x : ProcessId) → a x ≡ true → t x ≡ true → ⊥)
     → a g ≡ false → t g ≡ false → size_of s a + size_of s t + 1 ≤ size_of s f
 size-apart s a t f g gin aw tw fg apart ag tg =
@@ -60,16 +61,16 @@ size-either s a b = by (range_with_len 0 (s.k + s.m)) where
   one true d = omega arith
   one false d = omega arith
 
-  by : (xs : List ℕ) → count_dead (map (λ x. either a b (process_at s x)) xs)
-      ≤ count_dead (map (λ x. a (process_at s x)) xs) + count_dead (map (λ x. b (process_at s x)) xs)
+  by : (xs : List ℕ) → count_dead_words (map (λ x. either a b (process_at s x)) xs)
+      ≤ count_dead_words (map (λ x. a (process_at s x)) xs) + count_dead_words (map (λ x. b (process_at s x)) xs)
   by [] = omega arith
   by (x ∷ xs) = let rest = by xs in let first = one (a (process_at s x)) (b (process_at s x)) in omega (arith, rest, first)
 
 -- a set that is smaller than the group lacks a member
-lacks-from : (u : ℕ → Bool) (a n : ℕ) → count_dead (map u (range_with_len a n)) < n → (i : ℕ) × (i < a + n) × (u i ≡ false)
+lacks-from : (u : ℕ → Bool) (a n : ℕ) → count_dead_words (map u (range_with_len a n)) < n → (i : ℕ) × (i < a + n) × (u i ≡ false)
 lacks-from u a zero few = absurd (omega (arith, few))
 lacks-from u a (suc n) few = by (u a) refl (λ fewer. lacks-from u (a + 1) n fewer) where
-  by : (b : Bool) → u a ≡ b → (count_dead (map u (range_with_len (a + 1) n)) < n → (i : ℕ) × (i < a + 1 + n)
+  by : (b : Bool) → u a ≡ b → (count_dead_words (map u (range_with_len (a + 1) n)) < n → (i : ℕ) × (i < a + 1 + n)
       × (u i ≡ false)) → (i : ℕ) × (i < a + suc n) × (u i ≡ false)
   by false is later = (a, omega arith, is)
   by true is later =

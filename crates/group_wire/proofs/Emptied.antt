@@ -17,7 +17,7 @@ use Rattle.group_run.specs.Process.{Node}
 use Rattle.group_run.specs.Receiving.{receive}
 use Rattle.group_run.specs.World.{NodeStep, DeliveryStep, World, after, all_change, delivered, flush_process, if_up}
 use Rattle.group_run.specs.World.{link_after, link_emptied, links_after, links_without, next_name, node_after}
-use Rattle.group_run.specs.World.{node_failed, node_in, node_of, nodes_told, opening, sent_to, step, treated, unchanged}
+use Rattle.group_run.specs.World.{node_failed, node_in, nodes_told, opening, process_node, sent_to, step, treated, unchanged}
 use Rattle.group_run.specs.World.{with_link, with_node, world_after}
 use Rattle.law_moves.specs.State.{state_from}
 use Rattle.law_moves.proofs.Events.{emptied-dead}
@@ -311,27 +311,28 @@ emptied-step : (w : World) (e : Event) → length w.nodes ≡ w.shape.k + w.shap
     → Stood w.shape (step w e).world.nodes → Emptied w.shape w.nodes → Emptied w.shape (step w e).world.nodes
 emptied-step w (event.Ask caller op p) many may before now old =
     emptied-treated w.shape w.nodes many old before p
-    (ask_process w.shape (next_name w caller) op (node_of w p).process) may.1 (node_of w p).down (node_of w p).dead
+    (ask_process w.shape (next_name w caller) op (process_node w p).process) may.1 (process_node w p).down (process_node w p).dead
     refl now
 emptied-step w (event.Collect caller call p) many may before now old =
     emptied-treated w.shape w.nodes many old before p
-    (collect_from caller call (node_of w p).process (range_with_len 0 w.shape.k)) may.1 (node_of w p).down
-    (node_of w p).dead refl now
+    (collect_from caller call (process_node w p).process (range_with_len 0 w.shape.k)) may.1 (process_node w p).down
+    (process_node w p).dead refl now
 emptied-step w (event.Flush p) many may before now old =
-    emptied-treated w.shape w.nodes many old before p (flush_process w.shape (node_of w p).process) may (node_of w p).down (node_of w p).dead refl now
+    emptied-treated w.shape w.nodes many old before p (flush_process w.shape (process_node w p).process) may (process_node w p).down
+    (process_node w p).dead refl now
 emptied-step w (event.Trace caller call d p) many may before now old = emptied-back w.shape w.nodes many old p _ may.3
-    (traced (node_of w p).down (node_of w p).dead) where
+    (traced (process_node w p).down (process_node w p).dead) where
       answer : NodeStep
-      answer = unchanged (fate_of w.shape caller call d.0 (node_of w p).process (head_at (node_of w p).process d.0)) (node_of w p)
+      answer = unchanged (fate_of w.shape caller call d.0 (process_node w p).process (head_at (process_node w p).process d.0)) (process_node w p)
 
-      traced : (down dead : Bool) → (if_up down dead (node_of w p) answer).node ≡ node_of w p
+      traced : (down dead : Bool) → (if_up down dead (process_node w p) answer).node ≡ process_node w p
       traced true dead = refl
       traced false true = refl
       traced false false = refl
 emptied-step w (event.Deliver x p) many may before now old =
-    emptied-delivered w.shape w.nodes many old before x p may.0 may.1 may.2 (node_of w p).down (node_of w p).dead refl
-    (at [] (node_of w x).links (index_of w.shape p)) refl now
-emptied-step w (event.Fail p keep) many may before now old = emptied-failed w.shape w.nodes many old p keep may (node_of w p).dead refl
+    emptied-delivered w.shape w.nodes many old before x p may.0 may.1 may.2 (process_node w p).down (process_node w p).dead refl
+    (at [] (process_node w x).links (index_of w.shape p)) refl now
+emptied-step w (event.Fail p keep) many may before now old = emptied-failed w.shape w.nodes many old p keep may (process_node w p).dead refl
 
 module _ (s : Dimensions) where
   stood-after : (es : List Event) → IsRun s es → Stood (after s es).shape (after s es).nodes

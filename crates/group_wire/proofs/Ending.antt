@@ -10,7 +10,7 @@ use Rattle.group_wire.specs.Actions.{Action}
 use Rattle.group_wire.specs.Composed.{AreActions, Composed, composed, opening_composed}
 use Rattle.group_wire.specs.GoingOn.{AnsweredCanBeShown, AnswersAtOnce, CanBeShown, IsShownAs, NamedAreTaken, OthersAreHere, TakesNamed, ToldCanBeShown}
 use Rattle.group_wire.specs.May.{IsCaller}
-use Rattle.group_wire.specs.Sets.{IsWithin, Processes, size_of}
+use Rattle.group_wire.specs.Sets.{IsSubset, Processes, size_of}
 use Rattle.group_wire.specs.Shown.{Shows}
 use Rattle.group_wire.specs.State.{Answered, Gateways, OpenCall, Signs, Told, Unasked, Words, gateway_of}
 use Rattle.group_wire.proofs.Answering.{SolidCall, SolidStage}
@@ -41,7 +41,7 @@ module _ (s : Dimensions) (actions : List Action) (named : Processes) (run : Are
   gateway-in caller mine out = (subst (λ (t : Dimensions). IsProcess t (gateway_of t caller)) going.shape mine.gateway.member, out)
 
   -- whoever isn't named hasn't failed
-  named-failed : IsWithin c.failed named
+  named-failed : IsSubset c.failed named
   named-failed x lost = by (whole s actions run).barred.deposed where
     by : ((x : ProcessId) → c.failed x ≡ false) ⊎ Deposed c.group.shape c.group.words c.failed → named x ≡ true
     by (inl none) = cc (none x, lost)

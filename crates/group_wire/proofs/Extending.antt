@@ -10,7 +10,7 @@ use Rattle.group_types.specs.Names.{IsProcess, index_of, process_at}
 use Rattle.group_types.specs.declared.process.ProcessId.{ProcessId}
 use Rattle.group_types.proofs.Lists.{at-put, at-put-other}
 use Rattle.group_types.proofs.Names.{process_at-in}
-use Rattle.membership.specs.Members.{count_dead, knows_dead}
+use Rattle.membership.specs.Members.{count_dead_words, knows_dead}
 use Rattle.group_message.specs.declared.update.Update.{Update}
 use Rattle.group_calls.specs.Turns.{Turn, asks_in}
 use Rattle.group_calls.specs.declared.event.Answer.{Answer}
@@ -155,8 +155,8 @@ module _ (s : Dimensions) (es : List Event) (run : IsRun s es) where
       omega (arith, lost, same, few)
     where
       counted : (n a : ℕ) → a + n ≤ s.k + s.m
-          → count_dead (map (λ x. (node_in s (after s es).nodes (process_at s x)).dead) (range_with_len a n))
-          ≡ count_dead (map (λ x. failed (process_at s x)) (range_with_len a n))
+          → count_dead_words (map (λ x. (node_in s (after s es).nodes (process_at s x)).dead) (range_with_len a n))
+          ≡ count_dead_words (map (λ x. failed (process_at s x)) (range_with_len a n))
       counted zero a within = refl
       counted (suc n) a within =
           let rest = counted n (a + 1) (omega (arith, within)) in

@@ -12,7 +12,7 @@ use Rattle.group_types.proofs.Names.{index-below, index-process_at, process_at-i
 use Rattle.group_calls.specs.declared.event.Answer.TheVariants as says
 use Rattle.group_calls.specs.declared.event.Event.TheVariants as event
 use Rattle.group_run.specs.Process.{Node}
-use Rattle.group_run.specs.World.{World, after, all_change, front_if, node_in, node_of}
+use Rattle.group_run.specs.World.{World, after, all_change, front_if, node_in, process_node}
 use Rattle.group_wire.specs.Composed.{Made, failures_at}
 use Rattle.group_wire.specs.Sets.{Processes, either, with_one}
 use Rattle.group_wire.specs.State.{Works}
@@ -40,7 +40,7 @@ module _ (s : Dimensions) (cut : ProcessId → Processes) (taken : ProcessId →
     shape : (after s (events_in made)).shape ≡ s
     shape = shape-after s (events_in made) c.makes.run
 
-    change : all_change (node_of (after s (events_in made)) x).dead (after s (events_in made)).shape
+    change : all_change (process_node (after s (events_in made)) x).dead (after s (events_in made)).shape
         (after s (events_in made)).nodes x 0 ≡ all_change false s (after s (events_in made)).nodes x 0
     change =
         (λ i. all_change (node_in (shape i) (after s (events_in made)).nodes x).dead (shape i) (after s (events_in made)).nodes x 0)

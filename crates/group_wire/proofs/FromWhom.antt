@@ -16,7 +16,7 @@ use Rattle.group_wire.specs.Actions.{Hear, Permit, Take, Ping, Pong, Count, Show
 use Rattle.group_wire.specs.Composed.{AreActionsFrom, Composed, composed_from, composed_with, opening_composed}
 use Rattle.group_wire.specs.FromWhom.{CallersAreTheirs, IsCallerOf, NameTheirCallers, requested_by}
 use Rattle.group_wire.specs.May.{MayAct}
-use Rattle.group_wire.specs.Sets.{Processes, changed, one_or, without}
+use Rattle.group_wire.specs.Sets.{Processes, changed, one_or, without_nth}
 use Rattle.group_wire.specs.State.{Request, AskFor, TraceOf, Told, Stage, Unasked, AskedOf, Unknown, TracedAt, Answered, OpenCall, Gateways, Group, gateway_of}
 use Rattle.group_wire.specs.Sending.{parked_at, sent_on, treating}
 use Rattle.group_wire.specs.Serving.{gateways_after, handed_to, if_open, learned_first, read_first, request_treated}
@@ -154,10 +154,10 @@ treats : (g : Group) (p : ProcessId) (place : ℕ) (r : Option Request) → Name
     → parked_at g p place ≡ r → NameTheirCallers g.shape (request_treated g p place r)
 treats g p place None h is = h
 treats g p place (Some r) h is = tells g p (told_of r (treating g.shape r (g.works.process p)).answer)
-    (record g.gateways { parked = changed g.gateways.parked p (without (g.gateways.parked p) place) }) (record {
+    (record g.gateways { parked = changed g.gateways.parked p (without_nth (g.gateways.parked p) place) }) (record {
       answers = h.answers;
       requests = h.requests;
-      parked = changed-each (λ q rs. Each (OfMember g.shape) rs) g.gateways.parked p (without (g.gateways.parked p) place)
+      parked = changed-each (λ q rs. Each (OfMember g.shape) rs) g.gateways.parked p (without_nth (g.gateways.parked p) place)
           (each-without (OfMember g.shape) (g.gateways.parked p) place (h.parked p)) (λ q _. h.parked q);
     }) (told-low r (treating g.shape r (g.works.process p)).answer (each-entry (OfMember g.shape) (g.gateways.parked p) place r is (h.parked p)).0)
 

@@ -9,7 +9,7 @@ use Rattle.group_wire.specs.Actions.{Action, Cut, Say, Hear, Permit, Take}
 use Rattle.group_wire.specs.Composed.{AreActions, AreActionsFrom, Composed, composed_from, composed, composed_with, opening_composed}
 use Rattle.group_wire.specs.GoingOn.{NamedCanBeTaken, OthersAreHere, TakesNamed}
 use Rattle.group_wire.specs.May.{IsHere, MayReadOther}
-use Rattle.group_wire.specs.Sets.{IsWithin, Processes, changed, either, one_or, size_of, with_one}
+use Rattle.group_wire.specs.Sets.{IsSubset, Processes, changed, either, one_or, size_of, with_one}
 use Rattle.group_wire.specs.State.{Group, Words}
 use Rattle.group_wire.specs.Sending.{heard_first}
 use Rattle.group_wire.proofs.Barrier.{heard-grows, or-left, or-right, or-which}
@@ -21,16 +21,16 @@ use Rattle.group_wire.proofs.Reaching.{Reaches, can-be, reaches-by, reaches-each
 -- what is needed of a group to go on
 pub record Going (s : Dimensions) (named : Processes) (g : Group) : Type 0 where
   pub shape : g.shape ≡ s
-  pub cut : (q : ProcessId) → IsWithin (g.words.cut q) named
+  pub cut : (q : ProcessId) → IsSubset (g.words.cut q) named
   pub inside : CutsInside s g.words
   pub here : (q : ProcessId) → IsProcess s q → named q ≡ false → g.gone q ≡ false
 
 -- what members know of one another grows, and calls stay
 pub record Knows (s : Dimensions) (named : Processes) (c d : Composed) : Type 0 where
   pub going : Going s named d.group
-  pub cut : (p : ProcessId) → IsWithin (c.group.words.cut p) (d.group.words.cut p)
-  pub heard : (p r : ProcessId) → IsWithin (c.group.words.heard p r) (d.group.words.heard p r)
-  pub taken : (p : ProcessId) → IsWithin (c.group.words.taken p) (d.group.words.taken p)
+  pub cut : (p : ProcessId) → IsSubset (c.group.words.cut p) (d.group.words.cut p)
+  pub heard : (p r : ProcessId) → IsSubset (c.group.words.heard p r) (d.group.words.heard p r)
+  pub taken : (p : ProcessId) → IsSubset (c.group.words.taken p) (d.group.words.taken p)
   pub gateways : d.group.gateways ≡ c.group.gateways
 
 knows-trans : (s : Dimensions) (named : Processes) (c d e : Composed) → Knows s named c d → Knows s named d e → Knows s named c e
@@ -78,7 +78,7 @@ module _ (s : Dimensions) (named : Processes) (few : size_of s named ≤ s.m) wh
   going-cut : (c : Composed) → Going s named c.group → (p x : ProcessId) → IsNamed s named x → Going s named (composed_with c (Cut x p)).group
   going-cut c g p x xin = record {
     shape = g.shape;
-    cut = changed-each (λ q set. IsWithin set named) c.group.words.cut p (with_one (c.group.words.cut p) x)
+    cut = changed-each (λ q set. IsSubset set named) c.group.words.cut p (with_one (c.group.words.cut p) x)
         (changed-each (λ y is. is ≡ true → named y ≡ true) (c.group.words.cut p) x true (λ _. xin.1) (λ y _ is. g.cut p y is)) (λ q _. g.cut q);
     inside = changed-each (λ q set. (y : ProcessId) → set y ≡ true → IsProcess s y) c.group.words.cut p (with_one (c.group.words.cut p) x)
         (changed-each (λ y is. is ≡ true → IsProcess s y) (c.group.words.cut p) x true (λ _. xin.0) (λ y _ is. g.inside p y is)) (λ q _ y is. g.inside q y is);
@@ -92,8 +92,8 @@ module _ (s : Dimensions) (named : Processes) (few : size_of s named ≤ s.m) wh
       (record { going = going-cut c g p x xin; cut = grows; heard = λ q r y is. is; taken = λ q y is. is; gateways = refl })
       (ap (λ (set : Processes). set x) (changed-here c.group.words.cut p (with_one (c.group.words.cut p) x)) ∙ changed-here (c.group.words.cut p) x true)
     where
-      grows : (q : ProcessId) → IsWithin (c.group.words.cut q) (changed c.group.words.cut p (with_one (c.group.words.cut p) x) q)
-      grows = changed-each (λ q set. IsWithin (c.group.words.cut q) set) c.group.words.cut p
+      grows : (q : ProcessId) → IsSubset (c.group.words.cut q) (changed c.group.words.cut p (with_one (c.group.words.cut p) x) q)
+      grows = changed-each (λ q set. IsSubset (c.group.words.cut q) set) c.group.words.cut p
           (with_one (c.group.words.cut p) x) (grown-set (c.group.words.cut p) x) (λ q _ y is. is)
 
       room : size_of c.group.shape (with_one (c.group.words.cut p) x) ≤ c.group.shape.m
@@ -166,10 +166,10 @@ module _ (s : Dimensions) (named : Processes) (few : size_of s named ≤ s.m) wh
 
   -- one says whom it has cut, and another hears it
   says : (c : Composed) → Going s named c.group → (r p : ProcessId) → IsOther s named r → IsOther s named p → r ≢ p
-      → Reaches (Knows s named) c (λ d. IsWithin (c.group.words.cut r) (d.group.words.heard p r))
+      → Reaches (Knows s named) c (λ d. IsSubset (c.group.words.cut r) (d.group.words.heard p r))
   says c g r p rin pin other =
       reaches-then (Knows s named) (knows-trans s named) c (λ d. d.group.words.said r p ≡ c.group.words.said r p
-      ++ c.group.words.cut r ∷ []) (λ d. IsWithin (c.group.words.cut r) (d.group.words.heard p r))
+      ++ c.group.words.cut r ∷ []) (λ d. IsSubset (c.group.words.cut r) (d.group.words.heard p r))
       (reaches-by (Knows s named) c (λ d. d.group.words.said r p ≡ c.group.words.said r p ++ c.group.words.cut r ∷ []) (Say r) tt (here-other c.group g r rin)
       (record {
         going = record { shape = g.shape; cut = g.cut; inside = g.inside; here = g.here };
@@ -183,7 +183,7 @@ module _ (s : Dimensions) (named : Processes) (few : size_of s named ≤ s.m) wh
       (c.group.words.said r q ++ c.group.words.cut r ∷ [])))
       ∙ ap (λ (b : Bool). one_or b (c.group.words.said r p) (c.group.words.said r p ++ c.group.words.cut r ∷ [])) (uncut c.group g r p pin.1)))
       (λ d kept is. reaches-weaker (Knows s named) d (AllHeard r p (c.group.words.said r p ++ c.group.words.cut r ∷ []))
-      (λ e. IsWithin (c.group.words.cut r) (e.group.words.heard p r))
+      (λ e. IsSubset (c.group.words.cut r) (e.group.words.heard p r))
       (λ e later all x inside. all x (any-last (c.group.words.said r p) (c.group.words.cut r) x inside))
       (hears r p rin pin other (c.group.words.said r p ++ c.group.words.cut r ∷ []) d kept.going is))
     where
@@ -243,7 +243,7 @@ module _ (s : Dimensions) (named : Processes) (few : size_of s named ≤ s.m) wh
         by true pn b rn which = reaches-here (Knows s named) e (Said p r) (knows-self e ge) (λ out far other x xin. cc (pn, out))
         by false pn true rn which = reaches-here (Knows s named) e (Said p r) (knows-self e ge) (λ out far other x xin. cc (rn, far))
         by false pn false rn (inl same) = reaches-here (Knows s named) e (Said p r) (knows-self e ge) (λ out far other x xin. absurd (other same))
-        by false pn false rn (inr other) = reaches-weaker (Knows s named) e (λ d. IsWithin (e.group.words.cut r) (d.group.words.heard p r)) (Said p r)
+        by false pn false rn (inr other) = reaches-weaker (Knows s named) e (λ d. IsSubset (e.group.words.cut r) (d.group.words.heard p r)) (Said p r)
             (λ d later heard out far _ x xin. heard x (cut x xin far)) (says e ge r p (rin, rn) (pin, pn) other)
 
   -- one that has heard all takes a death
@@ -256,7 +256,7 @@ module _ (s : Dimensions) (named : Processes) (few : size_of s named ≤ s.m) wh
     going-permitted : Going s named permitted.group
     going-permitted = record { shape = g.shape; cut = g.cut; inside = g.inside; here = g.here }
 
-    heard : (r : ProcessId) → IsProcess c.group.shape r → r ≢ p → c.group.words.cut p r ≡ false → IsWithin (c.group.words.cut p) (c.group.words.heard p r)
+    heard : (r : ProcessId) → IsProcess c.group.shape r → r ≢ p → c.group.words.cut p r ≡ false → IsSubset (c.group.words.cut p) (c.group.words.heard p r)
     heard r rin other out y inside = said p pin.0 r r_in pin.1 (unnamed (named r) refl) other y (g.inside p y inside, g.cut p y inside) where
       r_in : IsProcess s r
       r_in = subst (λ (t : Dimensions). IsProcess t r) g.shape rin
@@ -268,8 +268,8 @@ module _ (s : Dimensions) (named : Processes) (few : size_of s named ≤ s.m) wh
     may : permitted.group.words.permitted p x ≡ true
     may = ap (λ (set : Processes). set x) (changed-here c.group.words.permitted p (c.group.words.cut p)) ∙ all p pin.0 x xin.0 pin.1 xin.1
 
-    grows : (q : ProcessId) → IsWithin (c.group.words.taken q) (changed c.group.words.taken p (with_one (c.group.words.taken p) x) q)
-    grows = changed-each (λ q set. IsWithin (c.group.words.taken q) set) c.group.words.taken p
+    grows : (q : ProcessId) → IsSubset (c.group.words.taken q) (changed c.group.words.taken p (with_one (c.group.words.taken p) x) q)
+    grows = changed-each (λ q set. IsSubset (c.group.words.taken q) set) c.group.words.taken p
         (with_one (c.group.words.taken p) x) (grown-set (c.group.words.taken p) x) (λ q _ y is. is)
 
     by : (b : Bool) → c.group.words.taken p x ≡ b → Reaches (Knows s named) c (λ d. d.group.words.taken p x ≡ true)

@@ -9,7 +9,7 @@ use Rattle.group_wire.specs.Actions.{Action, Show}
 use Rattle.group_wire.specs.Composed.{AreActions, AreActionsFrom, Composed, composed, composed_from, composed_with, opening_composed}
 use Rattle.group_wire.specs.Laws.{BarrierAlways, FewAreNamed, MoreDataThanParity, NoTwoHoldAll, PermitsExactly, SentAlive, ShownByLiving}
 use Rattle.group_wire.specs.May.{MayAct, answerers}
-use Rattle.group_wire.specs.Sets.{IsWithin, either, one_or, size_of}
+use Rattle.group_wire.specs.Sets.{IsSubset, either, one_or, size_of}
 use Rattle.group_wire.specs.State.{gateway_of}
 use Rattle.group_wire.proofs.Barrier.{Barred, Deposed, barred-opening, barred-step, or-left, permitted-fails, told}
 use Rattle.group_wire.proofs.Changes.{either-not, either-right, either-which, size-within}
@@ -61,7 +61,7 @@ and-both false b is = cc is
 
 module _ (c : Composed) (h : Honest c) (apart : NoTwoHoldAll c.group) where
   -- whose deaths a failed member may take have failed
-  takes-failed : (g : ProcessId) → IsProcess c.group.shape g → c.failed g ≡ true → IsWithin (c.group.words.permitted g) c.failed
+  takes-failed : (g : ProcessId) → IsProcess c.group.shape g → c.failed g ≡ true → IsSubset (c.group.words.permitted g) c.failed
   takes-failed g gin lost x may = by h.barred.deposed where
     by : ((x : ProcessId) → c.failed x ≡ false) ⊎ Deposed c.group.shape c.group.words c.failed → c.failed x ≡ true
     by (inl none) = cc (none g, lost)
@@ -97,10 +97,10 @@ module _ (c : Composed) (h : Honest c) (apart : NoTwoHoldAll c.group) where
       let few = h.barred.lost in
       absurd (omega (arith, all, few, enough))
     where
-      answered-failed : IsWithin (answerers c.group g ping) c.failed
+      answered-failed : IsSubset (answerers c.group g ping) c.failed
       answered-failed x is = (h.signed.answered g x ping (and-both (c.group.signs.answered g ping x) (c.group.words.taken g x) is).0).0.fails lost late
 
-      taken-failed : IsWithin (c.group.words.taken g) c.failed
+      taken-failed : IsSubset (c.group.words.taken g) c.failed
       taken-failed x is = takes-failed g gin lost x (h.barred.taken g x is)
 
       false-unless : (b : Bool) → (b ≡ true → ⊥) → b ≡ false
@@ -168,7 +168,7 @@ few_are_named s actions named run few within = apart-by-size c h (λ p q.
     h : Honest c
     h = honest s actions run
 
-    named-both : (p q : ProcessId) → IsWithin (either (c.group.words.permitted p) (c.group.words.permitted q)) named
+    named-both : (p q : ProcessId) → IsSubset (either (c.group.words.permitted p) (c.group.words.permitted q)) named
     named-both p q x is = by (either-which (c.group.words.permitted p) (c.group.words.permitted q) x is) where
       by : (c.group.words.permitted p x ≡ true) ⊎ (c.group.words.permitted q x ≡ true) → named x ≡ true
       by (inl one) = within p x (h.barred.permitted p x one)

@@ -5,7 +5,7 @@ use Rattle.group_types.specs.Each.{Each}
 use Rattle.group_types.specs.Names.{IsProcess}
 use Rattle.group_types.specs.declared.process.ProcessId.{ProcessId}
 use Rattle.group_types.proofs.Eaches.{each-left, each-weaker}
-use Rattle.membership.specs.Members.{knows_dead, lost_of, with_dead}
+use Rattle.membership.specs.Members.{count_known_dead, knows_dead, with_dead}
 use Rattle.group_message.specs.declared.message.Message.{Message}
 use Rattle.group_message.specs.declared.message.Message.TheVariants as tells
 use Rattle.group_run.specs.Meaning.{Lives, link, process_of}
@@ -62,7 +62,7 @@ module _ (c : Composed) (h : Whole c) (p : ProcessId) (pl : HasNotFailed c p) wh
     by m first,
   ) where
     by : (m : Message) → link (machine c) x p ≡ m ∷ rest → IsOfGroupUp c.group.shape m (c.group.works.process p)
-    by (tells.Notice dead) first = subst (λ (q : Process). lost_of (with_dead q.known dead) ≤ c.group.shape.m) process
+    by (tells.Notice dead) first = subst (λ (q : Process). count_known_dead (with_dead q.known dead) ≤ c.group.shape.m) process
         (few_dead_always c.group.shape (events_of c) h.composes.makes.run (is-composed c h).up x p dead rest xin pl.member other lives first)
     by (tells.Mark session r block d n) first = λ own. subst (λ (q : Process). session.number ≤ q.as_leader.last_session) process
         (own_marks_always c.group.shape (events_of c) h.composes.makes.run x p session r block d n rest xin pl.member

@@ -19,7 +19,7 @@ use Rattle.memc_table.specs.declared.act.Act.TheVariants as act
 use Rattle.memc_table.specs.declared.holding.Holding.{Holding}
 use Rattle.memc_table.specs.declared.reply.Reply.{Reply}
 use Rattle.group_calls.specs.Log.{IsLegalFrom}
-use Rattle.group_calls.specs.Turns.{Turn, accepts, entry_of, log_of, name_of}
+use Rattle.group_calls.specs.Turns.{Turn, accepts, call_entry, log_of, name_of}
 use Rattle.group_calls.specs.Within.{IsAsk, IsTaken, Traces}
 use Rattle.group_calls.specs.declared.entry.Entry.{Entry}
 use Rattle.group_calls.specs.declared.event.Answer.{Answer}
@@ -310,14 +310,14 @@ module _ (c : Composed) (b : Carries c) (more : List Action) (run : AreActionsFr
         of-entry : IsLoggedSinceBegun c caller o reply → e.reply ≡ reply
         of-entry logged = ap (λ (x : Option Entry). elim x [ None ↦ e.reply | Some y ↦ y.reply ])
             (sym by.change.there ∙ ap (slice_get (machine (composed_from c more)).log) places ∙ there) where
-              there : slice_get (machine (composed_from c more)).log logged.place ≡ Some (entry_of (record { caller = caller; call = o.position }) o.op reply)
-              there = stays logged.place (entry_of (record { caller = caller; call = o.position }) o.op reply) logged.entry
+              there : slice_get (machine (composed_from c more)).log logged.place ≡ Some (call_entry (record { caller = caller; call = o.position }) o.op reply)
+              there = stays logged.place (call_entry (record { caller = caller; call = o.position }) o.op reply) logged.entry
 
               places : place ≡ logged.place
               places = one-place (composed_from c more).group.shape (composed_from c more).made
                   (log (composed_from c more) carried) carried.all.composes.makes.answers place logged.place e
-                  (entry_of (record { caller = caller; call = o.position }) o.op reply) by.change.there
-                  (stays logged.place (entry_of (record { caller = caller; call = o.position }) o.op reply) logged.entry)
+                  (call_entry (record { caller = caller; call = o.position }) o.op reply) by.change.there
+                  (stays logged.place (call_entry (record { caller = caller; call = o.position }) o.op reply) logged.entry)
                   by.change.caller_is (last-shown place e by)
 
     shown-by : (place : ℕ) (e : Entry)

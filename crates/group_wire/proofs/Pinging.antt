@@ -9,12 +9,12 @@ use Rattle.group_types.specs.Dimensions.{Dimensions}
 use Rattle.group_types.specs.Names.{IsProcess, index_of, process_at}
 use Rattle.group_types.specs.declared.process.ProcessId.{ProcessId}
 use Rattle.group_types.proofs.Names.{index-process_at, process_at-in, same-cases}
-use Rattle.membership.specs.Members.{count_dead}
+use Rattle.membership.specs.Members.{count_dead_words}
 use Rattle.group_wire.specs.Actions.{Ping, Pong, Count, Show}
 use Rattle.group_wire.specs.Composed.{Composed, composed_with}
 use Rattle.group_wire.specs.GoingOn.{CanBeShown}
 use Rattle.group_wire.specs.May.{CallIsTold, IsCaller, IsToldBefore, MayAct, answerers}
-use Rattle.group_wire.specs.Sets.{IsWithin, Processes, changed, everybody, one_or, size_of, with_one}
+use Rattle.group_wire.specs.Sets.{IsSubset, Processes, changed, everybody, one_or, size_of, with_one}
 use Rattle.group_wire.specs.State.{Answered, Gateways, OpenCall, Signs, Stage, Told, Words, gateway_of}
 use Rattle.group_wire.specs.Stepping.{answered_first, counted_first}
 use Rattle.group_wire.proofs.Changes.{changed-each, changed-here, grown-set}
@@ -27,7 +27,7 @@ pub record Pings (s : Dimensions) (named : Processes) (c d : Composed) : Type 0 
   pub words : d.group.words ≡ c.group.words
   pub gateways : d.group.gateways ≡ c.group.gateways
   pub pinged : (p : ProcessId) → c.group.signs.pinged p ≤ d.group.signs.pinged p
-  pub answered : (p : ProcessId) (j : ℕ) → IsWithin (c.group.signs.answered p j) (d.group.signs.answered p j)
+  pub answered : (p : ProcessId) (j : ℕ) → IsSubset (c.group.signs.answered p j) (d.group.signs.answered p j)
 
 pub pings-trans : (s : Dimensions) (named : Processes) (c d e : Composed) → Pings s named c d → Pings s named d e → Pings s named c e
 pings-trans s named c d e one two = record {
@@ -60,7 +60,7 @@ module _ (s : Dimensions) (named : Processes) (few : size_of s named ≤ s.m) (g
   counted-pinged x p (j ∷ rest) signs = refl
 
   counted-grows : (x p : ProcessId) (js : List ℕ) (signs : Signs) (q : ProcessId) (j : ℕ)
-      → IsWithin (signs.answered q j) ((counted_first x p js signs).answered q j)
+      → IsSubset (signs.answered q j) ((counted_first x p js signs).answered q j)
   counted-grows x p [] signs q j y is = is
   counted-grows x p (ping ∷ rest) signs q j y is =
       changed-each (λ q row. signs.answered q j y ≡ true → row j y ≡ true) signs.answered p
@@ -202,7 +202,7 @@ bit b = if b then 1 else 0
 
 -- two sets that cover all numbers of a range, or all but one
 covers-all : (a t : ℕ → Bool) (start n : ℕ) → ((i : ℕ) → start ≤ i → i < start + n → 1 ≤ bit (a i) + bit (t i))
-    → n ≤ count_dead (map a (range_with_len start n)) + count_dead (map t (range_with_len start n))
+    → n ≤ count_dead_words (map a (range_with_len start n)) + count_dead_words (map t (range_with_len start n))
 covers-all a t start zero each = omega arith
 covers-all a t start (suc n) each =
     let first = each start (omega arith) (omega arith) in
@@ -211,13 +211,15 @@ covers-all a t start (suc n) each =
 
 covers : (a t : ℕ → Bool) (skip start n : ℕ)
     → ((i : ℕ) → start ≤ i → i < start + n → i ≢ skip → 1 ≤ bit (a i) + bit (t i))
-    → n ≤ count_dead (map a (range_with_len start n)) + count_dead (map t (range_with_len start n)) + 1
+    → n ≤ count_dead_words (map a (range_with_len start n)) + count_dead_words (map t (range_with_len start n)) + 1
 covers a t skip start zero each = omega arith
 covers a t skip start (suc n) each =
     by (cases_eq start skip)
     (covers a t skip (start + 1) n (λ i low high. each i (omega (arith, low)) (omega (arith, high)))) where
-      by : (start ≡ skip) ⊎ (start ≢ skip) → n ≤ count_dead (map a (range_with_len (start + 1) n)) + count_dead (map t (range_with_len (start + 1) n)) + 1
-          → suc n ≤ bit (a start) + count_dead (map a (range_with_len (start + 1) n)) + (bit (t start) + count_dead (map t (range_with_len (start + 1) n))) + 1
+      by : (start ≡ skip) ⊎ (start ≢ skip)
+          → n ≤ count_dead_words (map a (range_with_len (start + 1) n)) + count_dead_words (map t (range_with_len (start + 1) n)) + 1
+          → suc n ≤ bit (a start) + count_dead_words (map a (range_with_len (start + 1) n)) +
+          (bit (t start) + count_dead_words (map t (range_with_len (start + 1) n))) + 1
       by (inl same) _ =
           let rest = covers-all a t (start + 1) n (λ i low high. each i (omega (arith, low)) (omega (arith, high))
           (λ is. absurd (omega (arith, low, is, same)))) in

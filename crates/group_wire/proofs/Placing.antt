@@ -24,7 +24,7 @@ use Rattle.group_wire.specs.Actions.{Hear, Permit, Take, Ping, Pong, Count, Show
 use Rattle.group_wire.specs.Composed.{Composed, Made, asks_among, call_given_up, composed_with, events_of, failed_after}
 use Rattle.group_wire.specs.Composed.{failures_at, given_up, lost_ask, message_made, request_made, stands_if}
 use Rattle.group_wire.specs.May.{CallIsTold, IsToldBefore, MayAct, WaitsForDead, call_waits_for, waits_for}
-use Rattle.group_wire.specs.Sets.{Processes, changed, either, one_or, with_one, without}
+use Rattle.group_wire.specs.Sets.{Processes, changed, either, one_or, with_one, without_nth}
 use Rattle.group_wire.specs.State.{Request, AskFor, TraceOf, Told, Stage, Unasked, AskedOf, Unknown, TracedAt, Answered}
 use Rattle.group_wire.specs.State.{OpenCall, Gateways, Group, gateway_of, opening_group}
 use Rattle.group_wire.specs.Sending.{heard_first, parked_at, sent_on, treating, words_after}
@@ -156,7 +156,7 @@ module _ (c : Composed) (p : ProcessId) (place : ℕ) (b : PositionedAt c.group 
       (tells c.group c.failed
       (record c.group.gateways {
         parked = changed c.group.gateways.parked p
-            (without (c.group.gateways.parked p) place);
+            (without_nth (c.group.gateways.parked p) place);
       }) (asked_in c) p
       (told_of r (treating c.group.shape r (c.group.works.process p)).answer) (λ lives. cc (lives.1, lost))
       (positioned-taken c.group.shape c.group.words.cut c.failed c.group.gateways (asked_in c) b p place))
@@ -169,7 +169,7 @@ module _ (c : Composed) (p : ProcessId) (place : ℕ) (b : PositionedAt c.group 
       (tells c.group c.failed
       (record c.group.gateways {
         parked = changed c.group.gateways.parked p
-            (without (c.group.gateways.parked p) place);
+            (without_nth (c.group.gateways.parked p) place);
       }) (asked_once (asked_in c) caller) p
       (told_of (AskFor caller call op) (treating c.group.shape (AskFor caller call op) (c.group.works.process p)).answer)
       (λ _. told-low (asked_once (asked_in c) caller) (AskFor caller call op) (treating c.group.shape (AskFor caller call op) (c.group.works.process p)).answer
@@ -196,7 +196,7 @@ module _ (c : Composed) (p : ProcessId) (place : ℕ) (b : PositionedAt c.group 
       (tells c.group c.failed
       (record c.group.gateways {
         parked = changed c.group.gateways.parked p
-            (without (c.group.gateways.parked p) place);
+            (without_nth (c.group.gateways.parked p) place);
       }) (asked_in c) p
       (told_of (TraceOf caller call d) (treating c.group.shape (TraceOf caller call d) (c.group.works.process p)).answer)
       (λ _. told-low (asked_in c) (TraceOf caller call d) (treating c.group.shape (TraceOf caller call d) (c.group.works.process p)).answer

@@ -8,12 +8,12 @@ use Rattle.group_types.specs.Each.{Each}
 use Rattle.group_types.specs.Names.{IsProcess}
 use Rattle.group_types.specs.declared.process.ProcessId.{ProcessId}
 use Rattle.group_types.proofs.Eaches.{each-append, each-weaker}
-use Rattle.memc_table.specs.Act.{value_of}
+use Rattle.memc_table.specs.Act.{act_value}
 use Rattle.memc_table.specs.Asked.{Asked}
 use Rattle.group_calls.specs.Turns.{asks_in}
 use Rattle.group_calls.specs.declared.event.Event.{Event}
 use Rattle.group_calls.specs.declared.event.Event.TheVariants as event
-use Rattle.group_wire.specs.Sets.{Processes, changed, changed_at, changed_from, entry_at, one_or, without}
+use Rattle.group_wire.specs.Sets.{Processes, changed, changed_at, changed_from, entry_at, one_or, without_nth}
 use Rattle.group_wire.specs.State.{Request, AskFor, Told, Stage, Unasked, AskedOf, Unknown, TracedAt, Answered, OpenCall, Gateways, gateway_of}
 use Rattle.group_wire.specs.Sending.{sent_on}
 use Rattle.group_wire.specs.Composed.{Composed, Made, asks_among}
@@ -39,7 +39,7 @@ StageFits s failed wait asked next position (Answered t pinged) = (asked ≡ nex
 -- a caller's call, if it has one
 abbrev pub CallFits : Dimensions → Processes → (ProcessId → ℕ) → ℕ → ℕ → Option OpenCall → Type 0
 CallFits s failed wait asked next None = (asked ≡ next) × NoneWait s failed wait
-CallFits s failed wait asked next (Some o) = All (λ b. b < 256) (value_of o.op.act) × StageFits s failed wait asked next o.position o.stage
+CallFits s failed wait asked next (Some o) = All (λ b. b < 256) (act_value o.op.act) × StageFits s failed wait asked next o.position o.stage
 
 -- whoever waits has waited
 abbrev pub Waited : Dimensions → Processes → Processes → (ProcessId → ℕ) → (ProcessId → ℕ) → Type 0
@@ -225,11 +225,12 @@ module _ (s : Dimensions) (cut : ProcessId → Processes) (failed : Processes) (
   }
 
   -- a member takes a request that isn't an ask in E
-  pub positioned-taken : (p : ProcessId) (place : ℕ) → Positioned s cut failed (record gw { parked = changed gw.parked p (without (gw.parked p) place) }) asked
+  pub positioned-taken : (p : ProcessId) (place : ℕ)
+      → Positioned s cut failed (record gw { parked = changed gw.parked p (without_nth (gw.parked p) place) }) asked
   positioned-taken p place = record {
     placed = placed-taken s cut failed gw.requests gw.parked asked b.placed p place;
     calls = λ caller lives. call-kept s failed failed (waits s cut gw.requests gw.parked caller)
-        (waits s cut gw.requests (changed gw.parked p (without (gw.parked p) place)) caller) (asked caller)
+        (waits s cut gw.requests (changed gw.parked p (without_nth (gw.parked p) place)) caller) (asked caller)
         (gw.next caller) (gw.call caller)
         (λ z zl. (zl, taken-fewer s cut failed gw.requests gw.parked asked b.placed p place caller z)) (b.calls caller lives);
     told = b.told;
@@ -251,38 +252,38 @@ module _ (s : Dimensions) (cut : ProcessId → Processes) (failed : Processes) (
   -- a member that hasn't failed treats an ask
   pub positioned-treated : (p : ProcessId) (place caller call : ℕ) (op : Asked) → Living s failed p
       → entry_at (gw.parked p) place ≡ Some (AskFor caller call op)
-      → Positioned s cut failed (record gw { parked = changed gw.parked p (without (gw.parked p) place) }) (asked_once asked caller)
+      → Positioned s cut failed (record gw { parked = changed gw.parked p (without_nth (gw.parked p) place) }) (asked_once asked caller)
   positioned-treated p place who call op lives is = record {
-    placed = placed-once s cut failed gw.requests (changed gw.parked p (without (gw.parked p) place)) asked
+    placed = placed-once s cut failed gw.requests (changed gw.parked p (without_nth (gw.parked p) place)) asked
         (placed-taken s cut failed gw.requests gw.parked asked b.placed p place) who none;
     calls = λ caller gl. by caller gl (cases_eq caller who);
     told = told-once who;
     theirs = b.theirs;
   } where
-    none : (z : ProcessId) → Living s failed z → waits s cut gw.requests (changed gw.parked p (without (gw.parked p) place)) who z ≡ 0
+    none : (z : ProcessId) → Living s failed z → waits s cut gw.requests (changed gw.parked p (without_nth (gw.parked p) place)) who z ≡ 0
     none = none-left s cut failed gw.requests gw.parked asked b.placed p place who call op lives is
 
     some : 0 < waits s cut gw.requests gw.parked who p
     some = one-waiting s cut failed gw.requests gw.parked asked b.placed p place who call op is
 
     by : (caller : ℕ) → failed (gateway_of s caller) ≡ false → (caller ≡ who) ⊎ (caller ≢ who)
-        → CallFits s failed (waits s cut gw.requests (changed gw.parked p (without (gw.parked p) place)) caller)
+        → CallFits s failed (waits s cut gw.requests (changed gw.parked p (without_nth (gw.parked p) place)) caller)
         (asked_once asked who caller) (gw.next caller) (gw.call caller)
     by caller gl (inr other) =
-        subst (λ (n : ℕ). CallFits s failed (waits s cut gw.requests (changed gw.parked p (without (gw.parked p) place))
+        subst (λ (n : ℕ). CallFits s failed (waits s cut gw.requests (changed gw.parked p (without_nth (gw.parked p) place))
         caller) n (gw.next caller) (gw.call caller)) (sym (once-same who caller other))
         (call-kept s failed failed (waits s cut gw.requests gw.parked caller)
-        (waits s cut gw.requests (changed gw.parked p (without (gw.parked p) place)) caller) (asked caller)
+        (waits s cut gw.requests (changed gw.parked p (without_nth (gw.parked p) place)) caller) (asked caller)
         (gw.next caller) (gw.call caller)
         (λ z zl. (zl, taken-fewer s cut failed gw.requests gw.parked asked b.placed p place caller z)) (b.calls caller gl))
     by caller gl (inl same) =
-        subst (λ (c : ℕ). CallFits s failed (waits s cut gw.requests (changed gw.parked p (without (gw.parked p) place))
+        subst (λ (c : ℕ). CallFits s failed (waits s cut gw.requests (changed gw.parked p (without_nth (gw.parked p) place))
         c) (asked_once asked who c) (gw.next c) (gw.call c)) (sym same)
         (subst (λ (n : ℕ). CallFits s failed
-        (waits s cut gw.requests (changed gw.parked p (without (gw.parked p) place)) who) n (gw.next who)
+        (waits s cut gw.requests (changed gw.parked p (without_nth (gw.parked p) place)) who) n (gw.next who)
         (gw.call who)) (sym (changed_at-here asked who (suc (asked who))))
         (call-treated s failed (waits s cut gw.requests gw.parked who)
-        (waits s cut gw.requests (changed gw.parked p (without (gw.parked p) place)) who) (asked who) (gw.next who)
+        (waits s cut gw.requests (changed gw.parked p (without_nth (gw.parked p) place)) who) (asked who) (gw.next who)
         (gw.call who) p lives some none
         (b.calls who (subst (λ (c : ℕ). failed (gateway_of s c) ≡ false) same gl))))
 

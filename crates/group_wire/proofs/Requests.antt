@@ -9,9 +9,9 @@ use Rattle.group_types.specs.Names.{IsProcess}
 use Rattle.group_types.specs.declared.process.ProcessId.{ProcessId}
 use Rattle.group_types.proofs.Eaches.{each-append}
 use Rattle.group_types.proofs.Names.{same-cases}
-use Rattle.memc_table.specs.Act.{value_of}
+use Rattle.memc_table.specs.Act.{act_value}
 use Rattle.memc_table.specs.Asked.{Asked}
-use Rattle.group_wire.specs.Sets.{Processes, changed, changed_at, changed_from, entry_at, one_or, without}
+use Rattle.group_wire.specs.Sets.{Processes, changed, changed_at, changed_from, entry_at, one_or, without_nth}
 use Rattle.group_wire.specs.State.{Request, AskFor, TraceOf, gateway_of}
 use Rattle.group_wire.proofs.Changes.{changed-each, changed-here, changed-other, changed-pairs, changed_at-each, one_or-is}
 
@@ -31,7 +31,7 @@ count_asks caller (r ∷ rs) = is_ask caller r + count_asks caller rs
 
 -- a request fits how often callers have asked: an ask has the next position, and what is traced was asked
 abbrev pub FitsAsked : Dimensions → (ℕ → ℕ) → Request → Type 0
-FitsAsked s asked (AskFor caller call op) = (caller < callers) × (call ≡ asked caller) × All (λ b. b < 256) (value_of op.act)
+FitsAsked s asked (AskFor caller call op) = (caller < callers) × (call ≡ asked caller) × All (λ b. b < 256) (act_value op.act)
 FitsAsked s asked (TraceOf caller call d) = (caller < callers) × (call < asked caller) × (d < s.k)
 
 -- a member of the group that hasn't failed
@@ -86,7 +86,7 @@ count-append caller [] ys = omega arith
 count-append caller (x ∷ xs) ys = let rest = count-append caller xs ys in omega (arith, rest)
 
 pub count-without : (caller : ℕ) (xs : List Request) (place : ℕ) (r : Request) → entry_at xs place ≡ Some r
-    → count_asks caller xs ≡ is_ask caller r + count_asks caller (without xs place)
+    → count_asks caller xs ≡ is_ask caller r + count_asks caller (without_nth xs place)
 count-without caller [] place r is = cc is
 count-without caller (x ∷ xs) zero r is =
     ap (λ (o : Option Request). elim o [
@@ -101,7 +101,7 @@ each-entry P [] place r is all = cc is
 each-entry P (x ∷ xs) zero r is all = subst (λ (o : Option Request). IfSome o P) is all.0
 each-entry P (x ∷ xs) (suc place) r is all = each-entry P xs place r is all.1
 
-pub each-without : (P : Request → Type 0) (xs : List Request) (place : ℕ) → Each P xs → Each P (without xs place)
+pub each-without : (P : Request → Type 0) (xs : List Request) (place : ℕ) → Each P xs → Each P (without_nth xs place)
 each-without P [] place all = tt
 each-without P (x ∷ xs) zero all = all.1
 each-without P (x ∷ xs) (suc place) all = (all.0, each-without P xs place all.1)
@@ -327,30 +327,31 @@ module _ (s : Dimensions) (cut : ProcessId → Processes) (failed : Processes)
 
   -- what is left was waiting before
   pub taken-fewer : (p : ProcessId) (place caller : ℕ) (x : ProcessId)
-      → waits s cut requests (changed parked p (without (parked p) place)) caller x ≤ waits s cut requests parked caller
+      → waits s cut requests (changed parked p (without_nth (parked p) place)) caller x ≤ waits s cut requests parked caller
       x
   taken-fewer p place caller x = fewer caller x where
-    less : (caller : ℕ) (rs : List Request) (place : ℕ) → count_asks caller (without rs place) ≤ count_asks caller rs
+    less : (caller : ℕ) (rs : List Request) (place : ℕ) → count_asks caller (without_nth rs place) ≤ count_asks caller rs
     less caller [] place = omega arith
     less caller (r ∷ rs) zero = omega arith
     less caller (r ∷ rs) (suc place) = let rest = less caller rs place in omega (arith, rest)
 
-    park : (caller : ℕ) (z : ProcessId) → count_asks caller (changed parked p (without (parked p) place) z) ≤ count_asks caller (parked z)
+    park : (caller : ℕ) (z : ProcessId) → count_asks caller (changed parked p (without_nth (parked p) place) z) ≤ count_asks caller (parked z)
     park caller = changed-each (λ z rs. count_asks caller rs ≤ count_asks caller (parked z)) parked p
-        (without (parked p) place) (less caller (parked p) place) (λ z _. omega arith)
+        (without_nth (parked p) place) (less caller (parked p) place) (λ z _. omega arith)
 
-    fewer : (caller : ℕ) (x : ProcessId) → waits s cut requests (changed parked p (without (parked p) place)) caller x ≤ waits s cut requests parked caller x
+    fewer : (caller : ℕ) (x : ProcessId)
+        → waits s cut requests (changed parked p (without_nth (parked p) place)) caller x ≤ waits s cut requests parked caller x
     fewer caller x = let l = park caller x in omega (arith, l)
 
   -- a member takes one of the requests that it has read
-  pub placed-taken : (p : ProcessId) (place : ℕ) → Placed s cut failed requests (changed parked p (without (parked p) place)) asked
+  pub placed-taken : (p : ProcessId) (place : ℕ) → Placed s cut failed requests (changed parked p (without_nth (parked p) place)) asked
   placed-taken p place = record {
     owned = b.owned;
     lanes = b.lanes;
-    parks = changed-each (λ x rs. Living s failed x → Each (FitsAsked s asked) rs) parked p (without (parked p) place)
+    parks = changed-each (λ x rs. Living s failed x → Each (FitsAsked s asked) rs) parked p (without_nth (parked p) place)
         (λ lives. each-without (FitsAsked s asked) (parked p) place (b.parks p lives)) (λ x _. b.parks x);
     one = fewer-wait s failed (waits s cut requests parked)
-        (waits s cut requests (changed parked p (without (parked p) place)))
+        (waits s cut requests (changed parked p (without_nth (parked p) place)))
         (λ caller x _. taken-fewer p place caller x) b.one;
   }
 
@@ -364,7 +365,7 @@ module _ (s : Dimensions) (cut : ProcessId → Processes) (failed : Processes)
 
   -- where it is an ask, the caller has none left
   pub none-left : (p : ProcessId) (place caller call : ℕ) (op : Asked) → Living s failed p → entry_at (parked p) place ≡ Some (AskFor caller call op)
-      → (z : ProcessId) → Living s failed z → waits s cut requests (changed parked p (without (parked p) place)) caller z ≡ 0
+      → (z : ProcessId) → Living s failed z → waits s cut requests (changed parked p (without_nth (parked p) place)) caller z ≡ 0
   none-left p place caller call op lives is z zl = by (same-cases z p) where
     some : 0 < waits s cut requests parked caller p
     some =
@@ -372,18 +373,18 @@ module _ (s : Dimensions) (cut : ProcessId → Processes) (failed : Processes)
         let own = is_ask-own caller call op in
         omega (arith, all, own)
 
-    by : (z ≡ p) ⊎ (z ≢ p) → waits s cut requests (changed parked p (without (parked p) place)) caller z ≡ 0
+    by : (z ≡ p) ⊎ (z ≢ p) → waits s cut requests (changed parked p (without_nth (parked p) place)) caller z ≡ 0
     by (inl same) =
         let all = count-without caller (parked p) place (AskFor caller call op) is in
         let own = is_ask-own caller call op in
         let few = b.one.here caller p lives in
-        let here : count_asks caller (changed parked p (without (parked p) place) p)
-        ≡ count_asks caller (without (parked p) place) =
-        ap (count_asks caller) (changed-here parked p (without (parked p) place)) in
-        ap (λ (y : ProcessId). waits s cut requests (changed parked p (without (parked p) place)) caller y) same ∙ omega (arith, all, own, few, here)
+        let here : count_asks caller (changed parked p (without_nth (parked p) place) p)
+        ≡ count_asks caller (without_nth (parked p) place) =
+        ap (count_asks caller) (changed-here parked p (without_nth (parked p) place)) in
+        ap (λ (y : ProcessId). waits s cut requests (changed parked p (without_nth (parked p) place)) caller y) same ∙ omega (arith, all, own, few, here)
     by (inr other) =
-        let same : count_asks caller (changed parked p (without (parked p) place) z) ≡ count_asks caller (parked z) =
-        ap (count_asks caller) (changed-other parked p z (without (parked p) place) other) in
+        let same : count_asks caller (changed parked p (without_nth (parked p) place) z) ≡ count_asks caller (parked z) =
+        ap (count_asks caller) (changed-other parked p z (without_nth (parked p) place) other) in
         omega (arith, same, nothing)
       where
         nothing : waits s cut requests parked caller z ≤ 0

@@ -8,7 +8,7 @@ use Rattle.group_types.specs.Dimensions.{Dimensions}
 use Rattle.group_types.specs.declared.process.ProcessId.{ProcessId}
 use Rattle.memc_table.specs.Asked.{Asked}
 use Rattle.memc_table.specs.declared.reply.Reply.{Reply}
-use Rattle.group_calls.specs.Turns.{CallName, Turn, asks_in, asks_of, entry_of, log_of}
+use Rattle.group_calls.specs.Turns.{CallName, Turn, asks_in, asks_of, call_entry, log_of}
 use Rattle.group_calls.specs.Within.{Fetches, IsAsk, IsLoggedSince}
 use Rattle.group_calls.specs.declared.entry.Entry.{Entry}
 use Rattle.group_calls.specs.declared.event.Answer.{Answer}
@@ -196,8 +196,8 @@ module _ (c : Composed) (h : Whole c) (b : LearnedAt c) where
           place = length (log_of (take sol.made_it.place (turns_of c.group.shape (events_of c)))) + there.0;
           entry = ap (λ (l : List Entry). slice_get l (length (log_of (take sol.made_it.place (turns_of c.group.shape (events_of c)))) + there.0)) log.kept
               ∙ log-at (turns_of c.group.shape (events_of c)) sol.made_it.place found.0 there.0
-              (entry_of (record { caller = caller; call = o.position }) op reply) found.1 there.1
-              ∙ ap (λ (a : Asked). Some (entry_of (record { caller = caller; call = o.position }) a reply))
+              (call_entry (record { caller = caller; call = o.position }) op reply) found.1 there.1
+              ∙ ap (λ (a : Asked). Some (call_entry (record { caller = caller; call = o.position }) a reply))
               (asks sol.made_it.place sol.made_it.event op p sol.made_it.there is before);
           since =
               let first = log-rises (turns_of c.group.shape (events_of c)) (c.begun caller) sol.made_it.place
@@ -216,8 +216,8 @@ module _ (c : Composed) (h : Whole c) (b : LearnedAt c) where
                 ∙ sol.call_is;
           }
 
-          there : (i : ℕ) × (slice_get found.0.logged i ≡ Some (entry_of (record { caller = caller; call = o.position }) op reply))
-          there = contained-get found.0.logged (entry_of (record { caller = caller; call = o.position }) op reply)
+          there : (i : ℕ) × (slice_get found.0.logged i ≡ Some (call_entry (record { caller = caller; call = o.position }) op reply))
+          there = contained-get found.0.logged (call_entry (record { caller = caller; call = o.position }) op reply)
               (log.within.at_once sol.made_it.place found.0 (record { caller = caller; call = o.position }) op reply is-ask
               answer)
 
@@ -236,8 +236,8 @@ module _ (c : Composed) (h : Whole c) (b : LearnedAt c) where
               place = l.place;
               entry = ap (λ (log : List Entry). slice_get log l.place) log.kept
                   ∙ log-whole (turns_of c.group.shape (events_of c)) (sol.made_it.place + 1) l.place
-                  (entry_of (record { caller = caller; call = o.position }) l.op reply) l.entry
-                  ∙ ap (λ (a : Asked). Some (entry_of (record { caller = caller; call = o.position }) a reply)) (its-op l);
+                  (call_entry (record { caller = caller; call = o.position }) l.op reply) l.entry
+                  ∙ ap (λ (a : Asked). Some (call_entry (record { caller = caller; call = o.position }) a reply)) (its-op l);
               since =
                   let first = log-rises (turns_of c.group.shape (events_of c)) (c.begun caller) l.j
                   (since-begun caller o.position l.op l.j l.ask sol.since l.asked) in

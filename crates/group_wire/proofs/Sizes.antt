@@ -5,7 +5,7 @@ use Rattle.group_types.specs.Lists.{at}
 use Rattle.group_types.specs.Names.{process_at}
 use Rattle.group_types.specs.declared.process.ProcessId.TheVariants.{DataNode, ParityNode}
 use Rattle.group_types.proofs.Names.{process_at-index}
-use Rattle.membership.specs.Members.{count_dead, knows_dead}
+use Rattle.membership.specs.Members.{count_dead_words, knows_dead}
 use Rattle.group_wire.specs.Sizes.{SizesAreCounts}
 
 -- a word counts as one
@@ -14,7 +14,7 @@ counts word = if word then 1 else 0
 
 -- as many of a range, from here on
 abbrev counted : (ℕ → Bool) → ℕ → ℕ → ℕ
-counted f a n = count_dead (map f (range_with_len a n))
+counted f a n = count_dead_words (map f (range_with_len a n))
 
 -- a range is counted in two parts
 in-parts : (f : ℕ → Bool) (a n m : ℕ) → counted f a (n + m) ≡ counted f a n + counted f (a + n) m
@@ -33,14 +33,14 @@ in-parts f a (suc n) m =
     omega (arith, rest, long, moved)
 
 -- words of which none says dead
-none-dead : (words : List Bool) → ((i : ℕ) → at false words i ≡ true → i < 0) → count_dead words ≡ 0
+none-dead : (words : List Bool) → ((i : ℕ) → at false words i ≡ true → i < 0) → count_dead_words words ≡ 0
 none-dead [] none = refl
 none-dead (true ∷ words) none = absurd (omega (arith, none 0 refl))
 none-dead (false ∷ words) none = let rest = none-dead words (λ i dead. absurd (omega (arith, none (suc i) dead))) in omega (arith, rest)
 
 -- a range is counted by the words
 by-words : (f : ℕ → Bool) (words : List Bool) (a n : ℕ) → ((i : ℕ) → i < n → f (a + i) ≡ at false words i) → ((i : ℕ) → at false words i ≡ true → i < n)
-    → count_dead (map f (range_with_len a n)) ≡ count_dead words
+    → count_dead_words (map f (range_with_len a n)) ≡ count_dead_words words
 by-words f [] a zero same within = refl
 by-words f [] a (suc n) same within =
     let here : counts (f a) ≡ 0 = ap counts (ap f (omega arith) ∙ same 0 (omega arith)) in

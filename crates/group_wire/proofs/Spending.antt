@@ -25,7 +25,7 @@ use Rattle.group_wire.specs.Composed.{AreActions, AreActionsFrom, Composed, Made
 use Rattle.group_wire.specs.Composed.{composed_from, composed_with, events_of, failures_at, given_up, lost_ask, made_by}
 use Rattle.group_wire.specs.Composed.{message_made, opening_composed, request_made, stands_if}
 use Rattle.group_wire.specs.May.{MayAct}
-use Rattle.group_wire.specs.Sets.{Processes, changed, changed_at, either, one_or, without}
+use Rattle.group_wire.specs.Sets.{Processes, changed, changed_at, either, one_or, without_nth}
 use Rattle.group_wire.specs.State.{Request, AskFor, TraceOf, Told, Stage, Unasked, AskedOf, Unknown, TracedAt, Answered, OpenCall, Gateways, Group, gateway_of}
 use Rattle.group_wire.specs.Sending.{parked_at, sent_on, treating}
 use Rattle.group_wire.specs.Serving.{again, handed_to, if_open, learned_first, read_first, request_treated, sends_by, stage_given_up, staged, tell, told_of}
@@ -89,7 +89,7 @@ module _ (c : Composed) (h : Whole c) (l : LearnedAt c) (w : WantedAt c) (b : Sp
       spent-tell c.group c.failed c.lived
       (record c.group.gateways {
         parked = changed c.group.gateways.parked p
-            (without (c.group.gateways.parked p) place);
+            (without_nth (c.group.gateways.parked p) place);
       }) (c.made ++ []) c.first p
       (told_of r (treating c.group.shape r (c.group.works.process p)).answer) (λ lives. cc (lives.1, lost))
       (spent-taken c.group.shape c.failed c.lived c.group.gateways (c.made ++ []) c.first still p place)
@@ -105,7 +105,7 @@ module _ (c : Composed) (h : Whole c) (l : LearnedAt c) (w : WantedAt c) (b : Sp
       spent-tell c.group c.failed c.lived
       (record c.group.gateways {
         parked = changed c.group.gateways.parked p
-            (without (c.group.gateways.parked p) place);
+            (without_nth (c.group.gateways.parked p) place);
       }) (c.made ++ x ∷ []) c.first p
       (told_of (AskFor caller call op)
       (treating c.group.shape (AskFor caller call op) (c.group.works.process p)).answer)
@@ -123,7 +123,7 @@ module _ (c : Composed) (h : Whole c) (l : LearnedAt c) (w : WantedAt c) (b : Sp
       spent-tell c.group c.failed c.lived
       (record c.group.gateways {
         parked = changed c.group.gateways.parked p
-            (without (c.group.gateways.parked p) place);
+            (without_nth (c.group.gateways.parked p) place);
       }) (c.made ++ x ∷ []) c.first p
       (told_of (TraceOf caller call d)
       (treating c.group.shape (TraceOf caller call d) (c.group.works.process p)).answer)

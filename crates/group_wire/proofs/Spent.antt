@@ -11,7 +11,7 @@ use Rattle.memc_table.specs.declared.reply.Reply.{Reply}
 use Rattle.group_calls.specs.declared.event.Answer.{Answer}
 use Rattle.group_calls.specs.declared.event.Answer.TheVariants as says
 use Rattle.group_wire.specs.Composed.{Made}
-use Rattle.group_wire.specs.Sets.{Processes, changed, changed_at, changed_from, one_or, without}
+use Rattle.group_wire.specs.Sets.{Processes, changed, changed_at, changed_from, one_or, without_nth}
 use Rattle.group_wire.specs.State.{Request, AskFor, TraceOf, Told, Stage, Unasked, AskedOf, Unknown, TracedAt, Answered, OpenCall, Gateways, gateway_of}
 use Rattle.group_wire.specs.Sending.{sent_on}
 use Rattle.group_wire.specs.Serving.{call_learned, stage_learned, stage_told}
@@ -202,10 +202,10 @@ module _ (s : Dimensions) (failed : Processes) (lived : ProcessId → ℕ) (gw :
     all = subst (Each (Sound s failed made gw.next)) is (b.lanes g p)
 
   -- it takes one that it has read
-  pub spent-taken : (p : ProcessId) (place : ℕ) → Spent s failed lived (record gw { parked = changed gw.parked p (without (gw.parked p) place) }) made first
+  pub spent-taken : (p : ProcessId) (place : ℕ) → Spent s failed lived (record gw { parked = changed gw.parked p (without_nth (gw.parked p) place) }) made first
   spent-taken p place = record {
     lanes = b.lanes;
-    parks = changed-each (λ x rs. Each (Sound s failed made gw.next) rs) gw.parked p (without (gw.parked p) place)
+    parks = changed-each (λ x rs. Each (Sound s failed made gw.next) rs) gw.parked p (without_nth (gw.parked p) place)
         (each-without (Sound s failed made gw.next) (gw.parked p) place (b.parks p)) (λ x _. b.parks x);
     told = b.told;
     asked = b.asked;

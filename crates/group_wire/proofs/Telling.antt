@@ -21,7 +21,7 @@ use Rattle.group_wire.specs.Composed.{AreActions, AreActionsFrom, Composed, Made
 use Rattle.group_wire.specs.Composed.{composed_with, failures_at, made_by, opening_composed, request_event}
 use Rattle.group_wire.specs.Composed.{request_made, stands_if}
 use Rattle.group_wire.specs.May.{MayAct}
-use Rattle.group_wire.specs.Sets.{Processes, changed, changed_at, changed_from, either, one_or, without}
+use Rattle.group_wire.specs.Sets.{Processes, changed, changed_at, changed_from, either, one_or, without_nth}
 use Rattle.group_wire.specs.Shown.{IsOfCall, WasMade}
 use Rattle.group_wire.specs.State.{Request, AskFor, TraceOf, Told, Stage, Unasked, AskedOf, Unknown, TracedAt, Answered, OpenCall, Gateways, Group, gateway_of}
 use Rattle.group_wire.specs.Sending.{parked_at, sent_on, treating}
@@ -133,14 +133,14 @@ module _ (c : Composed) (h : Whole c) (b : LearnedAt c) where
       p _ (told_of r (treating c.group.shape r (c.group.works.process p)).answer) (λ lives. cc (lives.1, lost))
       (learned-requests c.group.shape c.failed c.lived c.group.signs.pinged c.group.gateways (c.made ++ []) c.begun
       (more []) c.group.gateways.requests
-      (changed c.group.gateways.parked p (without (c.group.gateways.parked p) place)))
+      (changed c.group.gateways.parked p (without_nth (c.group.gateways.parked p) place)))
   treats p place (Some r) false pin is lives =
       let x : Made = record { event = request_event r p; answer = (treating c.group.shape r (c.group.works.process p)).answer } in
       tells c.group c.failed c.lived c.group.signs.pinged (c.made ++ x ∷ []) c.begun p _
       (told_of r (treating c.group.shape r (c.group.works.process p)).answer) (λ _. told-made c.made x r p refl fits)
       (learned-requests c.group.shape c.failed c.lived c.group.signs.pinged c.group.gateways (c.made ++ x ∷ []) c.begun
       (more (x ∷ [])) c.group.gateways.requests
-      (changed c.group.gateways.parked p (without (c.group.gateways.parked p) place)))
+      (changed c.group.gateways.parked p (without_nth (c.group.gateways.parked p) place)))
     where
       fits : (caller call : ℕ) (op : Asked) → r ≡ AskFor caller call op → call ≡ asked_by c.made caller
       fits caller call op same =

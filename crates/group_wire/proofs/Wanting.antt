@@ -12,7 +12,7 @@ use Rattle.group_calls.specs.Turns.{asks_in}
 use Rattle.group_calls.specs.declared.event.Event.TheVariants as event
 use Rattle.law_log.proofs.Turnings.{asks-self}
 use Rattle.group_wire.specs.Composed.{Made, asks_among}
-use Rattle.group_wire.specs.Sets.{Processes, changed, changed_from, one_or, without}
+use Rattle.group_wire.specs.Sets.{Processes, changed, changed_from, one_or, without_nth}
 use Rattle.group_wire.specs.Shown.{events_before}
 use Rattle.group_wire.specs.State.{Request, AskFor, TraceOf, OpenCall, Gateways, gateway_of}
 use Rattle.group_wire.proofs.Answering.{take-all, take-front}
@@ -169,10 +169,10 @@ module _ (s : Dimensions) (cut : ProcessId → Processes) (failed : Processes)
     all : Living s failed p → Each (Right s failed want) (r ∷ rest)
     all lives = subst (Each (Right s failed want)) is (b.lanes g p lives uncut)
 
-  pub rights-taken : (p : ProcessId) (place : ℕ) → Rights s cut failed requests (changed parked p (without (parked p) place)) want
+  pub rights-taken : (p : ProcessId) (place : ℕ) → Rights s cut failed requests (changed parked p (without_nth (parked p) place)) want
   rights-taken p place = record {
     lanes = b.lanes;
-    parks = changed-each (λ x rs. Living s failed x → Each (Right s failed want) rs) parked p (without (parked p) place)
+    parks = changed-each (λ x rs. Living s failed x → Each (Right s failed want) rs) parked p (without_nth (parked p) place)
         (λ lives. each-without (Right s failed want) (parked p) place (b.parks p lives)) (λ x _. b.parks x);
   }
 

@@ -11,14 +11,14 @@ use Rattle.group_run.specs.Asking.{ask_process}
 use Rattle.group_wire.specs.Actions.{Action, Begin, Show, LetGo, Stop}
 use Rattle.group_wire.specs.Composed.{AreActions, Composed, composed}
 use Rattle.group_wire.specs.May.{IsCaller, IsHere, MayAct}
-use Rattle.group_wire.specs.Sets.{IsWithin, Processes, size_of}
+use Rattle.group_wire.specs.Sets.{IsSubset, Processes, size_of}
 use Rattle.group_wire.specs.Shown.{Shows}
 use Rattle.group_wire.specs.State.{Group, OpenCall, Told, Unasked, gateway_of}
 
 -- all that were ever cut are named, which are at most m, and every other member is here
 pub record OthersAreHere (g : Group) (named : Processes) : Type 0 where
   pub few : size_of g.shape named ≤ g.shape.m
-  pub cut : (q : ProcessId) → IsWithin (g.words.cut q) named
+  pub cut : (q : ProcessId) → IsSubset (g.words.cut q) named
   pub here : (q : ProcessId) → IsProcess g.shape q → named q ≡ false → IsHere g q
 
 -- every other member has taken the deaths of all that are named

@@ -6,13 +6,13 @@ use Rattle.group_types.specs.declared.process.ProcessId.{ProcessId}
 use Rattle.group_wire.specs.Actions.{Action, Permit, Show}
 use Rattle.group_wire.specs.Composed.{AreActions, Composed, composed, composed_with}
 use Rattle.group_wire.specs.May.{MayAct}
-use Rattle.group_wire.specs.Sets.{IsWithin, Processes, size_of}
+use Rattle.group_wire.specs.Sets.{IsSubset, Processes, size_of}
 use Rattle.group_wire.specs.State.{Group, gateway_of}
 
 -- the barrier: at most m have failed, and each member that hasn't failed has cut all that have
 pub record IsBarred (c : Composed) : Type 0 where
   pub few : size_of c.group.shape c.failed ≤ c.group.shape.m
-  pub cut : (r : ProcessId) → IsProcess c.group.shape r → c.failed r ≡ false → IsWithin c.failed (c.group.words.cut r)
+  pub cut : (r : ProcessId) → IsProcess c.group.shape r → c.failed r ≡ false → IsSubset c.failed (c.group.words.cut r)
 
 abbrev pub BarrierAlways : Type 0
 BarrierAlways = (s : Dimensions) (actions : List Action) → AreActions s actions → IsBarred (composed s actions)
@@ -44,4 +44,4 @@ MoreDataThanParity = (s : Dimensions) (actions : List Action) → AreActions s a
 -- and where all that are ever cut are among m
 abbrev pub FewAreNamed : Type 0
 FewAreNamed = (s : Dimensions) (actions : List Action) (named : Processes) → AreActions s actions → size_of s named ≤ s.m
-    → ((p : ProcessId) → IsWithin ((composed s actions).group.words.cut p) named) → NoTwoHoldAll (composed s actions).group
+    → ((p : ProcessId) → IsSubset ((composed s actions).group.words.cut p) named) → NoTwoHoldAll (composed s actions).group

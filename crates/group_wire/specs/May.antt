@@ -3,9 +3,9 @@ use Rattle.std.specs.Prelude.{ℕ, ◌≡◌, ◌≢◌, ◌<◌, ◌≤◌, ◌
 use Rattle.group_types.specs.Dimensions.{callers}
 use Rattle.group_types.specs.Names.{IsProcess}
 use Rattle.group_types.specs.declared.process.ProcessId.{ProcessId}
-use Rattle.memc_table.specs.Act.{value_of}
+use Rattle.memc_table.specs.Act.{act_value}
 use Rattle.group_wire.specs.Actions.{Action, Begin, Send, Read, Treat, Collect, Flush, Learn, Receive, GiveUp, Cut, Say, Hear, Permit, Take, Ping, Pong, Count, Show, LetGo, Stop}
-use Rattle.group_wire.specs.Sets.{IsWithin, Processes, size_of, with_one}
+use Rattle.group_wire.specs.Sets.{IsSubset, Processes, size_of, with_one}
 use Rattle.group_wire.specs.State.{Stage, AskedOf, TracedAt, Answered, OpenCall, Group, gateway_of}
 
 -- a member of the group whose program runs
@@ -47,7 +47,7 @@ pub record WaitsForDead (g : Group) (caller : ℕ) : Type 0 where
 
 -- each member that p hasn't cut has said a set to p that has all that p has cut
 abbrev pub AllHaveSaid : Group → ProcessId → Type 0
-AllHaveSaid g p = (r : ProcessId) → IsProcess g.shape r → r ≢ p → g.words.cut p r ≡ false → IsWithin (g.words.cut p) (g.words.heard p r)
+AllHaveSaid g p = (r : ProcessId) → IsProcess g.shape r → r ≢ p → g.words.cut p r ≡ false → IsSubset (g.words.cut p) (g.words.heard p r)
 
 -- who answered a ping, but for those whose deaths were taken
 abbrev pub answerers : Group → ProcessId → ℕ → Processes
@@ -71,7 +71,7 @@ pub record MayShow (g : Group) (caller ping : ℕ) : Type 0 where
 
 -- an action may come
 abbrev pub MayAct : Group → Action → Type 0
-MayAct g (Begin caller op) = IsCaller g caller × (g.gateways.call caller ≡ None) × All (λ b. b < 256) (value_of op.act)
+MayAct g (Begin caller op) = IsCaller g caller × (g.gateways.call caller ≡ None) × All (λ b. b < 256) (act_value op.act)
 MayAct g (Send caller x) = IsCaller g caller × IsProcess g.shape x
 MayAct g (Read x p) = MayRead g x p
 MayAct g (Treat p place) = IsHere g p

@@ -4,7 +4,7 @@ use Rattle.group_types.specs.Dimensions.{Dimensions}
 use Rattle.group_types.specs.Each.{Each}
 use Rattle.group_types.specs.Names.{IsProcess}
 use Rattle.group_types.specs.declared.process.ProcessId.{ProcessId}
-use Rattle.membership.specs.Members.{lost_of, with_dead}
+use Rattle.membership.specs.Members.{count_known_dead, with_dead}
 use Rattle.group_message.specs.declared.message.Message.{Message}
 use Rattle.group_message.specs.declared.message.Message.TheVariants as tells
 use Rattle.group_run.specs.Fitting.{Fits}
@@ -18,7 +18,7 @@ use Rattle.group_wire.specs.May.{MayAct}
 
 -- by a notice a process learns of no more than m dead, and a mark for a session of its own is for one that it has started
 abbrev pub IsOfGroupUp : Dimensions → Message → Process → Type 0
-IsOfGroupUp s (tells.Notice dead) p = lost_of (with_dead p.known dead) ≤ s.m
+IsOfGroupUp s (tells.Notice dead) p = count_known_dead (with_dead p.known dead) ≤ s.m
 IsOfGroupUp s (tells.Mark session r block d n) p = parity_number session.leader ≡ parity_number p.name → session.number ≤ p.as_leader.last_session
 IsOfGroupUp s _ p = ⊤
 

@@ -41,13 +41,13 @@ abbrev pub op : Act → Asked
 op a = record { moment = 0; act = a }
 
 -- what an action shows: the caller, and the answer
-abbrev pub answer_at : ℕ → Stage → List (ℕ × Answer)
-answer_at caller (Answered t pinged) = (caller, t.answer) ∷ []
-answer_at caller _ = []
+abbrev pub answer_shown : ℕ → Stage → List (ℕ × Answer)
+answer_shown caller (Answered t pinged) = (caller, t.answer) ∷ []
+answer_shown caller _ = []
 
 abbrev pub answer_of : ℕ → Option OpenCall → List (ℕ × Answer)
 answer_of caller None = []
-answer_of caller (Some o) = answer_at caller o.stage
+answer_of caller (Some o) = answer_shown caller o.stage
 
 abbrev pub shown_by : Composed → Action → List (ℕ × Answer)
 shown_by c (Show caller ping) = answer_of caller (c.group.gateways.call caller)
@@ -62,7 +62,7 @@ abbrev pub lost_at : Composed → List ProcessId
 lost_at c = filter c.failed (map (process_at c.group.shape) (range_with_len 0 (c.group.shape.k + c.group.shape.m)))
 
 -- a schedule, of actions that may come: the answers of the events that it makes, what it shows, and who has failed in the end
-pub record Row (s : Dimensions) (actions : List Action) (answers : List Answer) (shown : List (ℕ × Answer)) (lost : List ProcessId) : Type 0 where
+pub record ScheduleRow (s : Dimensions) (actions : List Action) (answers : List Answer) (shown : List (ℕ × Answer)) (lost : List ProcessId) : Type 0 where
   pub may : AreActions s actions
   pub answered : map (λ x. x.answer) (composed s actions).made ≡ answers
   pub same : map (λ t. t.answer) (turns_of s (events_of (composed s actions))) ≡ answers
@@ -83,26 +83,26 @@ kind_of (tells.Cease _) = 9
 kind_of (tells.Notice _) = 10
 
 -- the action at a place of a schedule may not come, while all those before it may
-pub record Refuses (s : Dimensions) (actions : List Action) (place : ℕ) (wrong : Action) : Type 0 where
+pub record RefusesAction (s : Dimensions) (actions : List Action) (place : ℕ) (wrong : Action) : Type 0 where
   pub there : slice_get actions place ≡ Some wrong
   pub before : AreActions s (take place actions)
   pub refused : ¬ (MayAct (composed s (take place actions)).group wrong)
 
 -- a schedule that doesn't compose: the machine answers other than the members
 pub record BreaksAnswers (s : Dimensions) (actions : List Action) (place : ℕ) (wrong : Action) (members machine : List Answer) : Type 0 where
-  pub refuses : Refuses s actions place wrong
+  pub refuses : RefusesAction s actions place wrong
   pub here : map (λ x. x.answer) (composed s actions).made ≡ members
   pub there : map (λ t. t.answer) (turns_of s (events_of (composed s actions))) ≡ machine
 
 -- one that shows what isn't in the log: the callers whose answers were shown, and those of the entries
 pub record BreaksShown (s : Dimensions) (actions : List Action) (place : ℕ) (wrong : Action) (shown : List (ℕ × Answer)) (logged : List ℕ) : Type 0 where
-  pub refuses : Refuses s actions place wrong
+  pub refuses : RefusesAction s actions place wrong
   pub shows : shown_from (opening_composed s) actions ≡ shown
   pub log : map (λ e. e.caller) (machine (composed s actions)).log ≡ logged
 
 -- one in which a wire has other messages than the machine's link
 pub record BreaksLink (s : Dimensions) (actions : List Action) (place : ℕ) (wrong : Action) (x p : ProcessId) (wire linked : List ℕ) : Type 0 where
-  pub refuses : Refuses s actions place wrong
+  pub refuses : RefusesAction s actions place wrong
   pub here : map kind_of ((composed s actions).group.works.messages x p) ≡ wire
   pub there : map kind_of (link (machine (composed s actions)) x p) ≡ linked
 

@@ -6,7 +6,7 @@ use Rattle.group_calls.specs.declared.event.Answer.TheVariants as says
 use Rattle.group_calls.specs.declared.event.Cause.TheVariants as cause
 use Rattle.group_run.specs.Heading.{partition}
 use Rattle.group_wire.specs.Actions.{Action, Begin, Send, Read, Treat, Collect, Flush, Learn, Receive, GiveUp, Cut, Say, Hear, Permit, Take, Ping, Pong, Count, Show, Stop}
-use Rattle.group_wire.specs.Rows.{Row, d0, d1, op, p0, p1, small}
+use Rattle.group_wire.specs.Rows.{ScheduleRow, d0, d1, op, p0, p1, small}
 use Rattle.group_wire.specs.Sets.{everybody}
 
 -- Nobody fails: calls at each gateway, each shown after its pongs.
@@ -20,7 +20,7 @@ nobody_fails_actions =
     Count d0 p0 ∷ Show 170 1 ∷ Pong p0 d1 ∷ Count d1 p0 ∷ Pong d1 d0 ∷ Count p0 d1 ∷ Show 85 0 ∷ Count p0 d0 ∷ Show 1 1 ∷ Pong d0 d1 ∷ Count d0 d1 ∷ []
 
 abbrev pub NobodyFails : Type 0
-NobodyFails = Row (small 2 1) nobody_fails_actions
+NobodyFails = ScheduleRow (small 2 1) nobody_fails_actions
     (says.Reply reply.Miss ∷ says.Reply reply.NotStored ∷ says.Reply reply.NotFound ∷ says.Reply reply.Miss ∷ says.Reply reply.Miss ∷ [])
     ((170, says.Reply reply.Miss) ∷ (1, says.Reply reply.NotStored) ∷ (170, says.Reply reply.NotFound) ∷ (85, says.Reply reply.Miss) ∷
     (1, says.Reply reply.Miss) ∷ [])
@@ -36,7 +36,7 @@ two_parities_nobody_fails_actions =
     Begin 171 (op (act.Set (113 ∷ 48 ∷ []) 5 (pos 0) (51 ∷ 49 ∷ 50 ∷ []))) ∷ Send 171 d0 ∷ Count p0 p1 ∷ Count d0 p1 ∷ Show 170 1 ∷ Read p1 d0 ∷ []
 
 abbrev pub TwoParitiesNobodyFails : Type 0
-TwoParitiesNobodyFails = Row (small 1 2) two_parities_nobody_fails_actions
+TwoParitiesNobodyFails = ScheduleRow (small 1 2) two_parities_nobody_fails_actions
     (says.Reply reply.NotStored ∷ says.Reply reply.Miss ∷ says.Reply reply.NotFound ∷ [])
     ((1, says.Reply reply.NotStored) ∷ (170, says.Reply reply.Miss) ∷ (170, says.Reply reply.NotFound) ∷ [])
     ([])
@@ -54,7 +54,7 @@ a_head_fails_actions =
     Begin 0 (op (act.Set (113 ∷ 48 ∷ []) 5 (pos 0) (50 ∷ 51 ∷ 50 ∷ []))) ∷ Send 0 d0 ∷ Read d0 d0 ∷ Treat d0 0 ∷ Flush d0 ∷ []
 
 abbrev pub AHeadFails : Type 0
-AHeadFails = Row (small 1 1) a_head_fails_actions
+AHeadFails = ScheduleRow (small 1 1) a_head_fails_actions
     (says.Reply reply.NotFound ∷ says.Done ∷ says.Reply reply.Miss ∷ says.Reply reply.Miss ∷ says.Ticket 1 ∷ says.Reply reply.NotFound ∷ says.Done ∷
     says.Done ∷ says.Gone ∷ says.Reply reply.NotFound ∷ says.Retry (cause.Block 0) ∷ [])
     ((0, says.Reply reply.NotFound) ∷ (1, says.Reply reply.Miss) ∷ (129, says.Reply reply.Miss) ∷ (129, says.Reply reply.NotFound) ∷ [])
@@ -78,7 +78,7 @@ a_parity_fails_actions =
     Show 0 7 ∷ Send 1 d0 ∷ Read d0 d0 ∷ Treat d0 0 ∷ Learn d0 d0 ∷ Ping everybody d0 ∷ Show 1 8 ∷ []
 
 abbrev pub AParityFails : Type 0
-AParityFails = Row (small 1 1) a_parity_fails_actions
+AParityFails = ScheduleRow (small 1 1) a_parity_fails_actions
     (says.Reply reply.NotFound ∷ says.Ticket 1 ∷ says.Done ∷ says.Done ∷ says.Reply reply.Stored ∷ says.Ticket 2 ∷ says.Done ∷ says.Ticket 3 ∷ says.Done ∷
     says.Done ∷ says.Reply reply.Stored ∷ says.Done ∷ says.Reply reply.Stored ∷ says.Ticket 4 ∷ says.Retry (cause.Pending (partition 0) 4) ∷ says.Done ∷
     says.Done ∷ says.Reply reply.Stored ∷ says.Reply (reply.Value (record { flags = 5; cas = 2; value = (49 ∷ 48 ∷ []) })) ∷ says.Reply reply.Stored ∷
@@ -108,7 +108,7 @@ traced_at_the_next_head_actions =
     Treat p0 0 ∷ Learn p0 p0 ∷ Send 171 p0 ∷ Read p1 p0 ∷ Treat p0 0 ∷ Receive p0 p1 ∷ []
 
 abbrev pub TracedAtTheNextHead : Type 0
-TracedAtTheNextHead = Row (small 1 2) traced_at_the_next_head_actions
+TracedAtTheNextHead = ScheduleRow (small 1 2) traced_at_the_next_head_actions
     (says.Ticket 1 ∷ says.Done ∷ says.Reply reply.NotStored ∷ says.Done ∷ says.Ticket 2 ∷ says.Done ∷ says.Done ∷ says.Ticket 3 ∷ says.Done ∷
     says.Retry (cause.Pending (partition 0) 1) ∷ says.Done ∷ says.Done ∷ says.Lost ∷ says.Done ∷ says.NotYet ∷ says.NotYet ∷ says.NotYet ∷ says.Done ∷
     says.NotYet ∷ says.NotYet ∷ says.Retry (cause.Pending (partition 0) 2) ∷ says.NotYet ∷ says.NotYet ∷ says.Retry (cause.Pending (partition 0) 2) ∷

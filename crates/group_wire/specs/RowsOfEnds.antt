@@ -6,7 +6,7 @@ use Rattle.group_calls.specs.declared.event.Answer.TheVariants as says
 use Rattle.group_calls.specs.declared.event.Cause.TheVariants as cause
 use Rattle.group_run.specs.Heading.{partition}
 use Rattle.group_wire.specs.Actions.{Action, Begin, Send, Read, Treat, Collect, Flush, Learn, Receive, GiveUp, Cut, Say, Hear, Permit, Take, Ping, Pong, Count, Show, Stop}
-use Rattle.group_wire.specs.Rows.{Row, d0, d1, op, p0, p1, small}
+use Rattle.group_wire.specs.Rows.{ScheduleRow, d0, d1, op, p0, p1, small}
 use Rattle.group_wire.specs.Sets.{everybody}
 
 -- Two fail, one after the other.
@@ -25,7 +25,7 @@ two_fail_one_by_one_actions =
     Send 85 p0 ∷ Read p0 p0 ∷ Treat p0 0 ∷ Learn p0 p0 ∷ []
 
 abbrev pub TwoFailOneByOne : Type 0
-TwoFailOneByOne = Row (small 1 2) two_fail_one_by_one_actions
+TwoFailOneByOne = ScheduleRow (small 1 2) two_fail_one_by_one_actions
     (says.Done ∷ says.Ticket 1 ∷ says.Done ∷ says.Ticket 2 ∷ says.Done ∷ says.Done ∷ says.Done ∷ says.Done ∷ says.Reply reply.Stored ∷ says.Done ∷
     says.Done ∷ says.Retry (cause.Pending (partition 0) 2) ∷ says.Done ∷ says.Reply reply.Stored ∷ says.Ticket 3 ∷
     says.Retry (cause.Pending (partition 0) 3) ∷ says.Done ∷ says.Retry (cause.Pending (partition 0) 3) ∷ says.Done ∷ says.Done ∷ says.Done ∷ says.Done ∷
@@ -49,7 +49,7 @@ programs_end_actions =
     Begin 0 (op (act.Get (113 ∷ 48 ∷ []))) ∷ Send 0 d0 ∷ Read d0 d0 ∷ Treat d0 0 ∷ Learn d0 d0 ∷ Ping everybody d0 ∷ Show 0 8 ∷ []
 
 abbrev pub ProgramsEnd : Type 0
-ProgramsEnd = Row (small 1 1) programs_end_actions
+ProgramsEnd = ScheduleRow (small 1 1) programs_end_actions
     (says.Ticket 1 ∷ says.Done ∷ says.Ticket 2 ∷ says.Retry (cause.Pending (partition 0) 2) ∷ says.Retry (cause.Pending (partition 0) 1) ∷ says.Done ∷
     says.Reply reply.Stored ∷ says.Done ∷ says.Done ∷ says.Done ∷ says.Reply reply.Stored ∷
     says.Reply (reply.Value (record { flags = 0; cas = 1; value = (48 ∷ 50 ∷ []) })) ∷ says.Reply (reply.Number 239) ∷ says.Reply reply.Stored ∷
@@ -78,7 +78,7 @@ kept_of_a_failed_gateway_actions =
     Pong p0 d1 ∷ Permit d1 ∷ Take d0 d1 ∷ GiveUp 85 ∷ GiveUp 86 ∷ Count d1 p0 ∷ Treat d1 0 ∷ []
 
 abbrev pub KeptOfAFailedGateway : Type 0
-KeptOfAFailedGateway = Row (small 2 1) kept_of_a_failed_gateway_actions
+KeptOfAFailedGateway = ScheduleRow (small 2 1) kept_of_a_failed_gateway_actions
     (says.Ticket 1 ∷ says.Reply reply.NotStored ∷ says.Done ∷ says.Done ∷ says.Reply reply.Stored ∷ says.Reply reply.Miss ∷
     says.Reply (reply.Value (record { flags = 0; cas = 1; value = (51 ∷ 50 ∷ []) })) ∷ says.Reply reply.Miss ∷ says.Ticket 1 ∷ says.Reply reply.Miss ∷
     says.Done ∷ says.Done ∷ says.Lost ∷ says.Reply reply.Miss ∷ says.Done ∷ says.Ticket 2 ∷ [])

@@ -6,7 +6,7 @@ use Rattle.group_calls.specs.declared.event.Answer.TheVariants as says
 use Rattle.group_calls.specs.declared.event.Cause.TheVariants as cause
 use Rattle.group_run.specs.Heading.{partition}
 use Rattle.group_wire.specs.Actions.{Action, Begin, Send, Read, Treat, Collect, Flush, Learn, Receive, GiveUp, Cut, Say, Hear, Permit, Take, Ping, Pong, Count, Show, Stop}
-use Rattle.group_wire.specs.Rows.{Row, d0, d1, d2, op, p0, p1, small}
+use Rattle.group_wire.specs.Rows.{ScheduleRow, d0, d1, d2, op, p0, p1, small}
 use Rattle.group_wire.specs.Sets.{everybody}
 
 -- Two fail by one permitted set.
@@ -18,7 +18,7 @@ two_fail_at_once_actions =
     Begin 171 (op (act.Set (113 ∷ 49 ∷ []) 0 (pos 0) (51 ∷ 50 ∷ []))) ∷ Send 171 d0 ∷ Cut d0 p1 ∷ Cut d0 p0 ∷ Cut p1 p0 ∷ Say p0 ∷ Permit p0 ∷ Flush p1 ∷ []
 
 abbrev pub TwoFailAtOnce : Type 0
-TwoFailAtOnce = Row (small 1 2) two_fail_at_once_actions
+TwoFailAtOnce = ScheduleRow (small 1 2) two_fail_at_once_actions
     (says.Ticket 1 ∷ says.Reply reply.Miss ∷ says.Done ∷ says.Done ∷ says.Done ∷ [])
     ([])
     (d0 ∷ p1 ∷ [])
@@ -36,7 +36,7 @@ both_heads_fail_actions =
     Permit p1 ∷ []
 
 abbrev pub BothHeadsFail : Type 0
-BothHeadsFail = Row (small 2 2) both_heads_fail_actions
+BothHeadsFail = ScheduleRow (small 2 2) both_heads_fail_actions
     (says.Reply reply.Miss ∷ says.Done ∷ says.Done ∷ says.Done ∷ says.Done ∷ says.Done ∷ says.Lost ∷ says.Lost ∷ says.Done ∷ says.Done ∷
     says.Reply reply.Miss ∷ says.Done ∷ [])
     ((129, says.Reply reply.Miss) ∷ (128, says.Reply reply.Miss) ∷ [])
@@ -62,7 +62,7 @@ nobody_is_dead_actions =
     Send 205 p0 ∷ Read p1 p0 ∷ Treat p0 0 ∷ []
 
 abbrev pub NobodyIsDead : Type 0
-NobodyIsDead = Row (small 3 2) nobody_is_dead_actions
+NobodyIsDead = ScheduleRow (small 3 2) nobody_is_dead_actions
     (says.Reply reply.NotFound ∷ says.Reply reply.NotStored ∷ says.Ticket 1 ∷ says.Done ∷ says.Reply reply.Miss ∷ says.Done ∷ says.Reply reply.Miss ∷
     says.Done ∷ says.Done ∷ says.Done ∷ says.Done ∷ says.Done ∷ says.Done ∷ says.Done ∷ says.Lost ∷ says.Done ∷ says.Done ∷ says.Done ∷ says.Done ∷
     says.Lost ∷ says.Done ∷ says.Gone ∷ says.Gone ∷ says.Gone ∷ [])
@@ -94,7 +94,7 @@ heads_are_condemned_actions =
     Send 170 d1 ∷ Count p0 d1 ∷ Read d1 p0 ∷ Treat p0 0 ∷ Pong p0 d1 ∷ Count p0 d1 ∷ Flush p0 ∷ Pong d1 p0 ∷ []
 
 abbrev pub HeadsAreCondemned : Type 0
-HeadsAreCondemned = Row (small 2 1) heads_are_condemned_actions
+HeadsAreCondemned = ScheduleRow (small 2 1) heads_are_condemned_actions
     (says.Ticket 1 ∷ says.Reply reply.Miss ∷ says.Ticket 1 ∷ says.Retry (cause.Pending (partition 0) 1) ∷ says.Done ∷
     says.Retry (cause.Pending (partition 0) 1) ∷ says.Ticket 2 ∷ says.Done ∷ says.Retry (cause.Pending (partition 0) 2) ∷ says.Done ∷
     says.Reply reply.Stored ∷ says.Done ∷ says.Ticket 3 ∷ says.Done ∷ says.Reply reply.Stored ∷ says.Done ∷ says.Retry (cause.Pending (partition 0) 3) ∷

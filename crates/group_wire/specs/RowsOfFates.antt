@@ -5,7 +5,7 @@ use Rattle.memc_table.specs.declared.reply.Reply.TheVariants as reply
 use Rattle.group_calls.specs.declared.event.Answer.TheVariants as says
 use Rattle.group_calls.specs.declared.event.Cause.TheVariants as cause
 use Rattle.group_wire.specs.Actions.{Action, Begin, Send, Read, Treat, Collect, Flush, Learn, Receive, GiveUp, Cut, Say, Hear, Permit, Take, Ping, Pong, Count, Show}
-use Rattle.group_wire.specs.Rows.{Row, d0, d1, op, p0, small}
+use Rattle.group_wire.specs.Rows.{ScheduleRow, d0, d1, op, p0, small}
 use Rattle.group_wire.specs.Sets.{everybody}
 
 -- A change that the next head has nothing of is asked again under the next position.
@@ -24,7 +24,7 @@ gone_and_asked_again_actions =
     Show 0 2 ∷ Pong d0 p0 ∷ Count p0 d0 ∷ []
 
 abbrev pub GoneAndAskedAgain : Type 0
-GoneAndAskedAgain = Row (small 2 1) gone_and_asked_again_actions
+GoneAndAskedAgain = ScheduleRow (small 2 1) gone_and_asked_again_actions
     (says.Reply reply.NotFound ∷ says.Reply reply.NotFound ∷ says.Reply reply.NotFound ∷ says.Reply reply.NotStored ∷ says.Done ∷ says.Done ∷ says.Done ∷
     says.Lost ∷ says.Gone ∷ says.Gone ∷ says.Reply reply.NotFound ∷ says.Done ∷ says.Retry (cause.Block 0) ∷ says.Reply reply.NotFound ∷ says.Done ∷
     says.Done ∷ says.Done ∷ says.Reply reply.NotStored ∷ [])
@@ -47,7 +47,7 @@ a_lost_ask_actions =
     Permit p0 ∷ Take d1 p0 ∷ GiveUp 170 ∷ Count p0 d0 ∷ Begin 0 (op (act.Set (113 ∷ 49 ∷ []) 5 (pos 0) (48 ∷ 48 ∷ 48 ∷ []))) ∷ Send 0 p0 ∷ []
 
 abbrev pub ALostAsk : Type 0
-ALostAsk = Row (small 2 1) a_lost_ask_actions
+ALostAsk = ScheduleRow (small 2 1) a_lost_ask_actions
     (says.Reply reply.NotFound ∷ says.Reply reply.Miss ∷ says.Done ∷ says.Done ∷ says.Reply reply.NotStored ∷ says.Reply reply.Miss ∷ says.Done ∷
     says.Done ∷ says.Reply reply.NotStored ∷ says.Done ∷ says.Lost ∷ [])
     ((171, says.Reply reply.NotFound) ∷ (86, says.Reply reply.Miss) ∷ (0, says.Reply reply.Miss) ∷ (170, says.Reply reply.NotStored) ∷
@@ -74,7 +74,7 @@ shown_by_a_failed_one_actions =
     Learn p0 p0 ∷ Receive d0 p0 ∷ []
 
 abbrev pub ShownByAFailedOne : Type 0
-ShownByAFailedOne = Row (small 2 1) shown_by_a_failed_one_actions
+ShownByAFailedOne = ScheduleRow (small 2 1) shown_by_a_failed_one_actions
     (says.Reply reply.NotFound ∷ says.Ticket 1 ∷ says.Reply reply.NotStored ∷ says.Reply reply.NotFound ∷ says.Ticket 2 ∷ says.Done ∷ says.Done ∷
     says.Reply reply.NotFound ∷ says.Done ∷ says.Reply reply.Stored ∷ says.Done ∷ says.Done ∷ says.Done ∷ says.Done ∷ says.Reply reply.Stored ∷
     says.Done ∷ says.Ticket 3 ∷ says.Ticket 4 ∷ says.Done ∷ says.Done ∷ says.Reply reply.Stored ∷ says.Done ∷ says.Retry (cause.Block 0) ∷ says.Done ∷

@@ -6,7 +6,7 @@ use Rattle.group_calls.specs.declared.event.Answer.TheVariants as says
 use Rattle.group_calls.specs.declared.event.Cause.TheVariants as cause
 use Rattle.group_run.specs.Heading.{partition}
 use Rattle.group_wire.specs.Actions.{Action, Begin, Send, Read, Treat, Collect, Flush, Learn, Receive, GiveUp, Cut, Say, Hear, Permit, Take, Ping, Pong, Count, Show}
-use Rattle.group_wire.specs.Rows.{Row, d0, d1, op, p0, p1, small}
+use Rattle.group_wire.specs.Rows.{ScheduleRow, d0, d1, op, p0, p1, small}
 use Rattle.group_wire.specs.Sets.{everybody}
 
 -- A read is given up, and asked again at the next head.
@@ -22,7 +22,7 @@ a_read_is_asked_again_actions =
     Read d0 d0 ∷ Treat d0 0 ∷ Begin 170 (op (act.Get (113 ∷ 49 ∷ []))) ∷ Send 170 p0 ∷ Read p0 p0 ∷ Treat p0 0 ∷ Learn p0 p0 ∷ Ping everybody p0 ∷ Show 170 2 ∷ []
 
 abbrev pub AReadIsAskedAgain : Type 0
-AReadIsAskedAgain = Row (small 2 1) a_read_is_asked_again_actions
+AReadIsAskedAgain = ScheduleRow (small 2 1) a_read_is_asked_again_actions
     (says.Reply reply.Miss ∷ says.Reply reply.NotFound ∷ says.Reply reply.NotStored ∷ says.Reply reply.Miss ∷ says.Reply reply.Miss ∷ says.Done ∷
     says.Done ∷ says.Done ∷ says.Ticket 1 ∷ says.Reply reply.Miss ∷ [])
     ((170, says.Reply reply.NotFound) ∷ (0, says.Reply reply.NotStored) ∷ (171, says.Reply reply.Miss) ∷ (170, says.Reply reply.Miss) ∷ [])
@@ -39,7 +39,7 @@ kept_behind_a_cut_actions =
     Learn d0 d0 ∷ Ping everybody d0 ∷ Pong d0 p0 ∷ Cut d0 d1 ∷ Say d1 ∷ Count p0 d0 ∷ Show 1 0 ∷ Treat d1 0 ∷ Cut d0 p0 ∷ Pong d1 d0 ∷ []
 
 abbrev pub KeptBehindACut : Type 0
-KeptBehindACut = Row (small 2 1) kept_behind_a_cut_actions
+KeptBehindACut = ScheduleRow (small 2 1) kept_behind_a_cut_actions
     (says.Ticket 1 ∷ says.Reply reply.NotStored ∷ says.Done ∷ says.Done ∷ says.Reply reply.Stored ∷ says.Reply reply.NotStored ∷ says.Ticket 2 ∷ [])
     ((86, says.Reply reply.NotStored) ∷ (1, says.Reply reply.NotStored) ∷ [])
     ([])
@@ -63,7 +63,7 @@ three_gateways_actions =
     Say p1 ∷ []
 
 abbrev pub ThreeGateways : Type 0
-ThreeGateways = Row (small 2 2) three_gateways_actions
+ThreeGateways = ScheduleRow (small 2 2) three_gateways_actions
     (says.Reply reply.NotStored ∷ says.Reply reply.NotStored ∷ says.Reply reply.Miss ∷ says.Reply reply.Miss ∷ says.Done ∷ says.Done ∷
     says.Reply reply.NotFound ∷ says.Done ∷ says.Lost ∷ says.Done ∷ says.Lost ∷ says.Done ∷ says.NotYet ∷ says.Done ∷ says.Reply reply.Miss ∷
     says.Reply reply.Miss ∷ says.Gone ∷ [])
@@ -85,7 +85,7 @@ ghosts_actions =
     Read p0 p0 ∷ Treat p0 0 ∷ Learn p0 p0 ∷ Ping everybody p0 ∷ Show 128 2 ∷ Send 0 d0 ∷ Read d0 d0 ∷ Treat d0 0 ∷ Learn d0 d0 ∷ []
 
 abbrev pub Ghosts : Type 0
-Ghosts = Row (small 1 1) ghosts_actions
+Ghosts = ScheduleRow (small 1 1) ghosts_actions
     (says.Reply reply.NotStored ∷ says.Ticket 1 ∷ says.Reply reply.Miss ∷ says.Retry (cause.Pending (partition 0) 1) ∷
     says.Retry (cause.Pending (partition 0) 1) ∷ says.Done ∷ says.Done ∷ says.Reply reply.NotFound ∷ says.Reply reply.NotFound ∷
     says.Retry (cause.Block 0) ∷ says.Reply reply.Stored ∷ [])

@@ -6,7 +6,7 @@ use Rattle.group_calls.specs.declared.event.Answer.TheVariants as says
 use Rattle.group_calls.specs.declared.event.Cause.TheVariants as cause
 use Rattle.group_run.specs.Heading.{partition}
 use Rattle.group_wire.specs.Actions.{Action, Begin, Send, Read, Treat, Collect, Flush, Learn, Receive, GiveUp, Cut, Say, Hear, Permit, Take, Ping, Pong, Count, Show, Stop}
-use Rattle.group_wire.specs.Rows.{Row, d0, d1, op, p0, p1, small}
+use Rattle.group_wire.specs.Rows.{ScheduleRow, d0, d1, op, p0, p1, small}
 use Rattle.group_wire.specs.Sets.{everybody}
 
 -- The next head rebuilds a block before it answers.
@@ -25,7 +25,7 @@ a_block_is_rebuilt_actions =
     Begin 170 (op (act.Get (113 ∷ 48 ∷ []))) ∷ Send 170 p0 ∷ Read p0 p0 ∷ Treat p0 0 ∷ Learn p0 p0 ∷ Ping everybody p0 ∷ Show 170 2 ∷ Receive p0 d1 ∷ []
 
 abbrev pub ABlockIsRebuilt : Type 0
-ABlockIsRebuilt = Row (small 2 1) a_block_is_rebuilt_actions
+ABlockIsRebuilt = ScheduleRow (small 2 1) a_block_is_rebuilt_actions
     (says.Ticket 1 ∷ says.Done ∷ says.Ticket 1 ∷ says.Reply reply.NotFound ∷ says.Retry (cause.Pending (partition 1) 1) ∷ says.Done ∷ says.Done ∷
     says.Reply reply.Stored ∷ says.Ticket 2 ∷ says.Done ∷ says.Done ∷ says.Reply reply.Stored ∷ says.Done ∷ says.Done ∷ says.Done ∷ says.Done ∷
     says.Lost ∷ says.Lost ∷ says.Gone ∷ says.Reply reply.NotFound ∷ says.Done ∷ says.Lost ∷ says.Retry (cause.Block 0) ∷ says.Reply reply.Miss ∷
@@ -50,7 +50,7 @@ a_pending_update_actions =
     Pong d1 p1 ∷ Count p0 d1 ∷ Count p1 d1 ∷ Show 65 1 ∷ Permit p1 ∷ Take d0 p1 ∷ GiveUp 192 ∷ []
 
 abbrev pub APendingUpdate : Type 0
-APendingUpdate = Row (small 2 2) a_pending_update_actions
+APendingUpdate = ScheduleRow (small 2 2) a_pending_update_actions
     (says.Reply reply.NotFound ∷ says.Ticket 1 ∷ says.Reply reply.Miss ∷ says.Reply reply.Miss ∷ says.Ticket 1 ∷ says.Done ∷ says.Done ∷
     says.Retry (cause.Pending (partition 0) 1) ∷ says.Done ∷ says.Done ∷ says.Done ∷ says.Done ∷ says.Done ∷ says.Reply reply.Stored ∷ says.Ticket 2 ∷
     says.Ticket 2 ∷ says.Done ∷ says.Done ∷ says.Done ∷ says.Done ∷ says.Reply reply.Deleted ∷ says.Done ∷ says.Done ∷ [])

@@ -4,7 +4,7 @@ use Rattle.memc_table.specs.declared.act.Act.TheVariants as act
 use Rattle.memc_table.specs.declared.reply.Reply.TheVariants as reply
 use Rattle.group_calls.specs.declared.event.Answer.TheVariants as says
 use Rattle.group_wire.specs.Actions.{Action, Begin, Send, Read, Treat, Collect, Learn, Receive, GiveUp, Cut, Permit, Take, Ping, Pong, Count, Show, LetGo}
-use Rattle.group_wire.specs.Rows.{BreaksAnswers, Row, d0, d1, op, p0, small}
+use Rattle.group_wire.specs.Rows.{BreaksAnswers, ScheduleRow, d0, d1, op, p0, small}
 use Rattle.group_wire.specs.Sets.{nobody, with_one}
 
 -- The member that was sent a ping hangs: another answers the next one, and so that one too.
@@ -14,7 +14,7 @@ answered_by_a_later_pong_actions =
     Ping (with_one nobody p0) d0 ∷ Pong d0 p0 ∷ Count p0 d0 ∷ Show 0 0 ∷ []
 
 abbrev pub AnsweredByALaterPong : Type 0
-AnsweredByALaterPong = Row (small 2 1) answered_by_a_later_pong_actions
+AnsweredByALaterPong = ScheduleRow (small 2 1) answered_by_a_later_pong_actions
     (says.Reply reply.Miss ∷ [])
     ((0, says.Reply reply.Miss) ∷ [])
     []
@@ -26,7 +26,7 @@ let_go_of_unknown_fate_actions =
     Begin 128 (op (act.Get (113 ∷ 48 ∷ []))) ∷ Send 128 p0 ∷ Read p0 p0 ∷ Treat p0 0 ∷ Learn p0 p0 ∷ Ping nobody p0 ∷ Show 128 0 ∷ []
 
 abbrev pub LetGoOfUnknownFate : Type 0
-LetGoOfUnknownFate = Row (small 1 1) let_go_of_unknown_fate_actions
+LetGoOfUnknownFate = ScheduleRow (small 1 1) let_go_of_unknown_fate_actions
     (says.Done ∷ says.Done ∷ says.Lost ∷ says.Reply reply.Miss ∷ [])
     ((128, says.Reply reply.Miss) ∷ [])
     (d0 ∷ [])

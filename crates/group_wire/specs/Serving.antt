@@ -11,13 +11,13 @@ use Rattle.group_calls.specs.declared.event.Answer.{Answer}
 use Rattle.group_calls.specs.declared.event.Answer.TheVariants as says
 use Rattle.group_run.specs.Asking.{collect_from}
 use Rattle.group_wire.specs.Actions.{Action, Begin, Send, Read, Treat, Collect, Learn, GiveUp, Show, LetGo}
-use Rattle.group_wire.specs.Sets.{changed, changed_at, changed_from, one_or, without}
+use Rattle.group_wire.specs.Sets.{changed, changed_at, changed_from, one_or, without_nth}
 use Rattle.group_wire.specs.State.{Request, AskFor, TraceOf, Told, Stage, Unasked, AskedOf, Unknown, TracedAt, Answered, OpenCall, Gateways, Group, gateway_of}
 use Rattle.group_wire.specs.Sending.{parked_at, sent_on, treating}
 
 -- a gateway asks for a call under its next position, or traces it where its fate is unknown
-abbrev pub asks_by : Group → ℕ → ProcessId → OpenCall → Gateways
-asks_by g caller x opened = record g.gateways {
+abbrev pub gateways_asking : Group → ℕ → ProcessId → OpenCall → Gateways
+gateways_asking g caller x opened = record g.gateways {
   call = changed_at g.gateways.call caller (Some (record opened { position = g.gateways.next caller; stage = AskedOf x }));
   next = changed_at g.gateways.next caller (suc (g.gateways.next caller));
   requests = sent_on g.words.cut g.gateways.requests (gateway_of g.shape caller) x (AskFor caller (g.gateways.next caller) opened.op);
@@ -30,7 +30,7 @@ traces_by g caller x opened = record g.gateways {
 }
 
 abbrev pub sends_by : Group → ℕ → ProcessId → OpenCall → Stage → Gateways
-sends_by g caller x opened Unasked = asks_by g caller x opened
+sends_by g caller x opened Unasked = gateways_asking g caller x opened
 sends_by g caller x opened Unknown = traces_by g caller x opened
 sends_by g caller x opened _ = g.gateways
 
@@ -61,7 +61,7 @@ tell g p (t ∷ ts) gateways = tell g p ts (record gateways { answers = sent_on 
 abbrev pub request_treated : Group → ProcessId → ℕ → Option Request → Gateways
 request_treated g p place None = g.gateways
 request_treated g p place (Some request) = tell g p (told_of request (treating g.shape request (g.works.process p)).answer)
-    (record g.gateways { parked = changed g.gateways.parked p (without (g.gateways.parked p) place) })
+    (record g.gateways { parked = changed g.gateways.parked p (without_nth (g.gateways.parked p) place) })
 
 -- what is handed out goes to the caller's gateway, once there is a reply
 abbrev pub handed_to : ℕ → ℕ → Answer → List Told

@@ -4,7 +4,7 @@ use Rattle.std.specs.List.{range_with_len}
 use Rattle.group_types.specs.Dimensions.{Dimensions}
 use Rattle.group_types.specs.Names.{process_at, same_process}
 use Rattle.group_types.specs.declared.process.ProcessId.{ProcessId}
-use Rattle.membership.specs.Members.{count_dead}
+use Rattle.membership.specs.Members.{count_dead_words}
 
 -- a set of processes
 abbrev pub Processes : Type 0
@@ -23,12 +23,12 @@ abbrev pub either : Processes → Processes → Processes
 either a b p = a p || b p
 
 -- every process of the first set is in the second
-abbrev pub IsWithin : Processes → Processes → Type 0
-IsWithin a b = (p : ProcessId) → a p ≡ true → b p ≡ true
+abbrev pub IsSubset : Processes → Processes → Type 0
+IsSubset a b = (p : ProcessId) → a p ≡ true → b p ≡ true
 
 -- how many processes of a group are in a set
 abbrev pub size_of : Dimensions → Processes → ℕ
-size_of s set = count_dead (map (λ x. set (process_at s x)) (range_with_len 0 (s.k + s.m)))
+size_of s set = count_dead_words (map (λ x. set (process_at s x)) (range_with_len 0 (s.k + s.m)))
 
 -- the first where the test passes, and else the second
 abbrev pub one_or : {X : Type 0} → Bool → X → X → X
@@ -57,7 +57,7 @@ entry_at [] n = None
 entry_at (x ∷ xs) zero = Some x
 entry_at (x ∷ xs) (suc n) = entry_at xs n
 
-abbrev pub without : {X : Type 0} → List X → ℕ → List X
-without [] n = []
-without (x ∷ xs) zero = xs
-without (x ∷ xs) (suc n) = x ∷ without xs n
+abbrev pub without_nth : {X : Type 0} → List X → ℕ → List X
+without_nth [] n = []
+without_nth (x ∷ xs) zero = xs
+without_nth (x ∷ xs) (suc n) = x ∷ without_nth xs n

@@ -2,7 +2,7 @@
 use Rattle.std.specs.Prelude.{ℕ, ◌≡◌, ◌≤◌, List, length, map, take, slice_get, Some}
 use Rattle.group_types.specs.Dimensions.{Dimensions}
 use Rattle.memc_table.specs.declared.reply.Reply.{Reply}
-use Rattle.group_calls.specs.Turns.{entry_of, log_of}
+use Rattle.group_calls.specs.Turns.{call_entry, log_of}
 use Rattle.group_calls.specs.declared.event.Answer.TheVariants as says
 use Rattle.group_calls.specs.declared.event.Event.{Event}
 use Rattle.group_calls.specs.declared.event.Event.TheVariants as event
@@ -38,7 +38,7 @@ pub record WasMade (made : List Made) (t : Told) : Type 0 where
 -- a reply that is shown is that of the entry of the call, for what the client asked, which was logged since the call began
 pub record IsLoggedSinceBegun (c : Composed) (caller : ℕ) (o : OpenCall) (reply : Reply) : Type 0 where
   pub place : ℕ
-  pub entry : slice_get (machine c).log place ≡ Some (entry_of (record { caller = caller; call = o.position }) o.op reply)
+  pub entry : slice_get (machine c).log place ≡ Some (call_entry (record { caller = caller; call = o.position }) o.op reply)
   pub since : length (log_of (take (c.begun caller) (turns_of c.group.shape (events_of c)))) ≤ place
 
 -- what a call shows at its end

@@ -13,7 +13,7 @@ use Rattle.memc_table.specs.declared.reply.Reply.{Reply}
 use Rattle.memc_table.specs.declared.ruling.Ruling.{Ruling}
 use Rattle.memc_table.specs.declared.ruling.Ruling.TheVariants.{Refused, Accepted}
 use Rattle.group_run.specs.Deciding.{Found, blind_reply, decide_blind, decide_found, decide_left, decide_accepted}
-use Rattle.group_run.specs.Deciding.{decide_ruled, decide_waiting, held_as, is_blind, is_touch, item_found, length_of}
+use Rattle.group_run.specs.Deciding.{decide_ruled, decide_waiting, held_as, is_blind, is_touch, item_found, slot_length}
 use Rattle.group_run.specs.Deciding.{outcome_of, reads_bytes, ruling_with, run_needed, unseen, window}
 use Rattle.group_run.specs.Replica.{Replica, last_of, run_in}
 use Rattle.law_updates.proofs.Blind.{Alike, LeavesAlike, alike-same, same-empty, unread-alike}
@@ -50,8 +50,8 @@ module _ (space : ℕ) (r : Replica) (op : Asked) (read : Run → Found) where
 
   -- a ruling that needs no byte decides, whether its reply is given blindly or not
   blind-ruled : (slot : Option Slot) → run_needed op slot ≡ None → (ruling : Ruling) → ruling_with r op slot (unseen slot) ≡ ruling
-      → decide_ruled space r op read ruling ≡ decide_blind space r op read slot (blind_reply (length_of slot) ruling)
-  blind-ruled slot none (Refused reply) is = by (is_blind (length_of slot) reply) where
+      → decide_ruled space r op read ruling ≡ decide_blind space r op read slot (blind_reply (slot_length slot) ruling)
+  blind-ruled slot none (Refused reply) is = by (is_blind (slot_length slot) reply) where
     by : (b : Bool) → decide_ruled space r op read (Refused reply) ≡ decide_blind space r op read slot (if b then Some reply else None)
     by true = refl
     by false =

@@ -20,7 +20,7 @@ use Rattle.group_message.specs.declared.update.Outcome.{Outcome}
 use Rattle.group_calls.specs.declared.decision.Decision.{Decision}
 use Rattle.group_run.specs.Deciding.{Found, Bytes, Missing, blind_reply, decide_accepted, decide_blind, decide_found}
 use Rattle.group_run.specs.Deciding.{decide_left, decide_placed, decide_ruled, decide_waiting, decide_written, held_as}
-use Rattle.group_run.specs.Deciding.{is_get, is_touch, item_found, length_of, outcome_of, ruling_with, run_needed}
+use Rattle.group_run.specs.Deciding.{is_get, is_touch, item_found, outcome_of, ruling_with, run_needed, slot_length}
 use Rattle.group_run.specs.Deciding.{unseen, waits_for, window}
 use Rattle.group_run.specs.Free.{place_for}
 use Rattle.group_run.specs.Replica.{Replica, freed_by, items_after, last_of, number_on, slot_in}
@@ -28,7 +28,7 @@ use Rattle.law_updates.proofs.Clears.{number_on-none}
 use Rattle.law_updates.proofs.Decides.{Place, place-free}
 use Rattle.law_updates.proofs.Histories.{steps-keep-slot}
 use Rattle.law_updates.proofs.Rules.{RulesWell, rules-well}
-use Rattle.head_service.specs.Issuing.{CanFollow, IsWhole}
+use Rattle.head_service.specs.Issuing.{CanFollow, IsWholeDecision}
 
 -- an op that isn't a get waits for any update on its key
 waits-none : (inherited : ℕ) (act : Act) (last : Option ℕ) → is_get act ≡ false → waits_for inherited act last ≡ None → last ≡ None
@@ -39,7 +39,7 @@ waits-none inherited act (Some n) other free =
 
 module _ (s : Dimensions) (r : Replica) (op : Asked) (read : Run → Found) where
   abbrev Follows : Decision → Type 0
-  Follows d = IsWhole s d → CanFollow s r (key_of op.act) d
+  Follows d = IsWholeDecision s d → CanFollow s r (key_of op.act) d
 
   module _ (alone : number_on r.log (key_of op.act) ≡ None) (few : length r.log < window) where
     -- no update that waits changes what its key has
@@ -94,10 +94,10 @@ module _ (s : Dimensions) (r : Replica) (op : Asked) (read : Run → Found) wher
   pub follows-waiting : (inherited : ℕ) (slot : Option Slot) (waits : Option ℕ) → waits_for inherited op.act (number_on r.log (key_of op.act)) ≡ waits
       → Follows (decide_waiting (space_of s) r op read slot waits)
   follows-waiting inherited slot (Some n) is = λ whole. tt
-  follows-waiting inherited slot None is = follows-blind inherited is slot (blind_reply (length_of slot) (ruling_with r op slot (unseen slot)))
+  follows-waiting inherited slot None is = follows-blind inherited is slot (blind_reply (slot_length slot) (ruling_with r op slot (unseen slot)))
 
   pub follows-once : (inherited : ℕ) (slot : Option Slot) → waits_for inherited op.act (number_on r.log (key_of op.act)) ≡ None
-      → {E : Type 0} (result : Result Decision E) → IfOk result (λ d. d ≡ decide_waiting (space_of s) r op read slot None) → IfOk result (IsWhole s)
+      → {E : Type 0} (result : Result Decision E) → IfOk result (λ d. d ≡ decide_waiting (space_of s) r op read slot None) → IfOk result (IsWholeDecision s)
       → IfOk result (λ d. CanFollow s r (key_of op.act) d)
   follows-once inherited slot waits (Ok d) same whole = subst Follows (sym same) (follows-waiting inherited slot None waits) whole
   follows-once inherited slot waits (Err e) same whole = tt

@@ -23,8 +23,8 @@ use Rattle.head_service.specs.Answering.{answer_to, held_then}
 use Rattle.head_service.specs.Fates.{fate}
 use Rattle.head_service.specs.Peers.{settles, to_all}
 use Rattle.head_service.specs.Flushing.{stable_of, stables}
-use Rattle.head_service.specs.Laws.{ArePeers, AsksAreTheMachines, FatesAreTheMachines, FlushesAreTheMachines, Heads}
-use Rattle.head_service.specs.Laws.{JudgesAreTheMachines, TakeoversAreTheMachines, decided, heir, joined}
+use Rattle.head_service.specs.Laws.{ArePeers, AsksAreTheMachines, FatesAreTheMachines, FlushesAreTheMachines, HeadsPartition}
+use Rattle.head_service.specs.Laws.{JudgesAreTheMachines, TakeoversAreTheMachines, decided, heir, serving_step}
 use Rattle.head_service.specs.Serving.{Serving, serving}
 use Rattle.head_service.specs.declared.peers.Peers.{Peers}
 use Rattle.head_service.proofs.Steps.{issue-is, judge-is}
@@ -38,7 +38,7 @@ own-is s v b peers are = sym (ap (λ (m : ℕ). record { m = m; name = peers.nam
     ∙ ap (λ (name : _). record { m = s.m; name = name; known = peers.known }) are.name
     ∙ ap (λ (known : _). record { m = s.m; name = b.name; known = known }) are.known)
 
-module _ (s : Dimensions) (v : Serving) (b : Process) (d : ℕ) (h : Head) (r : Replica) (heads : Heads v d h r) where
+module _ (s : Dimensions) (v : Serving) (b : Process) (d : ℕ) (h : Head) (r : Replica) (heads : HeadsPartition v d h r) where
   -- nothing changes
   unchanged : serving (record v { replicas = put empty_replica v.replicas d r; held = put [] v.held d (at [] v.held d) }) b ≡ serving v b
   unchanged =
@@ -47,7 +47,7 @@ module _ (s : Dimensions) (v : Serving) (b : Process) (d : ℕ) (h : Head) (r : 
       (put-at empty_replica empty_replica v.replicas d heads.has_replica)
       ∙ ap (λ (xs : List (List Held)). serving (record v { held = xs }) b) (put-at [] [] v.held d heads.has_held)
 
-  stays-is : (answer : _) → only answer (serving v b) ≡ joined d (stays answer r (at [] v.held d) b) v
+  stays-is : (answer : _) → only answer (serving v b) ≡ serving_step d (stays answer r (at [] v.held d) b) v
   stays-is answer = ap (λ (p : Process). only answer p) (sym unchanged)
 
   module _ (name : CallName) (op : Asked) where
@@ -56,7 +56,7 @@ module _ (s : Dimensions) (v : Serving) (b : Process) (d : ℕ) (h : Head) (r : 
 
     -- the step, where it settles up to a number
     abbrev issued_to : Update → ℕ → CallStep
-    issued_to u n = joined d (record {
+    issued_to u n = serving_step d (record {
       replica = applied_to n (with_update u r);
       held = held_then (nat_le u.number (applied_to n (with_update u r)).applied) u (at [] v.held d);
       bytes = bytes_after s d (up_to n (with_update u r)) b;
@@ -66,12 +66,12 @@ module _ (s : Dimensions) (v : Serving) (b : Process) (d : ℕ) (h : Head) (r : 
     }) v
 
     issue-joined : (u : Update) → u.number ≡ suc (last_of r) → issue s d h u (serving v b)
-        ≡ joined d (issues s d (own s v b) h u r (at [] v.held d) b) v
+        ≡ serving_step d (issues s d (own s v b) h u r (at [] v.held d) b) v
     issue-joined u is = issue-is s d b h u v r heads.head heads.replica heads.has_held
         ∙ ap (λ (last : ℕ). issued_to u (settles (own s v b) h last)) (next-long u is)
 
     act-is : (decision : Decision) → ((block : ℕ) → decision ≢ decides.NeedBlock block)
-        → act_on s name op d h (serving v b) decision ≡ joined d (acts s d (own s v b) h name op r (at [] v.held d) b decision) v
+        → act_on s name op d h (serving v b) decision ≡ serving_step d (acts s d (own s v b) h name op r (at [] v.held d) b decision) v
     act-is (decides.Answer reply) none = stays-is _
     act-is (decides.Retry n) none = stays-is _
     act-is decides.NoSpace none = stays-is _
@@ -86,7 +86,7 @@ asks_are_the_machines s v b peers h r name op are heads none =
     ap (ask_head s name op d (serving v b)) heads.head
     ∙ ap (λ (x : Replica). act_on s name op d h (serving v b) (decided s d h op x b)) heads.replica
     ∙ act-is s v b d h r heads name op (decided s d h op r b) none
-    ∙ ap (λ (x : Peers). joined d (acts s d x h name op r (at [] v.held d) b (decided s d h op r b)) v) (own-is s v b peers are)
+    ∙ ap (λ (x : Peers). serving_step d (acts s d x h name op r (at [] v.held d) b (decided s d h op r b)) v) (own-is s v b peers are)
 
 pub judges_are_the_machines : JudgesAreTheMachines
 judges_are_the_machines s v b peers d h r are heads =

@@ -5,13 +5,13 @@ use Rattle.group_types.specs.Dimensions.{Dimensions}
 use Rattle.group_message.specs.declared.update.Update.{Update}
 use Rattle.group_run.specs.Process.{Process}
 use Rattle.group_run.specs.Replica.{Replica, with_update}
-use Rattle.partition_replica.specs.State.{State}
+use Rattle.partition_replica.specs.State.{ReplicaState}
 use Rattle.head_service.specs.Paging.{MakesNoneOf}
 use Rattle.head_service.specs.Seat.{StandsOn}
 use Rattle.head_service.specs.Storage.{MakesReady, StaysReady, Storage}
 
 -- a replica that holds the same
-pub stands-as : {d : ℕ} {r s : State} {b : Storage} → StandsOn d r b → s.shape ≡ r.shape → s.replica ≡ r.replica → StandsOn d s b
+pub stands-as : {d : ℕ} {r s : ReplicaState} {b : Storage} → StandsOn d r b → s.shape ≡ r.shape → s.replica ≡ r.replica → StandsOn d s b
 stands-as {d} {r} {s} {b} stands shape same = record {
   partition = stands.partition;
   shape = stands.shape ∙ sym shape;
@@ -20,7 +20,7 @@ stands-as {d} {r} {s} {b} stands shape same = record {
 }
 
 -- and the same bytes, of which more is ready
-pub stands-more : {d : ℕ} {r s : State} {b c : Storage} {IsMissed : ℕ → Type 0} → StandsOn d r b → s.shape ≡ r.shape → s.replica ≡ r.replica
+pub stands-more : {d : ℕ} {r s : ReplicaState} {b c : Storage} {IsMissed : ℕ → Type 0} → StandsOn d r b → s.shape ≡ r.shape → s.replica ≡ r.replica
     → MakesReady IsMissed b c → c.process ≡ b.process → StandsOn d s c
 stands-more {d} {r} {s} {b} {c} stands shape same makes bytes =
     let before : StandsOn d r c = record {
@@ -32,7 +32,7 @@ stands-more {d} {r} {s} {b} {c} stands shape same makes bytes =
     stands-as before shape same
 
 -- with an update more in the log, of which all is ready
-pub stands-with : {d : ℕ} {r s : State} {b : Storage} → StandsOn d r b → (u : Update) → s.shape ≡ r.shape
+pub stands-with : {d : ℕ} {r s : ReplicaState} {b : Storage} → StandsOn d r b → (u : Update) → s.shape ≡ r.shape
     → s.replica ≡ with_update u r.replica → b.is_ready d u → StandsOn d s b
 stands-with {d} {r} {s} {b} stands u shape same ready = record {
   partition = stands.partition;

@@ -5,8 +5,8 @@ use Rattle.group_types.specs.Lists.{same_key}
 use Rattle.group_message.specs.declared.update.Update.{Update}
 use Rattle.group_run.specs.Heading.{settlements}
 use Rattle.group_run.specs.Replica.{Replica, number_on, slot_in, with_update}
-use Rattle.partition_replica.specs.State.{IsTidyBut, State, is_needed, is_touched}
-use Rattle.head_service.specs.Settling.{updates_of}
+use Rattle.partition_replica.specs.State.{IsTidyBut, ReplicaState, is_needed, is_touched}
+use Rattle.head_service.specs.Settling.{updates_settled}
 
 -- a key is tidied
 pub tidied : (needed owed same touched : Bool) → (needed || ((owed || (same || touched)) && not same)) ≡ true → (needed || (owed || touched)) ≡ true
@@ -19,7 +19,7 @@ tidied false false false touched is = by touched is where
   by false is = absurd (cc is)
 
 -- less is owed
-pub tidy-weaker : (s : State) (more less : List ℕ → Bool) → ((q : List ℕ) → more q ≡ true → less q ≡ true) → IsTidyBut s more → IsTidyBut s less
+pub tidy-weaker : (s : ReplicaState) (more less : List ℕ → Bool) → ((q : List ℕ) → more q ≡ true → less q ≡ true) → IsTidyBut s more → IsTidyBut s less
 tidy-weaker s more less weaker tidy q is = by (is_needed s.replica.items s.replica.log q) (more q) refl (tidy q is) where
   by : (needed m : Bool) → more q ≡ m → (needed || m) ≡ true → (needed || less q) ≡ true
   by true m test is = refl
@@ -27,7 +27,7 @@ tidy-weaker s more less weaker tidy q is = by (is_needed s.replica.items s.repli
   by false false test is = absurd (cc is)
 
 -- the updates of settlements
-pub updates-are : (d : ℕ) (us : List Update) → updates_of (settlements d us) ≡ us
+pub updates-are : (d : ℕ) (us : List Update) → updates_settled (settlements d us) ≡ us
 updates-are d [] = refl
 updates-are d (u ∷ us) = ap (λ (vs : List Update). u ∷ vs) (updates-are d us)
 
@@ -44,7 +44,7 @@ number-last (v ∷ log) u q same = by (number_on (log ++ u ∷ []) q) (number-la
   by None is = absurd (cc is)
 
 -- nothing is owed of an update that stands in the log
-pub received-tidy : (s t : State) (u : Update) → t.replica ≡ with_update u s.replica
+pub received-tidy : (s t : ReplicaState) (u : Update) → t.replica ≡ with_update u s.replica
     → IsTidyBut t (λ q. false || is_touched (u ∷ []) q) → IsTidyBut t (λ _. false)
 received-tidy s t u is tidy q ready = by (same_key u.key q) refl (tidy q ready) where
   needed : same_key u.key q ≡ true → is_some (number_on t.replica.log q) ≡ true

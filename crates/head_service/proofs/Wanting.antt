@@ -5,7 +5,7 @@ use Rattle.std.proofs.lemmas.Grind.{common_steps}
 use Rattle.std.proofs.lemmas.List.{append-nil}
 use Rattle.group_types.specs.declared.run.Run.{Run}
 use Rattle.item_index.specs.declared.slot.Slot.{Slot}
-use Rattle.memc_table.specs.Act.{key_of, value_of}
+use Rattle.memc_table.specs.Act.{act_value, key_of}
 use Rattle.memc_table.specs.Asked.{Asked}
 use Rattle.memc_table.specs.Expiry.{is_live, until_of}
 use Rattle.memc_table.specs.Numeral.{number_of}
@@ -24,10 +24,10 @@ use Rattle.group_run.specs.Deciding.{Found, decide_accepted, decide_left, decide
 use Rattle.group_run.specs.Deciding.{held_as, is_get, is_touch, outcome_of, ruling_with, run_needed, waits_for, window}
 use Rattle.group_run.specs.Free.{place_for}
 use Rattle.group_run.specs.Replica.{Replica, last_of, number_on, slot_in}
-use Rattle.head_service.specs.Wanting.{IsIssued, MayRead, MayWant, ReadsItem, TakesMemory}
+use Rattle.head_service.specs.Wanting.{IssuesUpdate, MayReadItem, MayWant, ReadsItem, TakesMemory}
 use Rattle.head_service.proofs.Blind.{unread-decided}
 
-pub issued-takes : (d : Decision) → IsIssued d → TakesMemory d
+pub issued-takes : (d : Decision) → IssuesUpdate d → TakesMemory d
 issued-takes (Issue body outcome) issued = tt
 issued-takes (Answer reply) issued = absurd issued
 issued-takes (Retry n) issued = absurd issued
@@ -39,10 +39,10 @@ pub record LeavesBrought (act : Act) (ruling : Ruling) : Type 0 where
   pub reply : Reply
   pub leaves : Holding
   pub accepted : ruling ≡ Accepted reply (Some leaves)
-  pub long : length leaves.item.value ≡ length (value_of act)
+  pub long : length leaves.item.value ≡ length (act_value act)
 
 module _ (t n : ℕ) where
-  anew-brought : (act : Act) (flags : ℕ) (expiry : ℤ) (value : List ℕ) → length value ≡ length (value_of act) → LeavesBrought act (anew t n flags expiry value)
+  anew-brought : (act : Act) (flags : ℕ) (expiry : ℤ) (value : List ℕ) → length value ≡ length (act_value act) → LeavesBrought act (anew t n flags expiry value)
   anew-brought act flags expiry value is = record {
     reply = reply.Stored;
     leaves = record { item = record { flags = flags; cas = n; value = value }; until = until_of expiry t };
@@ -64,13 +64,13 @@ module _ (t n : ℕ) where
   absent-brought (Decr key by) other holds = absurd holds
 
   module _ (h : Holding) (empty : h.item.value ≡ []) where
-    swapped-brought : (act : Act) (flags : ℕ) (expiry : ℤ) (value : List ℕ) → length value ≡ length (value_of act) → (same : Bool)
+    swapped-brought : (act : Act) (flags : ℕ) (expiry : ℤ) (value : List ℕ) → length value ≡ length (act_value act) → (same : Bool)
         → HoldsItem (if same then anew t n flags expiry value else Refused reply.Exists)
         → LeavesBrought act (if same then anew t n flags expiry value else Refused reply.Exists)
     swapped-brought act flags expiry value is true holds = anew-brought act flags expiry value is
     swapped-brought act flags expiry value is false holds = absurd holds
 
-    joined-brought : (act : Act) (value : List ℕ) → length value ≡ length (value_of act) → (fits : Bool)
+    joined-brought : (act : Act) (value : List ℕ) → length value ≡ length (act_value act) → (fits : Bool)
         → HoldsItem (if fits then Accepted reply.Stored (changed n h value) else Refused reply.TooLarge)
         → LeavesBrought act (if fits then Accepted reply.Stored (changed n h value) else Refused reply.TooLarge)
     joined-brought act value is true holds = record {
@@ -112,7 +112,7 @@ waits-few r d few =
 
 -- what holds of a value's place holds of the op, where fewer updates wait
 pub put-placed : (space : ℕ) (r : Replica) (act : Act) (read : Run → Found) (outcome : Outcome) (h : Holding) (len : ℕ) (P : Decision → Type 0)
-    → length r.log < window → is_touch act ≡ false → len ≡ length (value_of act) → length h.item.value ≡ length (value_of act)
+    → length r.log < window → is_touch act ≡ false → len ≡ length (act_value act) → length h.item.value ≡ length (act_value act)
     → P (decide_placed read outcome h (place_for space r len))
     → P (decide_accepted (nat_le window (length r.log)) r (decide_left space r read outcome (is_touch act) (Some h)))
 put-placed space r act read outcome h len P few other long brought = subst P
@@ -144,7 +144,7 @@ module _ (space : ℕ) (r : Replica) (op : Asked) (read : Run → Found) (slot :
 
     -- so what holds of it, whatever it leaves of that length, holds of the decision
     pub put-told : (P : Decision → Type 0) → is_get op.act ≡ false → HoldsItem unread
-        → ((outcome : Outcome) (h : Holding) → length h.item.value ≡ length (value_of op.act)
+        → ((outcome : Outcome) (h : Holding) → length h.item.value ≡ length (act_value op.act)
         → P (decide_accepted (nat_le window (length r.log)) r (decide_left space r read outcome (is_touch op.act) (Some h))))
         → P (decide_waiting space r op read slot None)
     put-told P other holds told =
@@ -157,5 +157,5 @@ pub wants-waiting : (space inherited : ℕ) (r : Replica) (op : Asked) (read : R
     → MayWant space inherited r op read
 wants-waiting space inherited r op read none = subst (λ (waits : Option ℕ).
     ReadsItem r op (slot_in r.items (key_of op.act)) read ⊎ TakesMemory (decide_waiting space r op read (slot_in r.items (key_of op.act)) None)
-    → MayRead r op (slot_in r.items (key_of op.act)) read waits
+    → MayReadItem r op (slot_in r.items (key_of op.act)) read waits
     ⊎ TakesMemory (decide_waiting space r op read (slot_in r.items (key_of op.act)) waits)) (sym none) (λ x. x)

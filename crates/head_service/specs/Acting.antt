@@ -19,7 +19,7 @@ use Rattle.group_run.specs.Deciding.{decide}
 use Rattle.group_run.specs.Heading.{partition, rank, settlements}
 use Rattle.group_run.specs.Process.{Head, Held, Process}
 use Rattle.group_run.specs.Replica.{Replica, applied_to, freed_by, last_of, slot_in, up_to, with_update}
-use Rattle.partition_replica.specs.State.{State}
+use Rattle.partition_replica.specs.State.{ReplicaState}
 use Rattle.head_service.specs.Answering.{answer_to, held_then}
 use Rattle.head_service.specs.Beneath.{found_by}
 use Rattle.head_service.specs.Peers.{settles, to_all}
@@ -31,8 +31,8 @@ use Rattle.head_service.specs.declared.peers.Peers.{Peers}
 use Rattle.head_service.specs.declared.step.CallStep as code_step
 
 -- the name of a call
-abbrev pub name_of : named.Call → CallName
-name_of call = record { caller = call.caller; call = call.number }
+abbrev pub name_of_call : named.Call → CallName
+name_of_call call = record { caller = call.caller; call = call.number }
 
 -- the parts after a step of a head, and what is handed out
 pub record HeadStep : Type 0 where
@@ -79,7 +79,7 @@ issues s d peers h u r held b =
     s d u r held b
 
 -- what a head decides of a call
-abbrev pub decision_of : ℕ → Head → Asked → State → Storage → Decision
+abbrev pub decision_of : ℕ → Head → Asked → ReplicaState → Storage → Decision
 decision_of d h op r b = decide (space_of r.shape) h.inherited r.replica op (found_by d b)
 
 -- what is done of a decision that needs no block
@@ -91,7 +91,7 @@ acts s d peers h name op r held b (decides.NeedBlock block) = stays (says.Retry 
 acts s d peers h name op r held b (decides.Issue body outcome) = issues s d peers h (next_update name op body outcome r) r held b
 
 -- the code's step and parts are these
-pub record IsStep (made : HeadStep) (step : code_step.CallStep) (r : Replica) (calls : List Held) (b : Process) : Type 0 where
+pub record IsHeadStep (made : HeadStep) (step : code_step.CallStep) (r : Replica) (calls : List Held) (b : Process) : Type 0 where
   pub replica : r ≡ made.replica
   pub held : calls ≡ made.held
   pub bytes : b ≡ made.bytes
@@ -106,6 +106,6 @@ NeedsOf s (Need block) = block < s.blocks
 
 -- the decision needs no block, and this was done of it; or it needs this block of the space, and nothing was done
 abbrev pub IsMade : Dimensions → Decision → HeadStep → Asking → Replica → List Held → Process → Type 0
-IsMade s decision made (Done step) r held b = IsStep made step r held b × ((block : ℕ) → decision ≢ decides.NeedBlock block)
+IsMade s decision made (Done step) r held b = IsHeadStep made step r held b × ((block : ℕ) → decision ≢ decides.NeedBlock block)
 IsMade s decision made (Need block) r held b =
     (decision ≡ decides.NeedBlock block) × (r ≡ made.replica) × (held ≡ made.held) × (b ≡ made.bytes) × (block < s.blocks)

@@ -24,9 +24,9 @@ told_when true h = says.Reply (reply_from h.outcome)
 told_when false h = says.NotYet
 
 -- what a call is answered, where the partition is applied up to a number
-abbrev pub told_of : ℕ → Option Held → Answer
-told_of applied None = says.Stranger
-told_of applied (Some h) = told_when (nat_le h.number applied) h
+abbrev pub fate_answer : ℕ → Option Held → Answer
+fate_answer applied None = says.Stranger
+fate_answer applied (Some h) = told_when (nat_le h.number applied) h
 
 -- the calls that are held once it is known whether one is handed out
 abbrev pub kept_when : Bool → Held → List Held → List Held

@@ -35,10 +35,10 @@ CanFollow s r key NoSpace = ⊤
 CanFollow s r key (NeedBlock b) = b < s.blocks
 
 -- a value that is put has a run as long as its difference, and a block that is needed is one of the space
-abbrev pub IsWhole : Dimensions → Decision → Type 0
-IsWhole s (Issue (Put _ _ run delta) _) = run.len ≡ length delta
-IsWhole s (NeedBlock b) = b < s.blocks
-IsWhole s _ = ⊤
+abbrev pub IsWholeDecision : Dimensions → Decision → Type 0
+IsWholeDecision s (Issue (Put _ _ run delta) _) = run.len ≡ length delta
+IsWholeDecision s (NeedBlock b) = b < s.blocks
+IsWholeDecision s _ = ⊤
 
 -- what issuing an update takes of memory, where the partition is applied up to a number: the number that is settled
 -- then, what is sent, and an empty list with room for what is settled

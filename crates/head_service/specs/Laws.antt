@@ -33,15 +33,15 @@ pub record ArePeers (s : Dimensions) (v : Serving) (b : Process) (peers : Peers)
   pub known : peers.known ≡ v.known
 
 -- it heads a partition
-pub record Heads (v : Serving) (d : ℕ) (h : Head) (r : Replica) : Type 0 where
+pub record HeadsPartition (v : Serving) (d : ℕ) (h : Head) (r : Replica) : Type 0 where
   pub head : at None v.heads d ≡ Some h
   pub replica : at empty_replica v.replicas d ≡ r
   pub has_replica : d < length v.replicas
   pub has_held : d < length v.held
 
 -- the process's step that a head's step makes
-abbrev pub joined : ℕ → HeadStep → Serving → CallStep
-joined d made v = record {
+abbrev pub serving_step : ℕ → HeadStep → Serving → CallStep
+serving_step d made v = record {
   step = record {
     process = serving (record v { replicas = put empty_replica v.replicas d made.replica; held = put [] v.held d made.held }) made.bytes;
     sent = made.sent;
@@ -57,13 +57,13 @@ decided s d h op r b = decide (space_of s) h.inherited r op (found_in s d b)
 -- a call is asked
 abbrev pub AsksAreTheMachines : Type 0
 AsksAreTheMachines = (s : Dimensions) (v : Serving) (b : Process) (peers : Peers) (h : Head) (r : Replica) (name : CallName) (op : Asked)
-    → ArePeers s v b peers → Heads v (home_of (key_of op.act) s.k) h r → ((block : ℕ) → decided s (home_of (key_of op.act) s.k) h op r b ≢ NeedBlock block)
+    → ArePeers s v b peers → HeadsPartition v (home_of (key_of op.act) s.k) h r → ((block : ℕ) → decided s (home_of (key_of op.act) s.k) h op r b ≢ NeedBlock block)
     → ask_process s name op (serving v b)
-    ≡ joined (home_of (key_of op.act) s.k) (acts s (home_of (key_of op.act) s.k) peers h name op r (at [] v.held (home_of (key_of op.act) s.k)) b (decided s (home_of (key_of op.act) s.k) h op r b)) v
+    ≡ serving_step (home_of (key_of op.act) s.k) (acts s (home_of (key_of op.act) s.k) peers h name op r (at [] v.held (home_of (key_of op.act) s.k)) b (decided s (home_of (key_of op.act) s.k) h op r b)) v
 
 -- a head judges its acknowledgements
 abbrev pub JudgesAreTheMachines : Type 0
-JudgesAreTheMachines = (s : Dimensions) (v : Serving) (b : Process) (peers : Peers) (d : ℕ) (h : Head) (r : Replica) → ArePeers s v b peers → Heads v d h r
+JudgesAreTheMachines = (s : Dimensions) (v : Serving) (b : Process) (peers : Peers) (d : ℕ) (h : Head) (r : Replica) → ArePeers s v b peers → HeadsPartition v d h r
     → judge s d (serving v b) ≡ record {
       process = serving (record v { replicas = put empty_replica v.replicas d (applied_to (settles peers h (last_of r)) r) }) (bytes_after s d (up_to (settles peers h (last_of r)) r) b);
       sent = [];
@@ -72,7 +72,7 @@ JudgesAreTheMachines = (s : Dimensions) (v : Serving) (b : Process) (peers : Pee
 
 -- a head tells what became of a call
 abbrev pub FatesAreTheMachines : Type 0
-FatesAreTheMachines = (s : Dimensions) (v : Serving) (b : Process) (peers : Peers) (d : ℕ) (h : Head) (r : Replica) (caller call : ℕ) → ArePeers s v b peers → Heads v d h r
+FatesAreTheMachines = (s : Dimensions) (v : Serving) (b : Process) (peers : Peers) (d : ℕ) (h : Head) (r : Replica) (caller call : ℕ) → ArePeers s v b peers → HeadsPartition v d h r
     → fate_of s caller call d (serving v b) (at None v.heads d) ≡ fate peers h r caller call
 
 -- what taking a partition over settles, where its replica is this one

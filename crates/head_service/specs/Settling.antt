@@ -7,8 +7,8 @@ use Rattle.group_run.specs.Replica.{Replica, applied_to, up_to}
 use Rattle.head_service.specs.Storage.{Storage}
 
 -- the updates that were settled, in order
-abbrev pub updates_of : List Settlement → List Update
-updates_of settled = map (λ x. x.update) settled
+abbrev pub updates_settled : List Settlement → List Update
+updates_settled settled = map (λ x. x.update) settled
 
 -- partition d was settled up to n: its replica is applied up to there, and the updates were added to the bytes
 pub record HasApplied (d n : ℕ) (r s : Replica) (b c : Storage) : Type 0 where

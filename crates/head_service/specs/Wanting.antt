@@ -9,7 +9,7 @@ use Rattle.group_calls.specs.declared.decision.Decision.{Decision}
 use Rattle.group_calls.specs.declared.decision.Decision.TheVariants.{Answer, Issue, NeedBlock, NoSpace, Retry}
 use Rattle.group_calls.specs.declared.found.Found.{Found}
 use Rattle.group_calls.specs.declared.found.Found.TheVariants.{Bytes, Missing}
-use Rattle.group_run.specs.Deciding.{blind_reply, decide, length_of, ruling_with, run_needed, unseen, waits_for}
+use Rattle.group_run.specs.Deciding.{blind_reply, decide, ruling_with, run_needed, slot_length, unseen, waits_for}
 use Rattle.group_run.specs.Replica.{Replica, number_on, slot_in}
 use Rattle.item_index.specs.declared.slot.Slot.{Slot}
 
@@ -25,20 +25,20 @@ IsNeeded read (Some run) = IsThere (read run)
 
 -- where no update stands in the way: the op reads bytes of the item, which are there, since no reply can be given without them
 abbrev pub ReadsItem : Replica → Asked → Option Slot → (Run → Found) → Type 0
-ReadsItem r op slot read = (blind_reply (length_of slot) (ruling_with r op slot (unseen slot)) ≡ None) × IsNeeded read (run_needed op slot)
+ReadsItem r op slot read = (blind_reply (slot_length slot) (ruling_with r op slot (unseen slot)) ≡ None) × IsNeeded read (run_needed op slot)
 
 -- so it is where this is the update that the op has to wait for, if there is one
-abbrev pub MayRead : Replica → Asked → Option Slot → (Run → Found) → Option ℕ → Type 0
-MayRead r op slot read (Some n) = ⊥
-MayRead r op slot read None = ReadsItem r op slot read
+abbrev pub MayReadItem : Replica → Asked → Option Slot → (Run → Found) → Option ℕ → Type 0
+MayReadItem r op slot read (Some n) = ⊥
+MayReadItem r op slot read None = ReadsItem r op slot read
 
 -- an update is issued
-abbrev pub IsIssued : Decision → Type 0
-IsIssued (Issue body outcome) = ⊤
-IsIssued (Answer reply) = ⊥
-IsIssued (Retry n) = ⊥
-IsIssued NoSpace = ⊥
-IsIssued (NeedBlock b) = ⊥
+abbrev pub IssuesUpdate : Decision → Type 0
+IssuesUpdate (Issue body outcome) = ⊤
+IssuesUpdate (Answer reply) = ⊥
+IssuesUpdate (Retry n) = ⊥
+IssuesUpdate NoSpace = ⊥
+IssuesUpdate (NeedBlock b) = ⊥
 
 -- a value is handed out or an update is issued
 abbrev pub TakesMemory : Decision → Type 0
@@ -51,5 +51,5 @@ TakesMemory (NeedBlock b) = ⊥
 -- memory may be wanted for an op that a head is asked: to read the bytes of its item, to hand out a value, or to issue an update
 abbrev pub MayWant : ℕ → ℕ → Replica → Asked → (Run → Found) → Type 0
 MayWant space inherited r op read =
-    MayRead r op (slot_in r.items (key_of op.act)) read (waits_for inherited op.act (number_on r.log (key_of op.act)))
+    MayReadItem r op (slot_in r.items (key_of op.act)) read (waits_for inherited op.act (number_on r.log (key_of op.act)))
     ⊎ TakesMemory (decide space inherited r op read)

@@ -3,13 +3,13 @@ ghost use Rattle.group_types.specs.Dimensions.{space_of};
 ghost use Rattle.memc_table.specs.Act.{key_of};
 ghost use Rattle.group_calls.specs.declared.decision.Decision.{Decision};
 ghost use Rattle.group_run.specs.Replica.{callers, freed_by, last_of};
-ghost use Rattle.head_service.specs.Acting.{IsMade, acts, decision_of, name_of, next_update};
+ghost use Rattle.head_service.specs.Acting.{IsMade, acts, decision_of, name_of_call, next_update};
 ghost use Rattle.head_service.specs.Beneath.{found_by};
 ghost use Rattle.head_service.specs.Issuing.{CanFollow};
 ghost use Rattle.head_service.specs.Paging.{DecisionMisses};
-ghost use Rattle.head_service.specs.Seat.{ChangesOnlyRoom, IsHeadSeat, IsSeat};
+ghost use Rattle.head_service.specs.Seat.{ChangesOnlyRoom, IsHeadSeat, IsWholeSeat};
 ghost use Rattle.head_service.specs.Storage.{MakesReady};
-ghost use Rattle.head_service.specs.Wanting.{IsIssued, MayWant};
+ghost use Rattle.head_service.specs.Wanting.{IssuesUpdate, MayWant};
 ghost use Rattle.head_service.specs.declared.ask.Asking.TheVariants.{Done};
 ghost use Rattle.head_service.specs.declared.step.CallStep.{CallStep};
 
@@ -56,14 +56,14 @@ pub fn ask<B: Beneath>(
     requires caller { call.caller < callers }
     requires numbers { last_of replica.old.replica < 2 ^ 62 }
     requires seat { IsHeadSeat partition.0 peers.now head.now replica.old (B.storage below.old) }
-    ensures seat { IsSeat partition.0 replica.new (B.storage below.new) }
+    ensures seat { IsWholeSeat partition.0 replica.new (B.storage below.new) }
     ensures makes { MakesReady (DecisionMisses (B.storage below.old).shape.block
         (decision_of partition.0 head.now op.now replica.old (B.storage below.old)))
         (B.storage below.old) (B.storage below.new) }
     ensures made { IfOk result (λ asked.
         let decision : Decision = decision_of partition.0 head.now op.now replica.old (B.storage below.old) in
         IsMade replica.old.shape decision (acts (B.storage below.old).shape partition.0 peers.now head.now
-        (name_of call) op.now replica.old.replica held.old.items (B.storage below.old).process decision)
+        (name_of_call call) op.now replica.old.replica held.old.items (B.storage below.old).process decision)
         asked replica.new.replica held.new.items (B.storage below.new).process) }
     ensures wanted { OnErr result (MayWant (space_of replica.old.shape) head.now.inherited replica.old.replica op.now
         (found_by partition.0 (B.storage below.old))) }
@@ -92,14 +92,14 @@ fn act<B: Beneath>(
     requires numbers { last_of replica.old.replica < 2 ^ 62 }
     requires follows { CanFollow replica.old.shape replica.old.replica (key_of op.now.act) decision }
     requires seat { IsHeadSeat partition.0 peers.now head.now replica.old (B.storage below.old) }
-    ensures seat { IsSeat partition.0 replica.new (B.storage below.new) }
+    ensures seat { IsWholeSeat partition.0 replica.new (B.storage below.new) }
     ensures makes { MakesReady (DecisionMisses (B.storage below.old).shape.block decision) (B.storage below.old)
         (B.storage below.new) }
     ensures made { IfOk result (λ asked. IsMade replica.old.shape decision
-        (acts (B.storage below.old).shape partition.0 peers.now head.now (name_of call) op.now
+        (acts (B.storage below.old).shape partition.0 peers.now head.now (name_of_call call) op.now
         replica.old.replica held.old.items (B.storage below.old).process decision)
         asked replica.new.replica held.new.items (B.storage below.new).process) }
-    ensures wanted { OnErr result (IsIssued decision) }
+    ensures wanted { OnErr result (IssuesUpdate decision) }
     ensures err { OnErr result ((held.new.items ≡ held.old.items)
         × ChangesOnlyRoom replica.old replica.new (B.storage below.old) (B.storage below.new)) }
 {
@@ -136,7 +136,7 @@ fn next(
     replica: &Replica,
 ) -> Result<Update, AllocError>
     requires { last_of replica.now.replica < 2 ^ 62 }
-    ensures { IfOk result (λ u. u ≡ next_update (name_of call) op.now body outcome replica.now.replica) }
+    ensures { IfOk result (λ u. u ≡ next_update (name_of_call call) op.now body outcome replica.now.replica) }
 {
     let key = op.act().key();
     Ok(Update {

@@ -5,8 +5,8 @@ ghost use Rattle.group_run.specs.Deciding.{decide_left, decide_placed, decide_wr
 ghost use Rattle.group_run.specs.Fitting.{IsRunOf};
 ghost use Rattle.group_run.specs.Free.{place_for};
 ghost use Rattle.head_service.specs.Beneath.{found_by};
-ghost use Rattle.head_service.specs.Issuing.{IsWhole};
-ghost use Rattle.head_service.specs.Wanting.{IsIssued};
+ghost use Rattle.head_service.specs.Issuing.{IsWholeDecision};
+ghost use Rattle.head_service.specs.Wanting.{IssuesUpdate};
 
 use crate::beneath::Beneath;
 use group_calls::{Decision, Found};
@@ -30,8 +30,8 @@ pub fn decide_left<B: Beneath>(
     requires shape { (B.storage below.now).shape ≡ replica.now.shape }
     ensures decision { IfOk result (λ d. d ≡ decide_left (space_of replica.now.shape) replica.now.replica
         (found_by partition.0 (B.storage below.now)) outcome touch leaves) }
-    ensures whole { IfOk result (IsWhole replica.now.shape) }
-    ensures wanted { OnErr result (IsIssued (decide_left (space_of replica.now.shape) replica.now.replica
+    ensures whole { IfOk result (IsWholeDecision replica.now.shape) }
+    ensures wanted { OnErr result (IssuesUpdate (decide_left (space_of replica.now.shape) replica.now.replica
         (found_by partition.0 (B.storage below.now)) outcome touch leaves)) }
 {
     let body = match leaves {
@@ -55,8 +55,8 @@ fn decide_placed<B: Beneath>(
     requires shape { (B.storage below.now).shape ≡ replica.now.shape }
     ensures decision { IfOk result (λ d. d ≡ decide_placed (found_by partition.0 (B.storage below.now)) outcome holding
         (place_for (space_of replica.now.shape) replica.now.replica (length holding.item.value))) }
-    ensures whole { IfOk result (IsWhole replica.now.shape) }
-    ensures wanted { OnErr result (IsIssued (decide_placed (found_by partition.0 (B.storage below.now)) outcome holding
+    ensures whole { IfOk result (IsWholeDecision replica.now.shape) }
+    ensures wanted { OnErr result (IssuesUpdate (decide_placed (found_by partition.0 (B.storage below.now)) outcome holding
         (place_for (space_of replica.now.shape) replica.now.replica (length holding.item.value)))) }
 {
     match place(replica, below.space(), holding.item.value.len()) {
@@ -88,8 +88,8 @@ fn decide_written<B: Beneath>(
     requires run { IsRunOf (space_of (B.storage below.now).shape) (length holding.now.item.value) run }
     ensures decision { IfOk result (λ d. d ≡ decide_written outcome holding.now run
         (found_by partition.0 (B.storage below.now) run)) }
-    ensures whole { IfOk result (IsWhole (B.storage below.now).shape) }
-    ensures wanted { OnErr result (IsIssued (decide_written outcome holding.now run
+    ensures whole { IfOk result (IsWholeDecision (B.storage below.now).shape) }
+    ensures wanted { OnErr result (IssuesUpdate (decide_written outcome holding.now run
         (found_by partition.0 (B.storage below.now) run))) }
 {
     match below.find(partition, run)? {

@@ -4,8 +4,8 @@ ghost use Rattle.memc_table.specs.Act.{key_of};
 ghost use Rattle.group_run.specs.Deciding.{decide, decide_found, decide_ruled, decide_waiting, run_needed};
 ghost use Rattle.group_run.specs.Replica.{last_of, run_in, slot_in};
 ghost use Rattle.head_service.specs.Beneath.{found_by};
-ghost use Rattle.head_service.specs.Issuing.{CanFollow, IsWhole};
-ghost use Rattle.head_service.specs.Wanting.{IsIssued, IsThere, MayWant, ReadsItem, TakesMemory};
+ghost use Rattle.head_service.specs.Issuing.{CanFollow, IsWholeDecision};
+ghost use Rattle.head_service.specs.Wanting.{IsThere, IssuesUpdate, MayWant, ReadsItem, TakesMemory};
 
 use crate::beneath::Beneath;
 use crate::body::decide_left;
@@ -59,7 +59,7 @@ fn decide_settled<B: Beneath>(
     requires shape { (B.storage below.now).shape ≡ replica.now.shape }
     ensures decision { IfOk result (λ d. d ≡ decide_waiting (space_of replica.now.shape) replica.now.replica op.now
         (found_by partition.0 (B.storage below.now)) (slot_in replica.now.replica.items (key_of op.now.act)) None) }
-    ensures whole { IfOk result (IsWhole replica.now.shape) }
+    ensures whole { IfOk result (IsWholeDecision replica.now.shape) }
     ensures wanted { OnErr result (ReadsItem replica.now.replica op.now
         (slot_in replica.now.replica.items (key_of op.now.act)) (found_by partition.0 (B.storage below.now))
         ⊎ TakesMemory (decide_waiting (space_of replica.now.shape) replica.now.replica op.now
@@ -97,7 +97,7 @@ fn decide_unread<B: Beneath>(
     requires needed { run_needed op.now slot ≡ None }
     ensures decision { IfOk result (λ d. d ≡ decide_waiting (space_of replica.now.shape) replica.now.replica op.now
         (found_by partition.0 (B.storage below.now)) slot None) }
-    ensures whole { IfOk result (IsWhole replica.now.shape) }
+    ensures whole { IfOk result (IsWholeDecision replica.now.shape) }
     ensures wanted { OnErr result (TakesMemory (decide_waiting (space_of replica.now.shape) replica.now.replica op.now
         (found_by partition.0 (B.storage below.now)) slot None)) }
 {
@@ -124,7 +124,7 @@ fn decide_read<B: Beneath>(
     requires inside { slot.at + slot.len ≤ space_of replica.now.shape }
     ensures decision { IfOk result (λ d. d ≡ decide_waiting (space_of replica.now.shape) replica.now.replica op.now
         (found_by partition.0 (B.storage below.now)) (Some slot) None) }
-    ensures whole { IfOk result (IsWhole replica.now.shape) }
+    ensures whole { IfOk result (IsWholeDecision replica.now.shape) }
     ensures wanted { OnErr result (ReadsItem replica.now.replica op.now (Some slot)
         (found_by partition.0 (B.storage below.now))) }
 {
@@ -150,7 +150,7 @@ fn decide_found<B: Beneath>(
     ensures decision { IfOk result (λ d. d ≡ decide_found (space_of replica.now.shape) replica.now.replica op.now
         (found_by partition.0 (B.storage below.now)) (Some slot)
         (found_by partition.0 (B.storage below.now) (run_in slot))) }
-    ensures whole { IfOk result (IsWhole replica.now.shape) }
+    ensures whole { IfOk result (IsWholeDecision replica.now.shape) }
     ensures wanted { OnErr result (IsThere (found_by partition.0 (B.storage below.now) (run_in slot))) }
 {
     let run = Run {
@@ -178,8 +178,8 @@ fn decide_ruled<B: Beneath>(
     requires shape { (B.storage below.now).shape ≡ replica.now.shape }
     ensures decision { IfOk result (λ d. d ≡ decide_ruled (space_of replica.now.shape) replica.now.replica op.now
         (found_by partition.0 (B.storage below.now)) ruling) }
-    ensures whole { IfOk result (IsWhole replica.now.shape) }
-    ensures wanted { OnErr result (IsIssued (decide_ruled (space_of replica.now.shape) replica.now.replica op.now
+    ensures whole { IfOk result (IsWholeDecision replica.now.shape) }
+    ensures wanted { OnErr result (IssuesUpdate (decide_ruled (space_of replica.now.shape) replica.now.replica op.now
         (found_by partition.0 (B.storage below.now)) ruling)) }
 {
     match ruling {

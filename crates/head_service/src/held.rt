@@ -1,6 +1,6 @@
 ghost use Rattle.std.specs.Prelude.{◌≡◌, filter, find, not};
 ghost use Rattle.group_run.specs.Asking.{is_call, reply_from};
-ghost use Rattle.head_service.specs.Fates.{kept_of, told_of};
+ghost use Rattle.head_service.specs.Fates.{fate_answer, kept_of};
 
 use group_calls::Answer;
 use group_message::Outcome;
@@ -40,7 +40,7 @@ pub fn reply(outcome: Outcome) -> Reply
 
 /// Answers a call: with its reply where it is held and its update is settled, and then forgets it.
 pub fn hand_out(held: &mut Vec<Held>, applied: u64, caller: u32, call: u64) -> Answer
-    ensures answer { result ≡ told_of applied (find (is_call caller call) held.old.items) }
+    ensures answer { result ≡ fate_answer applied (find (is_call caller call) held.old.items) }
     ensures held { held.new.items ≡ kept_of applied (find (is_call caller call) held.old.items) held.old.items }
 {
     let Some(found) = look_up(held, caller, call) else {

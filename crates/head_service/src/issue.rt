@@ -5,10 +5,10 @@ ghost use Rattle.group_run.specs.Asking.{reply_from};
 ghost use Rattle.group_run.specs.Fitting.{CanCome, Writes};
 ghost use Rattle.group_run.specs.Replica.{last_of};
 ghost use Rattle.partition_replica.specs.State.{is_touched};
-ghost use Rattle.head_service.specs.Acting.{IsStep, issued_up_to, issues};
+ghost use Rattle.head_service.specs.Acting.{IsHeadStep, issued_up_to, issues};
 ghost use Rattle.head_service.specs.Issuing.{IsReadyToIssue};
 ghost use Rattle.head_service.specs.Paging.{Misses};
-ghost use Rattle.head_service.specs.Seat.{ChangesOnlyRoom, HasRoomFor, IsHeadSeat, IsSeat, IsSeatBut, OwesOnly};
+ghost use Rattle.head_service.specs.Seat.{ChangesOnlyRoom, HasRoomFor, IsHeadSeat, IsSeatBut, IsWholeSeat, OwesOnly};
 ghost use Rattle.head_service.specs.Settling.{IsRoomFor};
 ghost use Rattle.head_service.specs.Storage.{MakesReady, StaysReady};
 
@@ -39,10 +39,10 @@ pub fn issue<B: Beneath>(
     requires next { update.number ≡ last_of replica.old.replica + 1 }
     requires comes { CanCome (space_of replica.old.shape) replica.old.replica update }
     requires seat { IsHeadSeat partition.0 peers.now head.now replica.old (B.storage below.old) }
-    ensures seat { IsSeat partition.0 replica.new (B.storage below.new) }
+    ensures seat { IsWholeSeat partition.0 replica.new (B.storage below.new) }
     ensures makes { MakesReady (Misses (B.storage below.old).shape.block update.body) (B.storage below.old)
         (B.storage below.new) }
-    ensures made { IfOk result (λ step. IsStep (issues (B.storage below.old).shape partition.0 peers.now head.now update
+    ensures made { IfOk result (λ step. IsHeadStep (issues (B.storage below.old).shape partition.0 peers.now head.now update
         replica.old.replica held.old.items (B.storage below.old).process)
         step replica.new.replica held.new.items (B.storage below.new).process) }
     ensures err { OnErr result ((held.new.items ≡ held.old.items)
@@ -167,9 +167,9 @@ fn carry_out<B: Beneath>(
         (B.storage below.old) }
     requires settled { IsRoomFor (prepared.number - replica.old.replica.applied) prepared.settled.items
         (vec_capacity prepared.settled) }
-    ensures seat { IsSeat partition.0 replica.new (B.storage below.new) }
+    ensures seat { IsWholeSeat partition.0 replica.new (B.storage below.new) }
     ensures stays { StaysReady (B.storage below.old) (B.storage below.new) }
-    ensures made { IsStep (issued_up_to prepared.number prepared.sent.items (B.storage below.old).shape partition.0
+    ensures made { IsHeadStep (issued_up_to prepared.number prepared.sent.items (B.storage below.old).shape partition.0
         update replica.old.replica held.old.items (B.storage below.old).process)
         result replica.new.replica held.new.items (B.storage below.new).process }
 {

@@ -2,7 +2,7 @@ ghost use Rattle.std.specs.Prelude.{◌≡◌, ◌+◌, ◌<◌, ◌≤◌, [], 
 ghost use Rattle.group_run.specs.Heading.{acknowledged};
 ghost use Rattle.group_run.specs.Replica.{last_of, up_to};
 ghost use Rattle.head_service.specs.Peers.{settles};
-ghost use Rattle.head_service.specs.Seat.{ChangesOnlyRoom, IsHeadSeat, IsSeat};
+ghost use Rattle.head_service.specs.Seat.{ChangesOnlyRoom, IsHeadSeat, IsWholeSeat};
 ghost use Rattle.head_service.specs.Settling.{HasSettled};
 ghost use Rattle.head_service.specs.Storage.{StaysReady};
 
@@ -28,7 +28,7 @@ pub fn judge<B: Beneath>(
     requires seat { IsHeadSeat partition.0 peers.now head.now replica.old (B.storage below.old) }
     requires room { vec_len settled.old + length (up_to (settles peers.now head.now (last_of replica.old.replica))
         replica.old.replica) ≤ vec_capacity settled.old }
-    ensures seat { IsSeat partition.0 replica.new (B.storage below.new) }
+    ensures seat { IsWholeSeat partition.0 replica.new (B.storage below.new) }
     ensures stays { StaysReady (B.storage below.old) (B.storage below.new) }
     ensures settled { HasSettled partition.0 (settles peers.now head.now (last_of replica.old.replica))
         replica.old.replica replica.new.replica (B.storage below.old) (B.storage below.new)

@@ -1,13 +1,13 @@
 ghost use Rattle.std.specs.Prelude.{◌≡◌, ◌+◌, ◌<◌, ◌≤◌, nat_le, length, IfNone, IfOk, IfSome, OnErr, Some};
 ghost use Rattle.group_types.specs.Dimensions.{space_of};
-ghost use Rattle.memc_table.specs.Act.{value_of};
+ghost use Rattle.memc_table.specs.Act.{act_value};
 ghost use Rattle.memc_table.specs.declared.holding.Holding.{Holding};
 ghost use Rattle.group_message.specs.declared.update.Outcome.{Outcome};
 ghost use Rattle.group_run.specs.Deciding.{decide_accepted, decide_left, decide_placed, is_touch, window};
 ghost use Rattle.group_run.specs.Free.{place_for};
 ghost use Rattle.head_service.specs.Beneath.{found_by};
-ghost use Rattle.head_service.specs.Issuing.{IsWhole};
-ghost use Rattle.head_service.specs.Wanting.{IsIssued};
+ghost use Rattle.head_service.specs.Issuing.{IsWholeDecision};
+ghost use Rattle.head_service.specs.Wanting.{IssuesUpdate};
 
 use crate::beneath::Beneath;
 use crate::body::place;
@@ -43,13 +43,13 @@ pub(crate) fn put_off<B: Beneath>(
 ) -> Result<Decision, AllocError>
     requires partition { partition.0 < (B.storage below.now).shape.k }
     requires shape { (B.storage below.now).shape ≡ replica.now.shape }
-    ensures decision { (outcome : Outcome) (h : Holding) → length h.item.value ≡ length (value_of op.now.act)
+    ensures decision { (outcome : Outcome) (h : Holding) → length h.item.value ≡ length (act_value op.now.act)
         → IfOk result (λ d. d ≡ decide_accepted (nat_le window (length replica.now.replica.log)) replica.now.replica
         (decide_left (space_of replica.now.shape) replica.now.replica (found_by partition.0 (B.storage below.now))
         outcome (is_touch op.now.act) (Some h))) }
-    ensures whole { IfOk result (IsWhole replica.now.shape) }
-    ensures wanted { (outcome : Outcome) (h : Holding) → length h.item.value ≡ length (value_of op.now.act)
-        → OnErr result (IsIssued (decide_accepted (nat_le window (length replica.now.replica.log)) replica.now.replica
+    ensures whole { IfOk result (IsWholeDecision replica.now.shape) }
+    ensures wanted { (outcome : Outcome) (h : Holding) → length h.item.value ≡ length (act_value op.now.act)
+        → OnErr result (IssuesUpdate (decide_accepted (nat_le window (length replica.now.replica.log)) replica.now.replica
         (decide_left (space_of replica.now.shape) replica.now.replica (found_by partition.0 (B.storage below.now))
         outcome (is_touch op.now.act) (Some h)))) }
 {
@@ -72,8 +72,8 @@ fn put_nowhere<B: Beneath>(
     ensures decision { (outcome : Outcome) (h : Holding) → IfOk result (λ d. d ≡ decide_placed
         (found_by partition.0 (B.storage below.now)) outcome h
         (place_for (space_of replica.now.shape) replica.now.replica len)) }
-    ensures whole { IfOk result (IsWhole replica.now.shape) }
-    ensures wanted { (outcome : Outcome) (h : Holding) → OnErr result (IsIssued (decide_placed
+    ensures whole { IfOk result (IsWholeDecision replica.now.shape) }
+    ensures wanted { (outcome : Outcome) (h : Holding) → OnErr result (IssuesUpdate (decide_placed
         (found_by partition.0 (B.storage below.now)) outcome h
         (place_for (space_of replica.now.shape) replica.now.replica len))) }
 {
@@ -88,7 +88,7 @@ fn put_nowhere<B: Beneath>(
 
 // How many bytes the value that an act brings has, 0 where it brings none.
 fn brought(act: &Act) -> usize
-    ensures { result ≡ length (value_of act.now) }
+    ensures { result ≡ length (act_value act.now) }
 {
     match act {
         Act::Set { value, .. }

@@ -2,7 +2,7 @@ ghost use Rattle.std.specs.Prelude.{◌≡◌, ◌+◌, ◌≤◌, ◌||◌, ℕ
 ghost use Rattle.group_run.specs.Replica.{up_to};
 ghost use Rattle.partition_replica.specs.State.{IsTidyBut, is_touched};
 ghost use Rattle.head_service.specs.Seat.{OwesOnly, StandsOn};
-ghost use Rattle.head_service.specs.Settling.{HasSettled, updates_of};
+ghost use Rattle.head_service.specs.Settling.{HasSettled, updates_settled};
 ghost use Rattle.head_service.specs.Storage.{StaysReady};
 
 use crate::beneath::Beneath;
@@ -56,7 +56,7 @@ pub fn tidy(replica: &mut Replica, settled: &[Settlement])
     ensures shape { replica.new.shape ≡ replica.old.shape }
     ensures replica { replica.new.replica ≡ replica.old.replica }
     ensures owed { (owed : List ℕ → Bool) → IsTidyBut replica.old
-        (λ q. owed q || is_touched (updates_of settled.now) q) → IsTidyBut replica.new owed }
+        (λ q. owed q || is_touched (updates_settled settled.now) q) → IsTidyBut replica.new owed }
 {
     'settled: for settlement in settled {
         replica.tidy(&settlement.update.key);

@@ -9,10 +9,10 @@ use Rattle.std.specs.Ordering.{eq_by_cmp}
 use Rattle.std.proofs.lemmas.Cmp.{eq_by_cmp_equiv}
 use Rattle.item_index.specs.AsMap.{as_map}
 use Rattle.item_index.specs.declared.slot.Slot.{Slot}
-use Rattle.item_index.specs.Keys.{Keys, slot_of}
+use Rattle.item_index.specs.Keys.{Keys, entry_slot}
 
 module _ {K : Type 0} {R : K → K → Ordering} (total : IsTotalOrder R) where
-  get_by_order : (index : Keys K) (q : K) → map.get (as_map R index) q ≡ slot_of (eq_by_cmp R) index q
+  get_by_order : (index : Keys K) (q : K) → map.get (as_map R index) q ≡ entry_slot (eq_by_cmp R) index q
   get_by_order [] q = map.get-empty R q
   get_by_order ((key, None) ∷ rest) q =
       map.get-remove total (as_map R rest) key q
@@ -25,25 +25,25 @@ module _ {K : Type 0} {R : K → K → Ordering} (total : IsTotalOrder R) where
 
   module _ (eq : K → K → Bool) (same : (a b : K) → eq a b ≡ eq_by_cmp R a b) where
     -- the map gives what the index gives
-    pub get-as_map : (index : Keys K) (q : K) → map.get (as_map R index) q ≡ slot_of eq index q
+    pub get-as_map : (index : Keys K) (q : K) → map.get (as_map R index) q ≡ entry_slot eq index q
     get-as_map index q =
         let whole : eq_by_cmp R ≡ eq = λ i a b. sym (same a b) i in
-        get_by_order index q ∙ ap (λ (e : K → K → Bool). slot_of e index q) whole
+        get_by_order index q ∙ ap (λ (e : K → K → Bool). entry_slot e index q) whole
 
     turned : (key q : K) → eq_by_cmp R q key ≡ eq key q
     turned key q = (eq_by_cmp_equiv total).symm q key ∙ sym (same key q)
 
     module _ (tied : map.IsAntisymmetric R) (old new : Keys K) where
-      pub as_map-same : ((q : K) → slot_of eq new q ≡ slot_of eq old q) → as_map R new ≡ as_map R old
+      pub as_map-same : ((q : K) → entry_slot eq new q ≡ entry_slot eq old q) → as_map R new ≡ as_map R old
       as_map-same slots = map.same_map total tied _ _ (λ q. get-as_map new q ∙ slots q ∙ sym (get-as_map old q))
 
       pub as_map-insert : (key : K) (slot : Slot)
-          → ((q : K) → slot_of eq new q ≡ (if eq key q then Some slot else slot_of eq old q))
+          → ((q : K) → entry_slot eq new q ≡ (if eq key q then Some slot else entry_slot eq old q))
           → as_map R new ≡ map.insert (as_map R old) key slot
       as_map-insert key slot slots = map.same_map total tied _ _ (λ q.
           get-as_map new q ∙ slots q ∙ sym (map.get-insert total (as_map R old) key slot q ∙ rw (turned key q, get-as_map old q) refl))
 
-      pub as_map-remove : (key : K) → ((q : K) → slot_of eq new q ≡ (if eq key q then None else slot_of eq old q))
+      pub as_map-remove : (key : K) → ((q : K) → entry_slot eq new q ≡ (if eq key q then None else entry_slot eq old q))
           → as_map R new ≡ map.remove (as_map R old) key
       as_map-remove key slots = map.same_map total tied _ _ (λ q.
           get-as_map new q ∙ slots q ∙ sym (map.get-remove total (as_map R old) key q ∙ rw (turned key q, get-as_map old q) refl))

@@ -10,7 +10,7 @@ use Rattle.std.proofs.lemmas.Map.Entries.{length-keys_of, none_past_head}
 use Rattle.std.proofs.lemmas.Map.Keys.{IsDistinct-head, IsDistinct-tail, IsDistinct-cons}
 use Rattle.std.proofs.lemmas.Map.Made.{is_some-lookup, length-from_same_keys}
 use Rattle.item_index.specs.declared.slot.Slot.{Slot}
-use Rattle.item_index.specs.Keys.{Keys, slot_of, count_of, IsListing}
+use Rattle.item_index.specs.Keys.{Keys, entry_slot, entry_count, IsListing}
 
 -- each key that has an entry, with its slot
 abbrev pub listed : {K : Type 0} → Keys K → List (K × Slot)
@@ -30,7 +30,7 @@ none_listed test ((key, None) ∷ rest) none = none_listed test rest none.1
 none_listed test ((key, Some slot) ∷ rest) none = (none.0, none_listed test rest none.1)
 
 -- as many are listed as have an entry
-length-listed : {K : Type 0} (index : Keys K) → length (listed index) ≡ count_of index
+length-listed : {K : Type 0} (index : Keys K) → length (listed index) ≡ entry_count index
 length-listed {K} = is_count_by (λ index. length (listed index)) (λ entry. is_some entry.1) refl (λ entry rest. more entry.0 entry.1 rest) where
   more : (key : K) (slot : Option Slot) (rest : Keys K) → length (listed ((key, slot) ∷ rest)) ≡ cond (is_some slot)
       (1 + length (listed rest)) (length (listed rest))
@@ -46,7 +46,7 @@ module _ {K : Type 0} (eq : K → K → Bool) (laws : IsEquivalence eq) where
       (all_listed (λ other. eq key other ≡ false) rest (IsDistinct-head eq key (keys_of rest) distinct))
       (once rest (IsDistinct-tail eq key (keys_of rest) distinct))
 
-  slots : (index : Keys K) → IsDistinct eq (keys_of index) → (q : K) → lookup (eq q) (listed index) ≡ slot_of eq index q
+  slots : (index : Keys K) → IsDistinct eq (keys_of index) → (q : K) → lookup (eq q) (listed index) ≡ entry_slot eq index q
   slots [] distinct q = refl
   slots ((key, None) ∷ rest) distinct q =
       elim (eq q key) as (λ b. eq q key ≡ b → lookup (eq q) (listed rest) ≡ option_and_then (λ slot. slot) (cond b (Some None) (lookup (eq q) rest))) [
@@ -63,7 +63,7 @@ module _ {K : Type 0} (eq : K → K → Bool) (laws : IsEquivalence eq) where
   listing index distinct = record { once = once index distinct; slots = slots index distinct }
 
   -- each listing is as long
-  pub length-listing : (index : Keys K) → IsDistinct eq (keys_of index) → (list : List (K × Slot)) → IsListing eq index list → length list ≡ count_of index
+  pub length-listing : (index : Keys K) → IsDistinct eq (keys_of index) → (list : List (K × Slot)) → IsListing eq index list → length list ≡ entry_count index
   length-listing index distinct list is =
       let own = listing index distinct in
       let long = length-from_same_keys laws (keys_of list) (keys_of (listed index)) is.once own.once

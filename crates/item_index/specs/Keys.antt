@@ -11,8 +11,8 @@ Keys K = List (K × Option Slot)
 
 module _ {K : Type 0} (eq : K → K → Bool) where
   -- the slot of the entry that the key has
-  abbrev pub slot_of : Keys K → K → Option Slot
-  slot_of index key = option_and_then (λ slot. slot) (lookup (eq key) index)
+  abbrev pub entry_slot : Keys K → K → Option Slot
+  entry_slot index key = option_and_then (λ slot. slot) (lookup (eq key) index)
 
   -- whether an entry can be put at the key without memory
   abbrev pub is_ready : Keys K → K → Bool
@@ -21,11 +21,11 @@ module _ {K : Type 0} (eq : K → K → Bool) where
   -- the list has each key that has an entry once, with its slot
   pub record IsListing (index : Keys K) (list : List (K × Slot)) : Type 0 where
     pub once : IsDistinct eq (keys_of list)
-    pub slots : (key : K) → lookup (eq key) list ≡ slot_of index key
+    pub slots : (key : K) → lookup (eq key) list ≡ entry_slot index key
 
 -- how many keys have an entry
-abbrev pub count_of : {K : Type 0} → Keys K → ℕ
-count_of index = count_by (λ entry. is_some entry.1) index
+abbrev pub entry_count : {K : Type 0} → Keys K → ℕ
+entry_count index = count_by (λ entry. is_some entry.1) index
 
 -- a copy of a key is the key
 abbrev pub CopiesEqual : {K : Type 0} → (K → K → Type 0) → Type 0

@@ -6,7 +6,7 @@
 ghost use Rattle.std.specs.Prelude.{true, ◌≡◌, [], IsTrue, IsSome, IfOk, IsOk, OnOk, OnErr, option_copied, ◌||◌, ◌&&◌, not, is_some, Some, None, if◌then◌else◌};
 ghost use Rattle.std.specs.List.{IsDistinct};
 ghost use Rattle.std.specs.Map.{keys_of};
-ghost use Rattle.item_index.specs.Keys.{slot_of, is_ready, count_of, IsListing, CopiesEqual};
+ghost use Rattle.item_index.specs.Keys.{entry_slot, is_ready, entry_count, IsListing, CopiesEqual};
 
 use indexmap::IndexMap;
 pub use list::SlotList;
@@ -47,7 +47,7 @@ impl<K: Eq + Hash + Clone> Index<K> {
 
     /// The entry of the key.
     pub fn get(&self, key: &K) -> Option<&Slot>
-        ensures { option_copied result ≡ slot_of K.eq self.now key.now }
+        ensures { option_copied result ≡ entry_slot K.eq self.now key.now }
     {
         self.slots.get(key)?.as_ref()
     }
@@ -55,7 +55,7 @@ impl<K: Eq + Hash + Clone> Index<K> {
     /// Makes the key ready.
     pub fn prepare(&mut self, key: &K) -> Result<(), AllocError>
         requires copies { CopiesEqual K.is_clone }
-        ensures slots { (q : K) → slot_of K.eq self.new q ≡ slot_of K.eq self.old q }
+        ensures slots { (q : K) → entry_slot K.eq self.new q ≡ entry_slot K.eq self.old q }
         ensures ready { OnOk result ((q : K) → is_ready K.eq self.new q ≡ (K.eq key.now q || is_ready K.eq self.old q)) }
         ensures err { OnErr result (self.new ≡ self.old) }
         ensures succeeds { is_ready K.eq self.old key.now ≡ true → IsOk result }
@@ -69,7 +69,7 @@ impl<K: Eq + Hash + Clone> Index<K> {
     /// Gives the key this entry. It takes no memory.
     pub fn put(&mut self, key: &K, slot: Slot)
         requires { is_ready K.eq self.old key.now ≡ true }
-        ensures slots { (q : K) → slot_of K.eq self.new q ≡ (if K.eq key.now q then Some slot else slot_of K.eq self.old q) }
+        ensures slots { (q : K) → entry_slot K.eq self.new q ≡ (if K.eq key.now q then Some slot else entry_slot K.eq self.old q) }
         ensures ready { (q : K) → is_ready K.eq self.new q ≡ is_ready K.eq self.old q }
     {
         match self.slots.get_mut(key) {
@@ -80,7 +80,7 @@ impl<K: Eq + Hash + Clone> Index<K> {
 
     /// Takes the entry of the key away. A ready key stays ready.
     pub fn remove(&mut self, key: &K)
-        ensures slots { (q : K) → slot_of K.eq self.new q ≡ (if K.eq key.now q then None else slot_of K.eq self.old q) }
+        ensures slots { (q : K) → entry_slot K.eq self.new q ≡ (if K.eq key.now q then None else entry_slot K.eq self.old q) }
         ensures ready { (q : K) → is_ready K.eq self.new q ≡ is_ready K.eq self.old q }
     {
         if let Some(place) = self.slots.get_mut(key) {
@@ -90,9 +90,9 @@ impl<K: Eq + Hash + Clone> Index<K> {
 
     /// Ends the readiness of the key where it has no entry.
     pub fn tidy(&mut self, key: &K)
-        ensures slots { (q : K) → slot_of K.eq self.new q ≡ slot_of K.eq self.old q }
+        ensures slots { (q : K) → entry_slot K.eq self.new q ≡ entry_slot K.eq self.old q }
         ensures ready { (q : K) → is_ready K.eq self.new q
-            ≡ (if K.eq key.now q then is_some (slot_of K.eq self.old q) else is_ready K.eq self.old q) }
+            ≡ (if K.eq key.now q then is_some (entry_slot K.eq self.old q) else is_ready K.eq self.old q) }
     {
         if self.get(key).is_none() {
             self.slots.swap_remove(key);
@@ -101,7 +101,7 @@ impl<K: Eq + Hash + Clone> Index<K> {
 
     /// How many keys have an entry, counted one by one.
     pub fn count(&self) -> usize
-        ensures count { result ≡ count_of self.now }
+        ensures count { result ≡ entry_count self.now }
         ensures once { IsDistinct K.eq (keys_of self.now) }
     {
         self.slots.iter().filter(|(_, slot)| slot.is_some()).count()

@@ -34,11 +34,11 @@ use Rattle.law_updates.specs.Placing.{IsPlaced}
 use Rattle.group_run.specs.Applying.{head_at, replica_of}
 use Rattle.group_run.specs.Asking.{Oldest, act_on, ask_head, ask_process, found_at, found_unless, issued}
 use Rattle.group_run.specs.Asking.{oldest_inherited, reply_from, retry_block, ticketed, update_of}
-use Rattle.group_run.specs.Causes.{AskCause, FindsNoRun, FindsWindowFull, IsClear, IsReady, IsServed, IsUp, Leaves}
+use Rattle.group_run.specs.Causes.{AskCause, CanProceed, FindsNoRun, FindsWindowFull, IsReady, IsServed, IsUp, Leaves}
 use Rattle.group_run.specs.Causes.{MissesBlock, NeedsBlock, NeedsPlace, WaitsForInherited, WaitsForKey, home_in}
 use Rattle.group_run.specs.Causes.{table_now}
 use Rattle.group_run.specs.Deciding.{Found, Missing, decide_blind, decide_waiting, blind_reply, is_get, is_touch}
-use Rattle.group_run.specs.Deciding.{length_of, outcome_of, ruling_with, run_needed, unseen, waits_for, window}
+use Rattle.group_run.specs.Deciding.{outcome_of, ruling_with, run_needed, slot_length, unseen, waits_for, window}
 use Rattle.group_run.specs.Free.{is_free, place_for}
 use Rattle.group_run.specs.Headline.{LogsAreShort}
 use Rattle.group_run.specs.History.{History}
@@ -46,7 +46,7 @@ use Rattle.group_run.specs.Leaders.{lost_of, missing_block, rebuilt_bytes}
 use Rattle.group_run.specs.Meaning.{Lives, is_dead, process_of}
 use Rattle.group_run.specs.Process.{Head, Node, Process}
 use Rattle.group_run.specs.Replica.{Replica, last_of, number_on, slot_in}
-use Rattle.group_run.specs.World.{Call, World, after, if_up, next_name, node_of, step, treated}
+use Rattle.group_run.specs.World.{AskedCall, World, after, if_up, next_name, process_node, step, treated}
 use Rattle.law_moves.specs.State.{State, state_of}
 use Rattle.law_moves.specs.State as state
 use Rattle.law_moves.proofs.Events.{FramedHistory, up_from}
@@ -70,7 +70,7 @@ use Rattle.law_log.proofs.Tables.{home-below, ruling-is}
 use Rattle.law_headline.proofs.All.{whole-always}
 use Rattle.law_headline.proofs.Promises.{stands-always}
 use Rattle.law_answers.specs.Laws.{AsksAlways, AsksHaveCauses, ClearAlways}
-use Rattle.law_answers.specs.Rules.{AsksFollowRules, FollowsRules, RulesAlways, bytes_of}
+use Rattle.law_answers.specs.Rules.{AsksFollowRules, FollowsRules, RulesAlways, held_length}
 use Rattle.law_answers.proofs.Ruled.{Agrees, follows}
 use Rattle.group_types.specs.declared.process.Partition.{Partition}
 use Rattle.group_run.specs.Heading.{partition}
@@ -132,7 +132,7 @@ no-run : (space : ℕ) (r : Replica) (len : ℕ) → place_for space r len ≡ N
 no-run space r zero is = absurd (cc is)
 no-run space r (suc len) is = (omega arith, subst (IsPlaced space r (suc len)) is (places_are_best space r (suc len) (omega arith)))
 
-module _ (h : History) (framed : FramedHistory h) (members : Members h.world.shape (state_of h)) (calls : List Call)
+module _ (h : History) (framed : FramedHistory h) (members : Members h.world.shape (state_of h)) (calls : List AskedCall)
     (stands : Stands h.world.shape calls (state_of h))
     (ties : Ties h.world.shape h.settled (table_now h.world)) (short : LogsAreShort h.world)
     (some : 1 ≤ h.world.shape.k) (op : Asked) (p : ProcessId) (pin : IsProcess h.world.shape p)
@@ -163,7 +163,7 @@ module _ (h : History) (framed : FramedHistory h) (members : Members h.world.sha
   module _ (y : Head) (heads : head_at (process_of h.world p) (home_in h.world op) ≡ Some y)
       (stood : HeadStands h.world.shape calls (at [] h.settled (home_in h.world op)) (home_in h.world op)
       (process_of h.world p) y)
-      (up : IsUp h.world p) (ready : IsReady h.world p (home_in h.world op)) (few : state.IsUp h.world.shape (state_of h)) where
+      (up : IsUp h.world p) (ready : IsReady h.world p (home_in h.world op)) (few : state.IsGroupUp h.world.shape (state_of h)) where
     abbrev read : Run → Found
     read = found_at h.world.shape (home_in h.world op) (process_of h.world p) (process_of h.world p).name
 
@@ -256,11 +256,11 @@ module _ (h : History) (framed : FramedHistory h) (members : Members h.world.sha
           ∙ ap (λ (o : Option ℕ). found_unless o (rebuilt_bytes w.shape d run (process_of w p).as_leader)) misses.missing
 
       -- the item is as long as the table's
-      length-same : item_length r op ≡ bytes_of ((table_now w).items key)
-      length-same = ap (λ (xs : List (List ℕ × Slot)). length_of (slot_in xs key)) items
+      length-same : item_length r op ≡ held_length ((table_now w).items key)
+      length-same = ap (λ (xs : List (List ℕ × Slot)). slot_length (slot_in xs key)) items
           ∙ by (slot_in store.items key) (each-slot (λ x. x.at + x.len ≤ space_of w.shape) key store.items fits.inside)
-          ∙ sym (ap bytes_of (ties.items key ∙ same-held w.shape calls settled d (process_of w p) y stood op free)) where
-            by : (o : Option Slot) → OfSlot (λ x. x.at + x.len ≤ space_of w.shape) o → length_of o ≡ bytes_of (held_in store.space o)
+          ∙ sym (ap held_length (ties.items key ∙ same-held w.shape calls settled d (process_of w p) y stood op free)) where
+            by : (o : Option Slot) → OfSlot (λ x. x.at + x.len ≤ space_of w.shape) o → slot_length o ≡ held_length (held_in store.space o)
             by None within = refl
             by (Some slot) within = sym (length-bytes_at slot.at slot.len store.space (let long = fits.long in omega (arith, long, within)))
 
@@ -410,7 +410,7 @@ module _ (h : History) (framed : FramedHistory h) (members : Members h.world.sha
     -- the decision where nothing stands in the way on the key has its reason
     decided : waits_for y.inherited op.act (number_on r.log key) ≡ None → Caused (space_of w.shape) r op read real
         (decide_blind (space_of w.shape) r op read (slot_in r.items key)
-        (blind_reply (length_of (slot_in r.items key))
+        (blind_reply (slot_length (slot_in r.items key))
         (ruling_with r op (slot_in r.items key) (unseen (slot_in r.items key)))))
     decided free =
         caused (space_of w.shape) r store op read fits.long stood.reads (slot_in r.items key)
@@ -451,7 +451,7 @@ module _ (h : History) (framed : FramedHistory h) (members : Members h.world.sha
     head-reason name after shape None waits same = act-reason waits name after _ (decided waits) shape same
 
   -- what a process makes of the call
-  by_head : (name : CallName) (after : World) → w.shape ≡ after.shape → state.IsUp w.shape (state_of h) → IsUp w p
+  by_head : (name : CallName) (after : World) → w.shape ≡ after.shape → state.IsGroupUp w.shape (state_of h) → IsUp w p
       → (o : Option Head) → head_at (process_of w p) d ≡ o
       → process_of after p ≡ (ask_head w.shape name op d (process_of w p) o).step.process
       → AskCause w after p op (ask_head w.shape name op d (process_of w p) o).answer
@@ -463,9 +463,10 @@ module _ (h : History) (framed : FramedHistory h) (members : Members h.world.sha
       (ready-from h members p d pin up.process low y.rank (seat-head (process_of w p) d y heads)) few name after shape
       (waits_for y.inherited op.act (number_on r.log key)) refl same
 
-  by_words : (name : CallName) (after : World) → w.shape ≡ after.shape → (down dead : Bool) → (node_of w p).down ≡ down → (node_of w p).dead ≡ dead
-      → process_of after p ≡ (if_up down dead (node_of w p) (treated w.shape (node_of w p) (ask_process w.shape name op (process_of w p)))).node.process
-      → AskCause w after p op (if_up down dead (node_of w p) (treated w.shape (node_of w p) (ask_process w.shape name op (process_of w p)))).answer
+  by_words : (name : CallName) (after : World) → w.shape ≡ after.shape → (down dead : Bool) → (process_node w p).down ≡ down → (process_node w p).dead ≡ dead
+      → process_of after p ≡
+      (if_up down dead (process_node w p) (treated w.shape (process_node w p) (ask_process w.shape name op (process_of w p)))).node.process
+      → AskCause w after p op (if_up down dead (process_node w p) (treated w.shape (process_node w p) (ask_process w.shape name op (process_of w p)))).answer
   by_words name after shape true dead isdown isdead same = is-down w h.settled framed p pin isdown
   by_words name after shape false true isdown isdead same = (not-down w h.settled framed p pin isdown, isdead)
   by_words name after shape false false isdown isdead same =
@@ -473,7 +474,7 @@ module _ (h : History) (framed : FramedHistory h) (members : Members h.world.sha
       (is-up w h.settled framed p pin isdown isdead) (head_at (process_of w p) d) refl same
 
   -- what a head that is ready answers follows the rules
-  ruled-head : (name : CallName) → state.IsUp w.shape (state_of h) → IsUp w p → IsReady w p d → (o : Option Head) → head_at (process_of w p) d ≡ o
+  ruled-head : (name : CallName) → state.IsGroupUp w.shape (state_of h) → IsUp w p → IsReady w p d → (o : Option Head) → head_at (process_of w p) d ≡ o
       → FollowsRules w p op (ask_head w.shape name op d (process_of w p) o).answer
   ruled-head name few up ready None heads = absurd (no_seat (seat-from-ready h members p d pin up.process low ready)) where
     no_seat : (r : ℕ) × (seat_of (process_of w p) d ≡ Some r) → ⊥
@@ -481,22 +482,22 @@ module _ (h : History) (framed : FramedHistory h) (members : Members h.world.sha
   ruled-head name few up ready (Some y) heads =
       head-rules y heads (stands.heads few p d y pin up.process low heads) up ready few name (waits_for y.inherited op.act (number_on r.log key)) refl
 
-  ruled-words : (name : CallName) → IsUp w p → IsReady w p d → (down dead : Bool) → (node_of w p).down ≡ down → (node_of w p).dead ≡ dead
-      → FollowsRules w p op (if_up down dead (node_of w p) (treated w.shape (node_of w p) (ask_process w.shape name op (process_of w p)))).answer
+  ruled-words : (name : CallName) → IsUp w p → IsReady w p d → (down dead : Bool) → (process_node w p).down ≡ down → (process_node w p).dead ≡ dead
+      → FollowsRules w p op (if_up down dead (process_node w p) (treated w.shape (process_node w p) (ask_process w.shape name op (process_of w p)))).answer
   ruled-words name up ready true dead isdown isdead = absurd (up.group (is-down w h.settled framed p pin isdown))
   ruled-words name up ready false true isdown isdead = absurd (let lives = up.process in cc (lives, isdead))
   ruled-words name up ready false false isdown isdead =
       ruled-head name (up_from w.shape w.nodes h.settled framed p pin isdown) up ready (head_at (process_of w p) d) refl
 
   pub ruled : (caller : ℕ) → IsUp w p → IsReady w p d → FollowsRules w p op (step w (Ask caller op p)).turn.answer
-  ruled caller up ready = ruled-words (next_name w caller) up ready (node_of w p).down (node_of w p).dead refl refl
+  ruled caller up ready = ruled-words (next_name w caller) up ready (process_node w p).down (process_node w p).dead refl refl
 
   pub asked : (caller : ℕ) → AskCause w (step w (Ask caller op p)).world p op (step w (Ask caller op p)).turn.answer
-  asked caller = by_words (next_name w caller) (step w (Ask caller op p)).world refl (node_of w p).down (node_of w p).dead refl refl
+  asked caller = by_words (next_name w caller) (step w (Ask caller op p)).world refl (process_node w p).down (process_node w p).dead refl refl
       (ap (λ (n : Node). n.process)
       (node-here w.shape w.nodes p
-      (if_up (node_of w p).down (node_of w p).dead (node_of w p)
-      (treated w.shape (node_of w p) (ask_process w.shape (next_name w caller) op (process_of w p)))).node))
+      (if_up (process_node w p).down (process_node w p).dead (process_node w p)
+      (treated w.shape (process_node w p) (ask_process w.shape (next_name w caller) op (process_of w p)))).node))
 
 both-always : (s : Dimensions) (es : List Event) → IsRun s es → AsksHaveCauses (after s es) × AsksFollowRules (after s es)
 both-always s es run =
@@ -526,7 +527,7 @@ pub rules_always : RulesAlways
 rules_always s es run = (both-always s es run).1
 
 -- a call that nothing stands in the way of
-served : (w after : World) (p : ProcessId) (op : Asked) (answer : Answer) → IsClear w p op → AskCause w after p op answer → IsServed w op answer
+served : (w after : World) (p : ProcessId) (op : Asked) (answer : Answer) → CanProceed w p op → AskCause w after p op answer → IsServed w op answer
 served w after p op says.Down clear reason = clear.up.group reason
 served w after p op says.Lost clear reason = absurd (let lives = clear.up.process in cc (lives, reason.1))
 served w after p op says.Moved clear reason = reason.1 clear.ready

@@ -11,7 +11,7 @@ use Rattle.group_types.specs.declared.process.ProcessId.{ProcessId}
 use Rattle.group_types.specs.declared.process.ProcessId.TheVariants.{DataNode, ParityNode}
 use Rattle.group_types.proofs.Lists.{at-replicate}
 use Rattle.group_types.proofs.Names.{process_at-index, same-cases}
-use Rattle.membership.specs.Members.{Membership, all_living, count_dead, knows_dead, lost_of, with_dead}
+use Rattle.membership.specs.Members.{Membership, all_living, count_dead_words, count_known_dead, knows_dead, with_dead}
 use Rattle.group_message.specs.declared.message.Message.{Message}
 use Rattle.group_message.specs.declared.message.Message.TheVariants as tells
 use Rattle.group_run.specs.Applying.{ProcessStep}
@@ -38,7 +38,7 @@ one-if b = if b then 1 else 0
 
 -- the words that say dead, counted by who is dead in a range
 count-below : (xs : List Bool) (f : ℕ → Bool) (a n : ℕ) → ((d : ℕ) → at false xs d ≡ true → (d < n) × (f (a + d) ≡ true))
-    → count_dead xs ≤ count_dead (map f (range_with_len a n))
+    → count_dead_words xs ≤ count_dead_words (map f (range_with_len a n))
 count-below [] f a n all = omega arith
 count-below (true ∷ xs) f a zero all = let none = (all zero refl).0 in absurd (omega (arith, none))
 count-below (false ∷ xs) f a zero all =
@@ -52,8 +52,8 @@ count-below (x ∷ xs) f a (suc n) all = by x refl (count-below xs f (a + 1) n l
       let place : a + 1 + d ≡ a + suc d = omega arith in
       (omega (arith, low), ap f place ∙ fact.1)
 
-  by : (b : Bool) → x ≡ b → count_dead xs ≤ count_dead (map f (range_with_len (a + 1) n))
-      → (if x then 1 else 0) + count_dead xs ≤ (if f a then 1 else 0) + count_dead (map f (range_with_len (a + 1) n))
+  by : (b : Bool) → x ≡ b → count_dead_words xs ≤ count_dead_words (map f (range_with_len (a + 1) n))
+      → (if x then 1 else 0) + count_dead_words xs ≤ (if f a then 1 else 0) + count_dead_words (map f (range_with_len (a + 1) n))
   by true is rest =
       let place : a ≡ a + zero = omega arith in
       let here : f a ≡ true = ap f place ∙ (all zero is).1 in
@@ -63,18 +63,18 @@ count-below (x ∷ xs) f a (suc n) all = by x refl (count-below xs f (a + 1) n l
   by false is rest = let word = ap one-if is in omega (arith, rest, word)
 
 count-two : (f : ℕ → Bool) (a n m : ℕ)
-    → count_dead (map f (range_with_len a (n + m))) ≡ count_dead (map f (range_with_len a n)) + count_dead (map f (range_with_len (a + n) m))
+    → count_dead_words (map f (range_with_len a (n + m))) ≡ count_dead_words (map f (range_with_len a n)) + count_dead_words (map f (range_with_len (a + n) m))
 count-two f a zero m =
     let start : zero + m ≡ m = omega arith in
     let place : a ≡ a + zero = omega arith in
-    let one = ap (λ (k : ℕ). count_dead (map f (range_with_len a k))) start in
-    let two = ap (λ (k : ℕ). count_dead (map f (range_with_len k m))) place in
+    let one = ap (λ (k : ℕ). count_dead_words (map f (range_with_len a k))) start in
+    let two = ap (λ (k : ℕ). count_dead_words (map f (range_with_len k m))) place in
     omega (arith, one, two)
 count-two f a (suc n) m =
     let longer : suc n + m ≡ suc (n + m) = omega arith in
     let place : a + 1 + n ≡ a + suc n = omega arith in
-    let whole = ap (λ (k : ℕ). count_dead (map f (range_with_len a k))) longer in
-    let moved = ap (λ (k : ℕ). count_dead (map f (range_with_len k m))) place in
+    let whole = ap (λ (k : ℕ). count_dead_words (map f (range_with_len a k))) longer in
+    let moved = ap (λ (k : ℕ). count_dead_words (map f (range_with_len k m))) place in
     let rest = count-two f (a + 1) n m in
     omega (arith, whole, moved, rest)
 
@@ -84,7 +84,8 @@ KnownInside s v = (p : ProcessId) → IsProcess s p → (q : ProcessId) → know
 
 module _ (s : Dimensions) where
   -- where all known are of the group and dead, they are no more than there are
-  few-known : (v : State) (known : Membership) → ((q : ProcessId) → knows_dead known q ≡ true → IsProcess s q × (v.dead q ≡ true)) → lost_of known ≤ lost_in s v
+  few-known : (v : State) (known : Membership) → ((q : ProcessId) → knows_dead known q ≡ true → IsProcess s q × (v.dead q ≡ true))
+      → count_known_dead known ≤ lost_in s v
   few-known v known all =
       let datas = count-below known.data_dead (λ x. v.dead (process_at s x)) 0 s.k of-data in
       let parities = count-below known.parity_dead (λ x. v.dead (process_at s x)) (0 + s.k) s.m of-parity in

@@ -21,7 +21,7 @@ use Rattle.memc_table.specs.declared.reply.Reply.{Reply}
 use Rattle.group_message.specs.declared.message.Message.{Message}
 use Rattle.group_message.specs.declared.message.Message.TheVariants as tells
 use Rattle.group_message.specs.declared.update.Update.{Update}
-use Rattle.group_calls.specs.Turns.{CallName, accepts, entry_of}
+use Rattle.group_calls.specs.Turns.{CallName, accepts, call_entry}
 use Rattle.group_calls.specs.declared.decision.Decision.{Decision}
 use Rattle.group_calls.specs.declared.decision.Decision.TheVariants as decides
 use Rattle.group_calls.specs.declared.entry.Entry.{Entry}
@@ -41,10 +41,10 @@ use Rattle.group_run.specs.Meaning.{process_of}
 use Rattle.group_run.specs.Process.{Copy, Head, Node, Process}
 use Rattle.group_run.specs.Receiving.{receive}
 use Rattle.group_run.specs.Rows.{parity_number}
-use Rattle.group_run.specs.World.{asked_after, Call, DeliveryStep, GroupStep, Ledger, NodeStep, Ticket, World, after}
+use Rattle.group_run.specs.World.{asked_after, AskedCall, DeliveryStep, GroupStep, Ledger, NodeStep, Ticket, World, after}
 use Rattle.group_run.specs.World.{all_change, dead_nodes, delivered, flush_process, group_step, grown, if_up}
 use Rattle.group_run.specs.World.{ledger_after, ledger_with, link_after, link_emptied, links_after, logged_at_once}
-use Rattle.group_run.specs.World.{next_name, node_after, node_failed, node_in, node_of, opening_node, op_moved}
+use Rattle.group_run.specs.World.{next_name, node_after, node_failed, node_in, process_node, opening_node, op_moved}
 use Rattle.group_run.specs.World.{ops_moved, receive_node, refusal_logged, same_call, step, ticket_if, tickets_after}
 use Rattle.group_run.specs.World.{treated, unchanged, with_down, with_link, with_node}
 use Rattle.law_moves.proofs.Reading.{at-indices, node-back, node-here, node-other, size-with_node}
@@ -151,19 +151,19 @@ pub record IsWide (w : World) : Type 0 where
 wide-links : (w : World) (e : Event) → length w.nodes ≡ w.shape.k + w.shape.m → LinksMany w.shape w.nodes → MayCome w e
     → LinksMany w.shape (group_step w e).nodes
 wide-links w (Ask caller op p) size all may = links-treated w.shape w.nodes size all p
-    (ask_process w.shape (next_name w caller) op (process_of w p)) (node_of w p).down (node_of w p).dead may.1
+    (ask_process w.shape (next_name w caller) op (process_of w p)) (process_node w p).down (process_node w p).dead may.1
 wide-links w (Collect caller call p) size all may =
     links-treated w.shape w.nodes size all p (collect_from caller call (process_of w p) (range_with_len 0 w.shape.k))
-    (node_of w p).down (node_of w p).dead may.1
+    (process_node w p).down (process_node w p).dead may.1
 wide-links w (Flush p) size all may = links-treated w.shape w.nodes size all p (flush_process w.shape (process_of w p))
-    (node_of w p).down (node_of w p).dead may
+    (process_node w p).down (process_node w p).dead may
 wide-links w (Trace caller call d p) size all may =
     links-answered w.shape w.nodes size all p
-    (fate_of w.shape caller call d.0 (process_of w p) (head_at (process_of w p) d.0)) (node_of w p).down
-    (node_of w p).dead may.3
-wide-links w (Deliver from to) size all may = links-delivered w.shape w.nodes size all from to (node_of w to).down
-    (node_of w to).dead (at [] (node_of w from).links (index_of w.shape to)) may.0 may.1
-wide-links w (Fail p keep) size all may = links-failed w.shape w.nodes size all p keep (node_of w p).dead may
+    (fate_of w.shape caller call d.0 (process_of w p) (head_at (process_of w p) d.0)) (process_node w p).down
+    (process_node w p).dead may.3
+wide-links w (Deliver from to) size all may = links-delivered w.shape w.nodes size all from to (process_node w to).down
+    (process_node w to).dead (at [] (process_node w from).links (index_of w.shape to)) may.0 may.1
+wide-links w (Fail p keep) size all may = links-failed w.shape w.nodes size all p keep (process_node w p).dead may
 
 wide-step : (w : World) (e : Event) → length w.nodes ≡ w.shape.k + w.shape.m → MayCome w e → IsWide w → IsWide (step w e).world
 wide-step w e size may wide = record {
@@ -196,12 +196,12 @@ ledger-stays tickets (suc n) a ledger low =
 
 -- a ticket of another call stays
 tickets-stay : (name : CallName) (op : Asked) (reply : Reply) (tickets : List Ticket)
-    → Each (λ t. t.name ≢ name) tickets → map (op_moved (entry_of name op reply ∷ [])) tickets ≡ tickets
+    → Each (λ t. t.name ≢ name) tickets → map (op_moved (call_entry name op reply ∷ [])) tickets ≡ tickets
 tickets-stay name op reply [] other = refl
 tickets-stay name op reply (t ∷ ts) other =
     let fails : same_call name t.name ≡ false = call-ne name t.name (λ same. other.0 (sym same)) in
-    let here : op_moved (entry_of name op reply ∷ []) t ≡ t = ap (λ (b : Bool). if (b || false) then record t { op = None } else t) fails in
-    let rest : map (op_moved (entry_of name op reply ∷ [])) ts ≡ ts = tickets-stay name op reply ts other.1 in
+    let here : op_moved (call_entry name op reply ∷ []) t ≡ t = ap (λ (b : Bool). if (b || false) then record t { op = None } else t) fails in
+    let rest : map (op_moved (call_entry name op reply ∷ [])) ts ≡ ts = tickets-stay name op reply ts other.1 in
     λ i. here i ∷ rest i
 
 copy_kept-settles : (b : Bool) (s : Dimensions) (copy : Copy) (p : Process) → (copy_kept b s copy p).settled ≡ []
@@ -250,15 +250,20 @@ Walked nodes g _ = (g.nodes ≡ nodes) × (g.settled ≡ [])
 
 module _ (w : World) (size : length w.nodes ≡ w.shape.k + w.shape.m) (wide : IsWide w) (p : ProcessId) (pin : IsProcess w.shape p) where
   -- the node was put back
-  stays : with_node w.shape p (node_of w p) w.nodes ≡ w.nodes
+  stays : with_node w.shape p (process_node w p) w.nodes ≡ w.nodes
   stays = node-back w.shape w.nodes p pin size
 
   -- a call that is only answered
   abbrev step_of : CallStep → GroupStep
-  step_of call = record { nodes = with_node w.shape p (node_after w.shape call.step (node_of w p)) w.nodes; answer = call.answer; settled = call.step.settled }
+  step_of call = record {
+    nodes = with_node w.shape p (node_after w.shape call.step (process_node w p)) w.nodes;
+    answer = call.answer;
+    settled =
+        call.step.settled;
+  }
 
-  put_back : with_node w.shape p (node_after w.shape (quiet (process_of w p)) (node_of w p)) w.nodes ≡ w.nodes
-  put_back = ap (λ (n : Node). with_node w.shape p n w.nodes) (node-stays w.shape (node_of w p) (wide.links p pin)) ∙ stays
+  put_back : with_node w.shape p (node_after w.shape (quiet (process_of w p)) (process_node w p)) w.nodes ≡ w.nodes
+  put_back = ap (λ (n : Node). with_node w.shape p n w.nodes) (node-stays w.shape (process_node w p) (wide.links p pin)) ∙ stays
 
   walked-retry : (b : ℕ) (o : Option Oldest) → Walked w.nodes (step_of (retry_block w.shape b o (process_of w p)))
       (retry_block w.shape b o (process_of w p)).answer
@@ -287,17 +292,17 @@ module _ (w : World) (size : length w.nodes ≡ w.shape.k + w.shape.m) (wide : I
       (found_at w.shape d (process_of w p) (process_of w p).name))
 
   walked : (caller : ℕ) (op : Asked) → Walked w.nodes (group_step w (Ask caller op p)) (group_step w (Ask caller op p)).answer
-  walked caller op = by (node_of w p).down (node_of w p).dead where
+  walked caller op = by (process_node w p).down (process_node w p).dead where
     by : (down dead : Bool) → let t : NodeStep =
-        if_up down dead (node_of w p)
-        (treated w.shape (node_of w p) (ask_process w.shape (next_name w caller) op (process_of w p))) in
+        if_up down dead (process_node w p)
+        (treated w.shape (process_node w p) (ask_process w.shape (next_name w caller) op (process_of w p))) in
         Walked w.nodes (record { nodes = with_node w.shape p t.node w.nodes; answer = t.answer; settled = t.settled }) t.answer
     by true dead = (stays, refl)
     by false true = (stays, refl)
     by false false = walked-head (next_name w caller) op (home_of (key_of op.act) w.shape.k) (head_at (process_of w p) (home_of (key_of op.act) w.shape.k))
 
 -- the group after a call that this step of it answers
-abbrev world_with : World → Call → List Node → List Settlement → Answer → World
+abbrev world_with : World → AskedCall → List Node → List Settlement → Answer → World
 world_with w c nodes settled answer =
     let tickets : List Ticket = tickets_after (length w.log) (Some c) answer w.tickets in
     let ledger : Ledger = ledger_after tickets settled (range_with_len 0 w.shape.k) (record { logged = logged_at_once (Some c) answer; places = w.places }) in
@@ -311,7 +316,7 @@ world_with w c nodes settled answer =
       tickets = ops_moved ledger.logged tickets;
     }
 
-module _ (w : World) (wide : IsWide w) (c : Call) (other : Each (λ t. t.name ≢ c.name) w.tickets) where
+module _ (w : World) (wide : IsWide w) (c : AskedCall) (other : Each (λ t. t.name ≢ c.name) w.tickets) where
   ledger-is : (tickets : List Ticket) (logged : List Entry) (settled : List Settlement) → settled ≡ []
       → ledger_after tickets settled (range_with_len 0 w.shape.k) (record { logged = logged; places = w.places })
       ≡ record { logged = logged; places = w.places }
@@ -360,7 +365,7 @@ module _ (w : World) (wide : IsWide w) (c : Call) (other : Each (λ t. t.name �
   leaves g (says.Stale n) walks = (walks.0, keeps g.nodes g.settled (says.Stale n) walks.1 refl refl)
 
 -- tickets are of calls that were asked, so the next call has none
-tickets-other : (log : List Entry) (asked : List ℕ) (c : Call) (calls : List Call) (tickets : List Ticket) → c.name.call ≡ at 0 asked c.name.caller
+tickets-other : (log : List Entry) (asked : List ℕ) (c : AskedCall) (calls : List AskedCall) (tickets : List Ticket) → c.name.call ≡ at 0 asked c.name.caller
     → AreAsked asked calls → AreTickets log calls tickets → Each (λ t. t.name ≢ c.name) tickets
 tickets-other log asked c [] [] next all are = tt
 tickets-other log asked c [] (t ∷ ts) next all are = absurd are

@@ -27,7 +27,7 @@ use Rattle.group_run.specs.History.{History, no_history, prolonged, history}
 use Rattle.group_run.specs.Process.{Head, Process}
 use Rattle.group_run.specs.Receiving.{receive}
 use Rattle.group_run.specs.Replica.{Replica, callers, empty_replica, last_of}
-use Rattle.group_run.specs.World.{Call, after, asked_after, call_of}
+use Rattle.group_run.specs.World.{AskedCall, after, asked_after, call_of}
 use Rattle.law_moves.proofs.Moves.{Acted, Failed, Moves, Received, Stays, Treated}
 use Rattle.law_moves.specs.State.{State, state_of}
 use Rattle.law_moves.proofs.State.{Opens}
@@ -207,7 +207,7 @@ module _ (s : Dimensions) (shaped : IsShape s) where
     by (inr none) = let same = at-i in omega (arith, none, same)
 
 -- a call more
-asks-more : (asked : List ℕ) (o : Option Call) (caller n : ℕ) → at 0 asked caller ≤ n → at 0 (asked_after asked o) caller ≤ suc n
+asks-more : (asked : List ℕ) (o : Option AskedCall) (caller n : ℕ) → at 0 asked caller ≤ n → at 0 (asked_after asked o) caller ≤ suc n
 asks-more asked None caller n low = omega (arith, low)
 asks-more asked (Some c) caller n low = by (cases_eq caller c.name.caller) where
   by : (caller ≡ c.name.caller) ⊎ (caller ≢ c.name.caller) → at 0 (put 0 asked c.name.caller (suc (at 0 asked c.name.caller))) caller ≤ suc n

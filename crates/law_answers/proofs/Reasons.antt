@@ -19,7 +19,7 @@ use Rattle.group_calls.specs.declared.decision.Decision.{Decision}
 use Rattle.group_calls.specs.declared.decision.Decision.TheVariants.{Answer, Retry, NoSpace, NeedBlock, Issue}
 use Rattle.group_run.specs.Deciding.{Bytes, Found, Missing, blind_reply, decide_accepted, decide_blind, decide_found}
 use Rattle.group_run.specs.Deciding.{decide_left, decide_placed, decide_ruled, decide_written, held_as, is_blind}
-use Rattle.group_run.specs.Deciding.{is_touch, item_found, length_of, outcome_of, reads_bytes, ruling_with, run_needed}
+use Rattle.group_run.specs.Deciding.{is_touch, item_found, outcome_of, reads_bytes, ruling_with, run_needed, slot_length}
 use Rattle.group_run.specs.Deciding.{unseen, window}
 use Rattle.group_run.specs.Free.{place_for}
 use Rattle.group_run.specs.Replica.{Replica, last_of, run_in, slot_in}
@@ -41,7 +41,7 @@ Readable r op read = (run : Run) (b : ℕ) → run_needed op (slot_in r.items (k
 
 -- how many bytes the item has
 abbrev pub item_length : Replica → Asked → ℕ
-item_length r op = length_of (slot_in r.items (key_of op.act))
+item_length r op = slot_length (slot_in r.items (key_of op.act))
 
 -- where the op leaves a value that it writes, there is a run for it, over bytes that are there
 abbrev pub HasPlace : ℕ → Replica → Asked → (Run → Found) → Option Holding → Type 0
@@ -176,7 +176,7 @@ module _ (space : ℕ) (r : Replica) (store : Store) (op : Asked) (read : Run �
 
     -- how many bytes it has
     item-long : item_length r op ≡ slot.len
-    item-long = ap length_of own_is
+    item-long = ap slot_length own_is
 
     -- nothing is needed but this
     needed-is : (o : Option Run) → run_needed op (Some slot) ≡ o → (run : Run) → run_needed op (slot_in r.items (key_of op.act)) ≡ Some run → o ≡ Some run
@@ -225,7 +225,7 @@ module _ (space : ℕ) (r : Replica) (store : Store) (op : Asked) (read : Run �
   no-item is own_is (Some reply) blind =
       let refused = blind-refused 0 (ruling_of op.moment (suc (last_of r)) op.act None) reply blind in (
         ap (λ (x : Option Slot). ruling_of op.moment (suc (last_of r)) op.act (live_at op.moment (held_in store.space x))) is ∙ refused.0,
-        inl (ap (λ (x : Option Slot). is_blind (length_of x) reply) own_is ∙ refused.1),
+        inl (ap (λ (x : Option Slot). is_blind (slot_length x) reply) own_is ∙ refused.1),
       )
   no-item is own_is None blind =
       caused-ruled (ruling_of op.moment (suc (last_of r)) op.act None)
@@ -235,6 +235,6 @@ module _ (space : ℕ) (r : Replica) (store : Store) (op : Asked) (read : Run �
 
   pub caused : (slot : Option Slot) → slot_in store.items (key_of op.act) ≡ slot → slot_in r.items (key_of op.act)
       ≡ slot → OfSlot (λ x. x.at + x.len ≤ space) slot
-      → Caused space r op read real (decide_blind space r op read slot (blind_reply (length_of slot) (ruling_with r op slot (unseen slot))))
+      → Caused space r op read real (decide_blind space r op read slot (blind_reply (slot_length slot) (ruling_with r op slot (unseen slot))))
   caused None is own_is within = no-item is own_is (blind_reply 0 (ruling_of op.moment (suc (last_of r)) op.act None)) refl
   caused (Some slot) is own_is within = item slot is own_is (omega (arith, long, within)) (blind_reply slot.len (ruling_on slot (unseen (Some slot)))) refl

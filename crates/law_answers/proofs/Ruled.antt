@@ -38,7 +38,7 @@ use Rattle.group_run.specs.World.{World}
 use Rattle.law_updates.specs.Placing.{IsPlaced}
 use Rattle.law_updates.proofs.Placing.{places_are_best}
 use Rattle.law_answers.specs.Rules.{CanRead, CanWrite, FollowsRules, HasWindow, IsIssued, IsOldestInherited}
-use Rattle.law_answers.specs.Rules.{IsUnhindered, Refuses, RefusesBlindly, WaitsForBlock, bytes_of}
+use Rattle.law_answers.specs.Rules.{IsUnhindered, Refuses, RefusesBlindly, WaitsForBlock, held_length}
 use Rattle.law_answers.proofs.Oldest.{IsOldest, is-oldest}
 use Rattle.law_answers.proofs.Reasons.{Accepts, Caused, FindsFull, FindsNone, HasPlace, Issues, MissesItem, MissesPlace, Readable, item_length}
 
@@ -123,7 +123,7 @@ pub record Agrees (w : World) (p : ProcessId) (op : Asked) (read : Run → Found
       → (reply ≡ reply_of (table_now w) op) × (accepts reply ≡ true) × (reply_from (outcome_of reply) ≡ reply)
   pub left : (k : Holding) → Accepts real (Some k) → (v : Holding) × Leaves w op v × (length k.item.value ≡ length v.item.value)
   pub leaves : (v : Holding) → Leaves w op v → (k : Holding) × Accepts real (Some k)
-  pub long : item_length (replica_for w p op) op ≡ bytes_of ((table_now w).items (key_of op.act))
+  pub long : item_length (replica_for w p op) op ≡ held_length ((table_now w).items (key_of op.act))
   pub misses : (run : Run) (b : ℕ) → read run ≡ Missing b → MissesBlock w p op run b
   pub missing : (run : Run) (b : ℕ) → MissesBlock w p op run b → read run ≡ Missing b
   pub hinders : (d n : ℕ) → ¬ (WaitsForKey w p op d n)

@@ -20,11 +20,11 @@ use Rattle.group_run.specs.Process.{Copy, Gathering, Head, Process}
 use Rattle.group_run.specs.Receiving.{ack_to, data_marks, death_known, enthroned, log_adopted, notice_comes, read_comes}
 use Rattle.group_run.specs.Receiving.{receive, take_over_if, taken_over, takes_over, update_taken}
 use Rattle.group_run.specs.Rows.{accepts_mark, begin_copy, block_in, copy_in, is_marked, marked, parity_number, marks_of, with_copies, without_copy}
-use Rattle.group_run.specs.Locality.{times}
+use Rattle.group_run.specs.Locality.{occurrences}
 use Rattle.law_answers.proofs.Counts.{count-append, count-flat, count-one, count-parities, count_to, once-differing, once-range, times-filtered}
 
 -- the other parity processes, each once
-once-others : (m : ℕ) (name : ProcessId) (known : Membership) (j : ℕ) → times j (other_parities m name known) ≤ 1
+once-others : (m : ℕ) (name : ProcessId) (known : Membership) (j : ℕ) → occurrences j (other_parities m name known) ≤ 1
 once-others m name known j =
     let less = times-filtered (λ i. not (same_process name (ParityNode i)) && not (knows_dead known (ParityNode i))) j (range_with_len 0 m) in
     let one = once-range j 0 m in

@@ -33,7 +33,7 @@ use Rattle.group_run.specs.Leaders.{start_session}
 use Rattle.group_run.specs.Process.{Copy, Head, Held, Process}
 use Rattle.group_run.specs.Replica.{Replica, with_update}
 use Rattle.group_run.specs.Rows.{accepts_mark, begin_copy, copy_begun, copy_in, is_copy, is_marked, marked, parity_number, with_copies, without_copy}
-use Rattle.group_run.specs.Locality.{times}
+use Rattle.group_run.specs.Locality.{occurrences}
 use Rattle.law_moves.proofs.Members.{IsParity}
 use Rattle.law_histories.proofs.Deciding.{RestsWell, decides-well}
 use Rattle.law_answers.specs.Steps.{AlwaysSendsFew}
@@ -136,7 +136,7 @@ module _ (s : Dimensions) (q : ProcessId) where
       count-parities (λ i. tells.Mark (session_of leader number) (rank (at 0 p.ranks l)) block (partition l) (replica_of p l).applied) q
       (filter (λ i. not (i == leader)) (rows_of s p)) once
     where
-      once : (j : ℕ) → times j (filter (λ i. not (i == leader)) (rows_of s p)) ≤ 1
+      once : (j : ℕ) → occurrences j (filter (λ i. not (i == leader)) (rows_of s p)) ≤ 1
       once j =
           let others = times-filtered (λ i. not (i == leader)) j (rows_of s p) in
           let taken = times-taken j (length (lost_of s p)) (filter (λ i. not (knows_dead p.known (ParityNode i))) (range_with_len 0 s.m)) in
@@ -154,7 +154,7 @@ module _ (s : Dimensions) (q : ProcessId) where
       (flat_map (leader_marks s leader number block p) (lost_of s p)) in
       omega (arith, left, marks, many, all, both)
     where
-      once : (j : ℕ) → times j (left_of s p) ≤ 1
+      once : (j : ℕ) → occurrences j (left_of s p) ≤ 1
       once j = let less = times-filtered (λ d. not (knows_dead p.known (DataNode d))) j (range_with_len 0 s.k) in
           let one = once-range j 0 s.k in omega (arith, less, one)
 

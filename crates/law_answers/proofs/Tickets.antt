@@ -15,7 +15,7 @@ use Rattle.group_calls.specs.declared.event.Answer.{Answer}
 use Rattle.group_calls.specs.declared.event.Event.{Event}
 use Rattle.group_calls.specs.declared.event.Event.TheVariants.{Ask, Collect, Deliver, Fail, Flush, Trace}
 use Rattle.group_run.specs.Headline.{IsRun, MayCome}
-use Rattle.group_run.specs.World.{Call, Ticket, World, after, asked_after, call_of, group_step, is_issued, next_name}
+use Rattle.group_run.specs.World.{AskedCall, Ticket, World, after, asked_after, call_of, group_step, is_issued, next_name}
 use Rattle.group_run.specs.World.{op_moved, ops_moved, same_call, step, ticket_if, tickets_after}
 use Rattle.law_log.specs.Book.{book_of, booked}
 use Rattle.law_log.proofs.Books.{book-world, book_always}
@@ -26,7 +26,7 @@ abbrev IsAsked : List ℕ → Ticket → Type 0
 IsAsked asked t = t.name.call < at 0 asked t.name.caller
 
 -- counts of asks only grow
-asks-rise : (asked : List ℕ) (o : Option Call) (caller : ℕ) → at 0 asked caller ≤ at 0 (asked_after asked o) caller
+asks-rise : (asked : List ℕ) (o : Option AskedCall) (caller : ℕ) → at 0 asked caller ≤ at 0 (asked_after asked o) caller
 asks-rise asked None caller = omega arith
 asks-rise asked (Some c) caller = by (cases_eq caller c.name.caller) where
   by : (caller ≡ c.name.caller) ⊎ (caller ≢ c.name.caller) → at 0 asked caller ≤ at 0 (put 0 asked c.name.caller (suc (at 0 asked c.name.caller))) caller
@@ -37,7 +37,7 @@ asks-rise asked (Some c) caller = by (cases_eq caller c.name.caller) where
       omega (arith, now, here, before)
   by (inr other) = let is = at-put-other 0 asked c.name.caller caller (suc (at 0 asked c.name.caller)) other in omega (arith, is)
 
-still-asked : (asked : List ℕ) (o : Option Call) (tickets : List Ticket) → Each (IsAsked asked) tickets → Each (IsAsked (asked_after asked o)) tickets
+still-asked : (asked : List ℕ) (o : Option AskedCall) (tickets : List Ticket) → Each (IsAsked asked) tickets → Each (IsAsked (asked_after asked o)) tickets
 still-asked asked o tickets all = each-weaker (IsAsked asked) (IsAsked (asked_after asked o))
     (λ t low. let rise = asks-rise asked o t.name.caller in omega (arith, low, rise)) tickets all
 
@@ -54,7 +54,7 @@ record Stand (asked : List ℕ) (tickets : List Ticket) : Type 0 where
 ticket-next : (w : World) (since : ℕ) (e : Event) (answer : Answer) → Stand w.asked w.tickets
     → Stand (asked_after w.asked (call_of w e)) (tickets_after since (call_of w e) answer w.tickets)
 ticket-next w since (Ask caller op p) answer stand = by (is_issued answer) where
-  c : Call
+  c : AskedCall
   c = record { name = next_name w caller; op = op }
 
   after : List ℕ

@@ -21,7 +21,7 @@ use Rattle.group_run.specs.Heading.{other_parities}
 use Rattle.group_run.specs.History.{History, history_of, no_history}
 use Rattle.group_run.specs.Meaning.{process_of}
 use Rattle.group_run.specs.Process.{Head}
-use Rattle.group_run.specs.World.{World, if_up, node_of, unchanged}
+use Rattle.group_run.specs.World.{World, if_up, process_node, unchanged}
 use Rattle.law_moves.specs.State.{state_of}
 use Rattle.law_moves.proofs.Events.{FramedHistory}
 use Rattle.law_moves.proofs.Runs.{framed-from, framed-opening, shape-from, world-from}
@@ -151,7 +151,7 @@ module _ (h : History) (framed : FramedHistory h) (members : Members h.world.sha
   w = h.world
 
   traces : TracesHaveCauses h.world
-  traces caller call d p may = by (node_of h.world p).down (node_of h.world p).dead refl refl where
+  traces caller call d p may = by (process_node h.world p).down (process_node h.world p).dead refl refl where
     by_head : IsUp h.world p → (o : Option Head) → head_at (process_of h.world p) d.0 ≡ o
         → TraceCause h.world p caller call d.0 (fate_of h.world.shape caller call d.0 (process_of h.world p) o)
     by_head up None heads = (up, λ ready. no_seat (seat-from-ready h members p d.0 may.3 up.process may.2 ready)) where
@@ -162,11 +162,11 @@ module _ (h : History) (framed : FramedHistory h) (members : Members h.world.sha
         (ready-from h members p d.0 may.3 up.process may.2 y.rank (seat-head (process_of h.world p) d.0 y heads))
         (is_in_log caller call (replica_of (process_of h.world p) d.0).log) refl
 
-    by : (down dead : Bool) → (node_of h.world p).down ≡ down → (node_of h.world p).dead ≡ dead
+    by : (down dead : Bool) → (process_node h.world p).down ≡ down → (process_node h.world p).dead ≡ dead
         → TraceCause h.world p caller call d.0
-        (if_up down dead (node_of h.world p)
+        (if_up down dead (process_node h.world p)
         (unchanged (fate_of h.world.shape caller call d.0 (process_of h.world p) (head_at (process_of h.world p) d.0))
-        (node_of h.world p))).answer
+        (process_node h.world p))).answer
     by true dead isdown isdead = is-down h.world h.settled framed p may.3 isdown
     by false true isdown isdead = (not-down h.world h.settled framed p may.3 isdown, isdead)
     by false false isdown isdead = by_head (is-up h.world h.settled framed p may.3 isdown isdead) (head_at (process_of h.world p) d.0) refl

@@ -19,7 +19,7 @@ use Rattle.group_run.specs.Headline.{IsRun}
 use Rattle.group_run.specs.History.{History, history_of, no_history}
 use Rattle.group_run.specs.Meaning.{IsDown, link, process_of}
 use Rattle.group_run.specs.Process.{Held}
-use Rattle.group_run.specs.World.{World, after, all_change, dead_nodes, delivered, flush_process, if_up, node_of, treated}
+use Rattle.group_run.specs.World.{World, after, all_change, dead_nodes, delivered, flush_process, if_up, process_node, treated}
 use Rattle.law_moves.proofs.Events.{Framed, FramedHistory}
 use Rattle.law_moves.proofs.Runs.{framed-from, framed-opening, world-from}
 use Rattle.law_answers.specs.Laws.{CollectsAlways, CollectsHaveCauses, DeliveriesAlways, DeliveriesHaveCauses}
@@ -58,36 +58,36 @@ none-there test (y ∷ ys) x is (k, low, there) = by (test y) refl is k low ther
 
 module _ (w : World) (settled : List (List Update)) (framed : Framed w.shape w.nodes settled) where
   -- a node's word is right
-  pub is-down : (p : ProcessId) → IsProcess w.shape p → (node_of w p).down ≡ true → IsDown w
+  pub is-down : (p : ProcessId) → IsProcess w.shape p → (process_node w p).down ≡ true → IsDown w
   is-down p pin word = let told : nat_lt w.shape.m (dead_nodes w.nodes) ≡ true = sym (framed.down p pin) ∙ word in grind (arith, common_steps)
 
-  pub not-down : (p : ProcessId) → IsProcess w.shape p → (node_of w p).down ≡ false → ¬ (IsDown w)
+  pub not-down : (p : ProcessId) → IsProcess w.shape p → (process_node w p).down ≡ false → ¬ (IsDown w)
   not-down p pin word down =
       let told : nat_lt w.shape.m (dead_nodes w.nodes) ≡ false = sym (framed.down p pin) ∙ word in
       let few : dead_nodes w.nodes ≤ w.shape.m = grind (arith, common_steps) in absurd (omega (arith, few, down))
 
-  pub is-up : (p : ProcessId) → IsProcess w.shape p → (node_of w p).down ≡ false → (node_of w p).dead ≡ false → IsUp w p
+  pub is-up : (p : ProcessId) → IsProcess w.shape p → (process_node w p).down ≡ false → (process_node w p).dead ≡ false → IsUp w p
   is-up p pin down lives = record { group = not-down p pin down; process = lives }
 
   pub deliveries : DeliveriesHaveCauses w
-  deliveries from to may = by (node_of w to).down (node_of w to).dead refl refl (link w from to) refl where
-    by : (down dead : Bool) → (node_of w to).down ≡ down → (node_of w to).dead ≡ dead → (l : List Message) → link w from to ≡ l
-        → DeliverCause w from to (delivered down dead w.shape from to (node_of w from) (node_of w to) l).receiver.answer
+  deliveries from to may = by (process_node w to).down (process_node w to).dead refl refl (link w from to) refl where
+    by : (down dead : Bool) → (process_node w to).down ≡ down → (process_node w to).dead ≡ dead → (l : List Message) → link w from to ≡ l
+        → DeliverCause w from to (delivered down dead w.shape from to (process_node w from) (process_node w to) l).receiver.answer
     by true dead isdown isdead l is = is-down to may.1 isdown
     by false true isdown isdead l is = (not-down to may.1 isdown, inl isdead)
     by false false isdown isdead [] is = (not-down to may.1 isdown, inr is)
     by false false isdown isdead (m ∷ rest) is = (is-up to may.1 isdown isdead, λ none. cc (none, is))
 
   pub failures : FailuresHaveCauses w
-  failures p keep may = by (node_of w p).dead refl where
-    by : (dead : Bool) → (node_of w p).dead ≡ dead → FailCause w p (all_change dead w.shape w.nodes p keep).answer
+  failures p keep may = by (process_node w p).dead refl where
+    by : (dead : Bool) → (process_node w p).dead ≡ dead → FailCause w p (all_change dead w.shape w.nodes p keep).answer
     by true is = is
     by false is = is
 
   pub flushes : FlushesHaveCauses w
-  flushes p may = by (node_of w p).down (node_of w p).dead refl refl where
-    by : (down dead : Bool) → (node_of w p).down ≡ down → (node_of w p).dead ≡ dead
-        → FlushCause w p (if_up down dead (node_of w p) (treated w.shape (node_of w p) (flush_process w.shape (process_of w p)))).answer
+  flushes p may = by (process_node w p).down (process_node w p).dead refl refl where
+    by : (down dead : Bool) → (process_node w p).down ≡ down → (process_node w p).dead ≡ dead
+        → FlushCause w p (if_up down dead (process_node w p) (treated w.shape (process_node w p) (flush_process w.shape (process_of w p)))).answer
     by true dead isdown isdead = is-down p may isdown
     by false true isdown isdead = (not-down p may isdown, isdead)
     by false false isdown isdead = is-up p may isdown isdead
@@ -122,11 +122,11 @@ module _ (w : World) (settled : List (List Update)) (framed : Framed w.shape w.n
           handed x (record { partition = omega (arith, all); held = there.0; named = there.1 }) (nat_le x.number (replica_of (process_of w p) a).applied) refl
 
   pub collects : CollectsHaveCauses w
-  collects caller call p may = by (node_of w p).down (node_of w p).dead refl refl where
-    by : (down dead : Bool) → (node_of w p).down ≡ down → (node_of w p).dead ≡ dead
+  collects caller call p may = by (process_node w p).down (process_node w p).dead refl refl where
+    by : (down dead : Bool) → (process_node w p).down ≡ down → (process_node w p).dead ≡ dead
         → CollectCause w p caller call
-        (if_up down dead (node_of w p)
-        (treated w.shape (node_of w p)
+        (if_up down dead (process_node w p)
+        (treated w.shape (process_node w p)
         (collect_from caller call (process_of w p) (range_with_len 0 w.shape.k)))).answer
     by true dead isdown isdead = is-down p may.1 isdown
     by false true isdown isdead = (not-down p may.1 isdown, isdead)

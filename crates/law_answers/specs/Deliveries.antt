@@ -6,7 +6,7 @@ use Rattle.group_types.specs.declared.process.Partition.{Partition}
 use Rattle.group_types.specs.declared.process.ProcessId.{ProcessId}
 use Rattle.group_types.specs.declared.process.ProcessId.TheVariants.{DataNode, ParityNode}
 use Rattle.group_types.specs.declared.process.Rank.{Rank}
-use Rattle.membership.specs.Members.{lost_of, with_dead}
+use Rattle.membership.specs.Members.{count_known_dead, with_dead}
 use Rattle.group_message.specs.declared.message.Message.{Message}
 use Rattle.group_message.specs.declared.message.Message.TheVariants as tells
 use Rattle.group_message.specs.declared.message.Session.{Session}
@@ -46,7 +46,7 @@ KindsAlways = (s : Dimensions) (es : List Event) → IsRun s es → FirstsAreFor
 -- a living process that receives a notice next knows of no more than m dead then
 abbrev pub KnowsFewDead : Dimensions → World → Type 0
 KnowsFewDead s w = (from to dead : ProcessId) (rest : List Message) → IsProcess s from → IsProcess s to → from ≢ to → Lives w to
-    → link w from to ≡ tells.Notice dead ∷ rest → lost_of (with_dead (process_of w to).known dead) ≤ s.m
+    → link w from to ≡ tells.Notice dead ∷ rest → count_known_dead (with_dead (process_of w to).known dead) ≤ s.m
 
 -- so it is along every run, while the group isn't down
 abbrev pub FewDeadAlways : Type 0

@@ -27,9 +27,9 @@ abbrev pub IsUnhindered : World → ProcessId → Asked → Type 0
 IsUnhindered w p op = (d n : ℕ) → ¬ (WaitsForKey w p op d n)
 
 -- how many bytes the item of the op's key has in the table, 0 where there is none
-abbrev pub bytes_of : Option Holding → ℕ
-bytes_of None = 0
-bytes_of (Some h) = length h.item.value
+abbrev pub held_length : Option Holding → ℕ
+held_length None = 0
+held_length (Some h) = length h.item.value
 
 -- the table refuses the op
 abbrev pub Refuses : World → Asked → Type 0
@@ -37,7 +37,7 @@ Refuses w op = accepts (reply_of (table_now w) op) ≡ false
 
 -- and no byte of the item is needed to say so
 abbrev pub RefusesBlindly : World → Asked → Type 0
-RefusesBlindly w op = Refuses w op × (is_blind (bytes_of ((table_now w).items (key_of op.act))) (reply_of (table_now w) op) ≡ true)
+RefusesBlindly w op = Refuses w op × (is_blind (held_length ((table_now w).items (key_of op.act))) (reply_of (table_now w) op) ≡ true)
 
 -- the bytes of the item that the op needs are there
 abbrev pub CanRead : World → ProcessId → Asked → Type 0

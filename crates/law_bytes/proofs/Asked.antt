@@ -28,7 +28,7 @@ use Rattle.group_run.specs.Process.{Gathering, Head, Held, Process}
 use Rattle.group_run.specs.Replica.{with_update}
 use Rattle.group_run.specs.Rows.{parity_number}
 use Rattle.law_moves.proofs.Moves.{Acted, Treats, Asks, Collects, Flushes}
-use Rattle.law_moves.specs.State.{IsUp, State}
+use Rattle.law_moves.specs.State.{IsGroupUp, State}
 use Rattle.law_moves.proofs.Members.{Members, Sits, knows_lower}
 use Rattle.law_moves.proofs.Calls.{Seated, seat-lower}
 use Rattle.erasure_code.proofs.Nodes.{Among}
@@ -206,7 +206,8 @@ module _ (s : Dimensions) (shaped : IsShape s) (settled : ℕ → List Update) (
   treats-given _ Flushes = stays-given p (none-self s p)
 
 module _ (s : Dimensions) (shaped : IsShape s) where
-  treated : (v w : State) (p : ProcessId) (t : ProcessStep) → IsProcess s p → IsUp s v → v.dead p ≡ false → Treats s (v.process p) t → Backed s v → Members s w
+  treated : (v w : State) (p : ProcessId) (t : ProcessStep) → IsProcess s p → IsGroupUp s v → v.dead p ≡ false → Treats s (v.process p) t → Backed s v
+      → Members s w
       → NextIsNew s (v.process p) → NeedsInside s (v.process p)
       → StepSettles s w.settled (v.process p) t → Acted s v w p t → SessionsStand s v → RebuildsGiven s w.settled (v.process p) t.process
   treated v w p t pin up lives treats backed after next needs right acts stands =

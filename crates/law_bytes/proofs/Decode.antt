@@ -13,7 +13,7 @@ use Rattle.field_byte.specs.Field.{product}
 use Rattle.field_byte.specs.Vectors.{field_sum}
 use Rattle.field_byte.proofs.FieldSums.{sum_same}
 use Rattle.erasure_code.specs.Code.{Column, coded, coefficient, decoded}
-use Rattle.erasure_code.specs.Columns.{Agree, AreDifferent, AreOfBytes, IsEachBelow, numbers_of}
+use Rattle.erasure_code.specs.Columns.{Agree, AreDifferent, AreOfBytes, IsEachBelow, column_numbers}
 use Rattle.erasure_code.specs.Laws.{CanDecode}
 use Rattle.erasure_code.proofs.Decoding.{lost_are_decoded}
 use Rattle.erasure_code.proofs.Lists.{get_or-zeros}
@@ -100,32 +100,32 @@ columns-each P a (Some bytes ∷ parts) every = (
   columns-each P (suc a) parts (λ j more is. subst (λ (n : ℕ). P n more) (let same : a + suc j ≡ suc a + j = omega arith in same) (every (suc j) more is)),
 )
 
-columns-above : (b a : ℕ) (parts : List (Option (List ℕ))) → b ≤ a → Each (λ y. b ≤ y) (numbers_of (columns_from a parts))
+columns-above : (b a : ℕ) (parts : List (Option (List ℕ))) → b ≤ a → Each (λ y. b ≤ y) (column_numbers (columns_from a parts))
 columns-above b a [] low = tt
 columns-above b a (None ∷ parts) low = columns-above b (suc a) parts (omega (arith, low))
 columns-above b a (Some bytes ∷ parts) low = (low, columns-above b (suc a) parts (omega (arith, low)))
 
-columns-rise : (a : ℕ) (parts : List (Option (List ℕ))) → Rising (numbers_of (columns_from a parts))
+columns-rise : (a : ℕ) (parts : List (Option (List ℕ))) → Rising (column_numbers (columns_from a parts))
 columns-rise a [] = tt
 columns-rise a (None ∷ parts) = columns-rise (suc a) parts
 columns-rise a (Some bytes ∷ parts) = (
   each-weaker (λ y. suc a ≤ y) (λ y. a < y) (λ y above. omega (arith, above))
-      (numbers_of (columns_from (suc a) parts)) (columns-above (suc a) (suc a) parts (omega arith)),
+      (column_numbers (columns_from (suc a) parts)) (columns-above (suc a) (suc a) parts (omega arith)),
   columns-rise (suc a) parts,
 )
 
-columns-among : (a : ℕ) (parts : List (Option (List ℕ))) (j : ℕ) → is_some (at None parts j) ≡ true → Among (a + j) (numbers_of (columns_from a parts))
+columns-among : (a : ℕ) (parts : List (Option (List ℕ))) (j : ℕ) → is_some (at None parts j) ≡ true → Among (a + j) (column_numbers (columns_from a parts))
 columns-among a [] j there = absurd (cc there)
 columns-among a (None ∷ parts) zero there = absurd (cc there)
 columns-among a (None ∷ parts) (suc j) there =
-    subst (λ (n : ℕ). Among n (numbers_of (columns_from (suc a) parts))) (let same : suc a + j ≡ a + suc j = omega arith
+    subst (λ (n : ℕ). Among n (column_numbers (columns_from (suc a) parts))) (let same : suc a + j ≡ a + suc j = omega arith
     in same) (columns-among (suc a) parts j there)
 columns-among a (Some bytes ∷ parts) zero there = inl (let same : a + 0 ≡ a = omega arith in same)
 columns-among a (Some bytes ∷ parts) (suc j) there =
-    inr (subst (λ (n : ℕ). Among n (numbers_of (columns_from (suc a) parts)))
+    inr (subst (λ (n : ℕ). Among n (column_numbers (columns_from (suc a) parts)))
     (let same : suc a + j ≡ a + suc j = omega arith in same) (columns-among (suc a) parts j there))
 
-numbers-each : (P : ℕ → Type 0) (cs : List Column) → Each (λ c. P c.number) cs → Each P (numbers_of cs)
+numbers-each : (P : ℕ → Type 0) (cs : List Column) → Each (λ c. P c.number) cs → Each P (column_numbers cs)
 numbers-each P [] all = tt
 numbers-each P (c ∷ cs) all = (all.0, numbers-each P cs all.1)
 
@@ -175,42 +175,43 @@ module _ (s : Dimensions) (us : ℕ → List Update) (g : Gathering) (shaped : I
       (λ j bytes is. subst (λ (n : ℕ). Contains g.rows n × IsBlock s g.block (code s n us) bytes)
       (let same : j ≡ 0 + j = omega arith in same) (right.codes j bytes is))
 
-  known_in : Each (λ d. (d < s.k) × (¬ (Contains g.lost d))) (numbers_of known)
+  known_in : Each (λ d. (d < s.k) × (¬ (Contains g.lost d))) (column_numbers known)
   known_in =
       numbers-each (λ d. (d < s.k) × (¬ (Contains g.lost d))) known
       (each-weaker (λ c. (c.number < s.k) × (¬ (Contains g.lost c.number)) × IsBlock s g.block (value (us c.number))
       c.bytes) (λ c. (c.number < s.k) × (¬ (Contains g.lost c.number))) (λ c all. (all.0, all.1)) known known_each)
 
-  rows_are : numbers_of rows ≡ g.rows
+  rows_are : column_numbers rows ≡ g.rows
   unfolding rows
-  rows_are = rising-same (numbers_of rows) g.rows (columns-rise 0 g.rows_in) right.rows
-      (λ i there. contains-among g.rows i (each-among (λ x. Contains g.rows x) (numbers_of rows) i
+  rows_are = rising-same (column_numbers rows) g.rows (columns-rise 0 g.rows_in) right.rows
+      (λ i there. contains-among g.rows i (each-among (λ x. Contains g.rows x) (column_numbers rows) i
       (numbers-each (λ x. Contains g.rows x) rows
       (each-weaker (λ c. Contains g.rows c.number × IsBlock s g.block (code s c.number us) c.bytes)
       (λ c. Contains g.rows c.number) (λ c all. all.0) rows rows_each)) there))
-      (λ i there. subst (λ (n : ℕ). Among n (numbers_of rows)) (let same : 0 + i ≡ i = omega arith in same)
+      (λ i there. subst (λ (n : ℕ). Among n (column_numbers rows)) (let same : 0 + i ≡ i = omega arith in same)
       (columns-among 0 g.rows_in i (all-among (λ x. is_some (at None g.rows_in x)) g.rows i parts.1 there)))
 
-  either : (d : ℕ) → d < s.k → Among d g.lost ⊎ Among d (numbers_of known)
+  either : (d : ℕ) → d < s.k → Among d g.lost ⊎ Among d (column_numbers known)
   unfolding known
   either d below =
       by (or-parts _ _ (all-among (λ d. list_any (λ l. l == d) g.lost || is_some (at None g.blocks_in d))
       (range_with_len 0 s.k) d parts.0 (among-range d 0 s.k (omega arith) (omega (arith, below))))) where
         by : (list_any (λ l. l == d) g.lost ≡ true) ⊎ (is_some (at None g.blocks_in d) ≡ true) → Among d g.lost
-            ⊎ Among d (numbers_of (columns_from 0 g.blocks_in))
+            ⊎ Among d (column_numbers (columns_from 0 g.blocks_in))
         by (inl lost) = inl (any-among g.lost d lost)
         by (inr there) =
-            inr (subst (λ (n : ℕ). Among n (numbers_of (columns_from 0 g.blocks_in))) (let same : 0 + d ≡ d = omega arith in
+            inr (subst (λ (n : ℕ). Among n (column_numbers (columns_from 0 g.blocks_in))) (let same : 0 + d ≡ d = omega arith in
             same) (columns-among 0 g.blocks_in d there))
 
   can : CanDecode s.k s.m g.lost rows known
   unfolding known rows
   can = record {
     processes = let a = shaped.k in let b = shaped.m in omega (arith, a, b);
-    partitions = each-below-of s.k g.lost (numbers_of known) (differ-rising g.lost right.lost) (differ-rising (numbers_of known) (columns-rise 0 g.blocks_in))
-        (λ x lost there. (each-among (λ d. (d < s.k) × (¬ (Contains g.lost d))) (numbers_of known) x known_in there).1
+    partitions = each-below-of s.k g.lost (column_numbers known) (differ-rising g.lost right.lost)
+        (differ-rising (column_numbers known) (columns-rise 0 g.blocks_in))
+        (λ x lost there. (each-among (λ d. (d < s.k) × (¬ (Contains g.lost d))) (column_numbers known) x known_in there).1
         (among-contains g.lost x lost)) right.lost_in
-        (each-weaker (λ d. (d < s.k) × (¬ (Contains g.lost d))) (λ d. d < s.k) (λ d all. all.0) (numbers_of known) known_in) either;
+        (each-weaker (λ d. (d < s.k) × (¬ (Contains g.lost d))) (λ d. d < s.k) (λ d all. all.0) (column_numbers known) known_in) either;
     different = subst AreDifferent (sym rows_are) (differ-pairs g.rows (differ-rising g.rows right.rows));
     below = subst (All (λ i. i < s.m)) (sym rows_are) (all-each (λ i. i < s.m) g.rows right.rows_in);
     as_many = sym (length-map rows (λ row. row.number)) ∙ ap length rows_are ∙ right.as_many;

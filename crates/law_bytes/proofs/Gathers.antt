@@ -14,7 +14,7 @@ use Rattle.law_bytes.specs.Decoding.{GathersRight}
 use Rattle.law_bytes.proofs.Decode.{sessions_decode}
 use Rattle.law_bytes.proofs.Rebuilding.{IsDecoded, with_block, with_row}
 use Rattle.law_bytes.proofs.Rising.{among-contains}
-use Rattle.law_bytes.specs.Leading.{IsSound}
+use Rattle.law_bytes.specs.Leading.{IsSoundSession}
 use Rattle.law_bytes.proofs.Finds.{found-each, if-some}
 use Rattle.group_run.specs.Leaders.{open_session}
 use Rattle.group_types.specs.declared.process.ProcessId.TheVariants.{ParityNode}
@@ -24,7 +24,7 @@ use Rattle.law_bytes.proofs.Stamps.{GatheringFollows, Plan, planned}
 
 module _ (s : Dimensions) (settled : ℕ → List Update) (write : SettledWrite s settled) (plan : Plan) where
   -- a sound session that follows a plan gathers right
-  pub gathers-right : (g : Gathering) → IsSound s g → GatheringFollows s settled plan g → GathersRight s (planned settled plan) g
+  pub gathers-right : (g : Gathering) → IsSoundSession s g → GatheringFollows s settled plan g → GathersRight s (planned settled plan) g
   gathers-right g sound follows = record {
     lost = sound.lost;
     lost_in = sound.lost_in;
@@ -44,7 +44,7 @@ module _ (s : Dimensions) (settled : ℕ → List Update) (write : SettledWrite 
   }
 
   -- and what it decodes to are the lost partitions' values
-  pub decodes-right : (g : Gathering) (d b : ℕ) (bytes : List ℕ) → IsShape s → IsSound s g → GatheringFollows s settled plan g → is_complete s g ≡ true
+  pub decodes-right : (g : Gathering) (d b : ℕ) (bytes : List ℕ) → IsShape s → IsSoundSession s g → GatheringFollows s settled plan g → is_complete s g ≡ true
       → IsDecoded s g g.lost d b bytes → IsBlock s b (value (planned settled plan d)) bytes
   decodes-right g d b bytes shaped sound follows complete decoded =
       subst (λ (c : ℕ). IsBlock s c (value (planned settled plan d)) bytes) (sym decoded.block)
@@ -52,7 +52,7 @@ module _ (s : Dimensions) (settled : ℕ → List Update) (write : SettledWrite 
       (sessions_decode s (planned settled plan) g shaped (gathers-right g sound follows) complete d (among-contains g.lost d decoded.lost)))
 
   -- a session stays sound with a row more, and with a block of a partition that isn't lost
-  pub row-sound : (i : ℕ) (bytes : List ℕ) (g : Gathering) → IsSound s g → IsSound s (with_row i bytes g)
+  pub row-sound : (i : ℕ) (bytes : List ℕ) (g : Gathering) → IsSoundSession s g → IsSoundSession s (with_row i bytes g)
   row-sound i bytes g sound = record {
     lost = sound.lost;
     lost_in = sound.lost_in;
@@ -62,7 +62,7 @@ module _ (s : Dimensions) (settled : ℕ → List Update) (write : SettledWrite 
     blocks = sound.blocks;
   }
 
-  pub block-sound : (e : ℕ) (bytes : List ℕ) (g : Gathering) → e < s.k → ¬ (Contains g.lost e) → IsSound s g → IsSound s (with_block e bytes g)
+  pub block-sound : (e : ℕ) (bytes : List ℕ) (g : Gathering) → e < s.k → ¬ (Contains g.lost e) → IsSoundSession s g → IsSoundSession s (with_block e bytes g)
   block-sound e bytes g below kept sound =
       record {
         lost = sound.lost;
@@ -85,6 +85,6 @@ sessions_gather s v sound up write stands l n g lin lives name opens =
       one.0,
       one.1,
       gathers-right s v.settled write one.0 g
-          (found-each (λ x. x.number == n) (IsSound s) (v.process (ParityNode l)).as_leader.sessions g opens
+          (found-each (λ x. x.number == n) (IsSoundSession s) (v.process (ParityNode l)).as_leader.sessions g opens
           (sound up (ParityNode l) lin lives)).1 follows.1,
     )

@@ -27,7 +27,7 @@ use Rattle.law_bytes.proofs.Applying.{at-rebuilt}
 use Rattle.law_bytes.proofs.Finds.{if-some}
 use Rattle.law_bytes.proofs.Rebuilding.{GivesBlock, block-gives, row-gives, with_block, with_row}
 use Rattle.law_bytes.proofs.Rising.{among-contains}
-use Rattle.law_bytes.specs.Leading.{IsSound}
+use Rattle.law_bytes.specs.Leading.{IsSoundSession}
 use Rattle.law_bytes.proofs.Rebuilt.{GivenAt, RebuildsGiven}
 use Rattle.law_bytes.specs.Held.{CopyHolds}
 use Rattle.group_types.proofs.Names.{same-eq}
@@ -116,7 +116,7 @@ module _ (s : Dimensions) where
 
   -- an open session that is sound and for what is known
   pub record SoundFor (known : Membership) (g : Gathering) : Type 0 where
-    pub sound : IsSound s g
+    pub sound : IsSoundSession s g
     pub lost : (e : ℕ) → Contains g.lost e → knows_dead known (DataNode e) ≡ true
 
   module _ (shaped : IsShape s) (settled : ℕ → List Update) (write : SettledWrite s settled) (l n : ℕ) (plan : Plan)
@@ -128,7 +128,7 @@ module _ (s : Dimensions) where
     gives : (d b : ℕ) (bytes : List ℕ) (g : Gathering) (more : Gathering → Gathering)
         (gb : GivesBlock s p.as_leader n d b bytes more) → (more gb.session).lost ≡ gb.session.lost
         → (GatheringFollows s settled plan gb.session → GatheringFollows s settled plan (more gb.session))
-        → (SoundFor known gb.session → IsSound s (more gb.session)) → GivenAt s settled known p d b bytes
+        → (SoundFor known gb.session → IsSoundSession s (more gb.session)) → GivenAt s settled known p d b bytes
     gives d b bytes g more gb same follows sounds =
         let before = if-some (λ x. (n ≤ p.as_leader.last_session) × GatheringFollows s settled plan x)
         (open_session p.as_leader n) gb.session gb.opens session in

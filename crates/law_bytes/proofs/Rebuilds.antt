@@ -22,7 +22,7 @@ use Rattle.group_run.specs.Receiving.{read_comes, receive, with_rank}
 use Rattle.group_run.specs.Replica.{Replica, empty_replica}
 use Rattle.group_run.specs.Rows.{accepts_mark, begin_copy, copy_in, parity_number}
 use Rattle.law_moves.proofs.Moves.{Acted, Popped}
-use Rattle.law_moves.specs.State.{IsUp, State}
+use Rattle.law_moves.specs.State.{IsGroupUp, State}
 use Rattle.law_moves.proofs.Members.{IsParity, MayStand, Members, Stands}
 use Rattle.law_moves.proofs.Calls.{each-below}
 use Rattle.law_moves.proofs.Standing.{sender-lives}
@@ -174,7 +174,7 @@ module _ (s : Dimensions) (shaped : IsShape s) (settled : ℕ → List Update) (
     receive-given (tells.Notice dead) may led new applies stand = none-given s settled p _ (none-notice s dead p)
 
 module _ (s : Dimensions) (shaped : IsShape s) where
-  pub received : (v u w : State) (x p : ProcessId) (m : Message) → IsProcess s x → IsProcess s p → x ≢ p → IsUp s v
+  pub received : (v u w : State) (x p : ProcessId) (m : Message) → IsProcess s x → IsProcess s p → x ≢ p → IsGroupUp s v
       → v.dead p ≡ false → Backed s v → Members s w → MarksNew m (v.process p)
       → StepSettles s w.settled (v.process p) (receive s x m (v.process p)) → Popped s v u x p m → Acted s u w p (receive s x m (v.process p))
       → SessionsStand s v → RebuildsGiven s w.settled (v.process p) (receive s x m (v.process p)).process

@@ -14,7 +14,7 @@ use Rattle.group_run.specs.Leaders.{open_session, rebuilt_block}
 use Rattle.group_run.specs.Process.{Gathering, Process}
 use Rattle.group_run.specs.Receiving.{receive}
 use Rattle.law_moves.proofs.Moves.{Acted, Popped, Treats}
-use Rattle.law_moves.specs.State.{IsUp, State}
+use Rattle.law_moves.specs.State.{IsGroupUp, State}
 use Rattle.law_moves.proofs.Members.{Members}
 use Rattle.law_bytes.specs.Areas.{IsBlock, value, SettledWrite}
 use Rattle.law_bytes.specs.Decoding.{GathersRight}
@@ -38,10 +38,10 @@ RebuildsGiven s settled p q = (d b : ℕ) (bytes : List ℕ) → d < s.k → reb
 
 -- every step rebuilds so
 pub record StepsRebuild (s : Dimensions) : Type 0 where
-  pub treats : (v w : State) (p : ProcessId) (t : ProcessStep) → IsProcess s p → IsUp s v → v.dead p ≡ false → Treats s (v.process p) t → Backed s v
+  pub treats : (v w : State) (p : ProcessId) (t : ProcessStep) → IsProcess s p → IsGroupUp s v → v.dead p ≡ false → Treats s (v.process p) t → Backed s v
       → Members s w → NextIsNew s (v.process p) → NeedsInside s (v.process p)
       → StepSettles s w.settled (v.process p) t → Acted s v w p t → SessionsStand s v → RebuildsGiven s w.settled (v.process p) t.process
-  pub receives : (v u w : State) (x p : ProcessId) (m : Message) → IsProcess s x → IsProcess s p → x ≢ p → IsUp s v
+  pub receives : (v u w : State) (x p : ProcessId) (m : Message) → IsProcess s x → IsProcess s p → x ≢ p → IsGroupUp s v
       → v.dead p ≡ false → Backed s v → Members s w → MarksNew m (v.process p)
       → StepSettles s w.settled (v.process p) (receive s x m (v.process p)) → Popped s v u x p m
       → Acted s u w p (receive s x m (v.process p)) → SessionsStand s v
@@ -53,7 +53,7 @@ StepsAlwaysRebuild = (s : Dimensions) → IsShape s → StepsRebuild s
 
 -- an open session of a living leader gathers right, at the numbers of a plan
 abbrev pub SessionsGather : Type 0
-SessionsGather = (s : Dimensions) (v : State) → SessionsSound s v → IsUp s v → SettledWrite s v.settled
+SessionsGather = (s : Dimensions) (v : State) → SessionsSound s v → IsGroupUp s v → SettledWrite s v.settled
     → SessionsStand s v → (l n : ℕ) (g : Gathering) → l < s.m → v.dead (ParityNode l) ≡ false
     → (v.process (ParityNode l)).name ≡ ParityNode l → open_session (v.process (ParityNode l)).as_leader n ≡ Some g
     → (plan : Plan) × SessionFollows s v l n plan × GathersRight s (planned v.settled plan) g

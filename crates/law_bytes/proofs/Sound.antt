@@ -11,9 +11,9 @@ use Rattle.group_types.specs.declared.process.ProcessId.TheVariants.{DataNode, P
 use Rattle.group_types.proofs.Names.{process_at-index, same-cases}
 use Rattle.group_types.specs.Each.{Each}
 use Rattle.group_types.proofs.Eaches.{each-take, each-weaker, each-filter}
-use Rattle.membership.specs.Members.{Membership, count_dead, knows_dead}
+use Rattle.membership.specs.Members.{Membership, count_dead_words, knows_dead}
 use Rattle.group_run.specs.Process.{Gathering}
-use Rattle.law_moves.specs.State.{IsUp, State, lost_in}
+use Rattle.law_moves.specs.State.{IsGroupUp, State, lost_in}
 use Rattle.law_moves.proofs.Members.{Members}
 use Rattle.law_moves.proofs.Keeping as members
 use Rattle.law_moves.proofs.Calls.{each-below}
@@ -21,17 +21,17 @@ use Rattle.law_bytes.specs.Decoding.{Rising}
 use Rattle.law_bytes.proofs.Rising.{among-filter, contains-among, rising-filtered}
 use Rattle.erasure_code.proofs.Nodes.{Among}
 use Rattle.law_bytes.proofs.Survivors.{count-both}
-use Rattle.law_bytes.specs.Leading.{IsSound, SessionsAlwaysSound}
+use Rattle.law_bytes.specs.Leading.{IsSoundSession, SessionsAlwaysSound}
 use Rattle.law_bytes.proofs.LeadingWords.{IsFor, left_by, lost_by}
 use Rattle.law_bytes.proofs.Leading.{sessions_always_fit}
 use Rattle.law_bytes.proofs.Finds.{rising-take}
 
 -- the dead of a range, counted
-count-filter : (f : ℕ → Bool) (a n : ℕ) → count_dead (map f (range_with_len a n)) ≡ length (filter f (range_with_len a n))
+count-filter : (f : ℕ → Bool) (a n : ℕ) → count_dead_words (map f (range_with_len a n)) ≡ length (filter f (range_with_len a n))
 count-filter f a zero = refl
 count-filter f a (suc n) = by (f a) (count-filter f (a + 1) n) where
-  by : (b : Bool) → count_dead (map f (range_with_len (a + 1) n)) ≡ length (filter f (range_with_len (a + 1) n))
-      → (if b then 1 else 0) + count_dead (map f (range_with_len (a + 1) n))
+  by : (b : Bool) → count_dead_words (map f (range_with_len (a + 1) n)) ≡ length (filter f (range_with_len (a + 1) n))
+      → (if b then 1 else 0) + count_dead_words (map f (range_with_len (a + 1) n))
       ≡ length (cond b (a ∷ filter f (range_with_len (a + 1) n)) (filter f (range_with_len (a + 1) n)))
   by true rest = omega (arith, rest)
   by false rest = omega (arith, rest)
@@ -86,7 +86,7 @@ filter-less test f c a b (suc n) place turns =
       by false true is it rest = omega (arith, rest)
       by false false is it rest = rest
 
-module _ (s : Dimensions) (v : State) (held : Members s v) (up : IsUp s v) (p : ProcessId) (pin : IsProcess s p) (lives : v.dead p ≡ false) where
+module _ (s : Dimensions) (v : State) (held : Members s v) (up : IsGroupUp s v) (p : ProcessId) (pin : IsProcess s p) (lives : v.dead p ≡ false) where
   known : Membership
   known = (v.process p).known
 
@@ -117,7 +117,7 @@ module _ (s : Dimensions) (v : State) (held : Members s v) (up : IsUp s v) (p : 
       let most : lost_in s v ≤ s.m = up in
       omega (arith, of_data, parity, both, counted, split, all, most)
 
-  sound : (g : Gathering) → IsFor s (v.process p).known g → IsSound s g
+  sound : (g : Gathering) → IsFor s (v.process p).known g → IsSoundSession s g
   sound g is = record {
     lost = subst Rising (sym is.lost) (rising-filtered (λ d. knows_dead (v.process p).known (DataNode d)) s.k);
     lost_in = subst (Each (λ d. d < s.k)) (sym is.lost)
@@ -144,4 +144,4 @@ module _ (s : Dimensions) (v : State) (held : Members s v) (up : IsUp s v) (p : 
 pub sessions_always_sound : SessionsAlwaysSound
 sessions_always_sound s es run up p pin lives =
     let held : Members s _ = members.members_always s es run in
-    each-weaker (IsFor s _) (IsSound s) (λ g is. sound s _ held up p pin lives g is) _ (sessions_always_fit s es run p pin lives)
+    each-weaker (IsFor s _) (IsSoundSession s) (λ g is. sound s _ held up p pin lives g is) _ (sessions_always_fit s es run p pin lives)

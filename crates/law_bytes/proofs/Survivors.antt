@@ -8,7 +8,7 @@ use Rattle.std.proofs.lemmas.List.FromFn.{length-range_with_len}
 use Rattle.std.proofs.lemmas.Option.{get_or_from_slice_get}
 use Rattle.std.specs.List.{list_any, range_with_len}
 use Rattle.erasure_code.specs.Code.{Column, coded}
-use Rattle.erasure_code.specs.Columns.{Agree, AreDifferent, IsEachBelow, numbers_of}
+use Rattle.erasure_code.specs.Columns.{Agree, AreDifferent, IsEachBelow, column_numbers}
 use Rattle.erasure_code.specs.Laws.{CanDecode}
 use Rattle.erasure_code.proofs.Decoding.{only_one_agrees}
 use Rattle.erasure_code.proofs.Nodes.{Among}
@@ -108,7 +108,7 @@ count-all s (ParityNode i ∷ ps) distinct inside =
     (has-not ps (ParityNode i) distinct.0) (omega arith) (let low = inside.0 in omega (arith, low)) in
     omega (arith, rest, more)
 
-numbers-map : (f : ℕ → List ℕ) (xs : List ℕ) → numbers_of (map (λ x. record { number = x; bytes = f x }) xs) ≡ xs
+numbers-map : (f : ℕ → List ℕ) (xs : List ℕ) → column_numbers (map (λ x. record { number = x; bytes = f x }) xs) ≡ xs
 numbers-map f [] = refl
 numbers-map f (x ∷ xs) = ap (λ (rest : List ℕ). x ∷ rest) (numbers-map f xs)
 
@@ -123,11 +123,11 @@ module _ (s : Dimensions) (ps : List ProcessId) (space : ProcessId → List ℕ)
   lost : List ℕ
   lost = filter (λ d. not (list_any (λ q. same_process q (DataNode d)) ps)) (range_with_len 0 s.k)
 
-  known_are : numbers_of known ≡ data_in s ps
+  known_are : column_numbers known ≡ data_in s ps
   unfolding known
   known_are = numbers-map (λ d. space (DataNode d)) (data_in s ps)
 
-  rows_are : numbers_of rows ≡ parity_in s ps
+  rows_are : column_numbers rows ≡ parity_in s ps
   unfolding rows
   rows_are = numbers-map (λ i. space (ParityNode i)) (parity_in s ps)
 

@@ -22,7 +22,7 @@ use Rattle.group_message.specs.declared.update.Body.TheVariants.{Put, Remove, To
 use Rattle.group_message.specs.declared.update.Update.{Update}
 use Rattle.group_run.specs.Applying.{block_added, block_after, coded_delta, space_added, space_after}
 use Rattle.group_run.specs.Fitting.{IsRunOf, Writes}
-use Rattle.law_bytes.specs.Areas.{HasBytes, IsArea, WritesBytes, change, held, shifted, value}
+use Rattle.law_bytes.specs.Areas.{HasByteDelta, IsArea, WritesBytes, change, held, shifted, value}
 use Rattle.law_bytes.proofs.Areas.{added-long, area_byte, area_long, shifted-before, shifted-from}
 
 -- a difference of bytes adds bytes
@@ -38,7 +38,7 @@ shifted-byte at delta x bytes = by (cases_lt x at) where
       let place : at + (x - at) ≡ x = omega (arith, from) in
       subst (λ (y : ℕ). shifted at delta y < 256) place (rw (shifted-from at delta (x - at)) (inside (x - at) (cases_lt (x - at) (length delta))))
 
-change-byte : (body : Body) (x : ℕ) → HasBytes body → change body x < 256
+change-byte : (body : Body) (x : ℕ) → HasByteDelta body → change body x < 256
 change-byte (Put flags until run delta) x bytes = shifted-byte run.at delta x bytes
 change-byte Remove x bytes = omega arith
 change-byte (Touch until) x bytes = omega arith

@@ -51,15 +51,15 @@ abbrev pub IsBlock : Dimensions → ℕ → (ℕ → ℕ) → List ℕ → Type 
 IsBlock s b f bytes = IsArea (b * s.block) (block_size s b) f bytes
 
 -- the difference of an update consists of bytes
-abbrev pub HasBytes : Body → Type 0
-HasBytes (Put _ _ run delta) = All (λ b. b < 256) delta
-HasBytes Remove = ⊤
-HasBytes (Touch _) = ⊤
+abbrev pub HasByteDelta : Body → Type 0
+HasByteDelta (Put _ _ run delta) = All (λ b. b < 256) delta
+HasByteDelta Remove = ⊤
+HasByteDelta (Touch _) = ⊤
 
 -- an update writes in the space, and bytes
 pub record WritesBytes (s : Dimensions) (u : Update) : Type 0 where
   pub writes : Writes (space_of s) u.body
-  pub bytes : HasBytes u.body
+  pub bytes : HasByteDelta u.body
 
 -- every settled update writes in the space, and bytes
 abbrev pub SettledWrite : Dimensions → (ℕ → List Update) → Type 0

@@ -26,7 +26,7 @@ use Rattle.group_run.specs.Deciding.{decide}
 use Rattle.group_run.specs.Meaning.{process_of}
 use Rattle.group_run.specs.Process.{Head, Held, Node, Process}
 use Rattle.group_run.specs.Replica.{with_update}
-use Rattle.group_run.specs.World.{World, after, if_up, next_name, node_of, step, treated}
+use Rattle.group_run.specs.World.{World, after, if_up, next_name, process_node, step, treated}
 use Rattle.law_moves.proofs.Events.{up_from}
 use Rattle.law_moves.proofs.Notices.{both}
 use Rattle.law_moves.proofs.Reading.{node-here}
@@ -81,7 +81,7 @@ module _ (s : Dimensions) (name : CallName) (op : Asked) (d n : ℕ) (p : Proces
   ask-held (Some h) is = act-held h (decide (space_of s) h.inherited (replica_of p d) op (found_at s d p p.name)) is
 
 pub tickets-held : (w : World) → TicketsAreHeld w
-tickets-held w caller op p n may is = by (node_of w p).down (node_of w p).dead is (ap (λ (x : Node). x.process) (node-here w.shape w.nodes p _)) where
+tickets-held w caller op p n may is = by (process_node w p).down (process_node w p).dead is (ap (λ (x : Node). x.process) (node-here w.shape w.nodes p _)) where
   call : CallStep
   call = ask_process w.shape (next_name w caller) op (process_of w p)
 
@@ -95,8 +95,8 @@ tickets-held w caller op p n may is = by (node_of w p).down (node_of w p).dead i
         ∷ []);
   }
 
-  by : (down dead : Bool) → (if_up down dead (node_of w p) (treated w.shape (node_of w p) call)).answer ≡ Ticket n
-      → process_of (step w (Ask caller op p)).world p ≡ (if_up down dead (node_of w p) (treated w.shape (node_of w p) call)).node.process
+  by : (down dead : Bool) → (if_up down dead (process_node w p) (treated w.shape (process_node w p) call)).answer ≡ Ticket n
+      → process_of (step w (Ask caller op p)).world p ≡ (if_up down dead (process_node w p) (treated w.shape (process_node w p) call)).node.process
       → HoldsTicket w (step w (Ask caller op p)).world caller op p n
   by true dead is same = absurd (cc is)
   by false true is same = absurd (cc is)
@@ -171,18 +171,19 @@ module _ (w : World) (p : ProcessId) (caller call : ℕ) (one : (d e : ℕ) (x y
         (nat_le x.number (replica_of (process_of w p) a).applied) is
 
 forgotten : (w : World) (caller call : ℕ) (p : ProcessId)
-    → ((node_of w p).down ≡ false → (node_of w p).dead ≡ false → (d e : ℕ) (x y : Held) → HoldsCall w p caller call d x
+    → ((process_node w p).down ≡ false → (process_node w p).dead ≡ false → (d e : ℕ) (x y : Held) → HoldsCall w p caller call d x
     → HoldsCall w p caller call e y → d ≡ e)
     → (r : _) → (step w (Collect caller call p)).turn.answer ≡ Reply r → (d : ℕ) (x : Held)
     → ¬ (HoldsCall (step w (Collect caller call p)).world p caller call d x)
-forgotten w caller call p one r is d x holds = by (node_of w p).down (node_of w p).dead refl refl is
+forgotten w caller call p one r is d x holds = by (process_node w p).down (process_node w p).dead refl refl is
     (ap (λ (y : Node). y.process) (node-here w.shape w.nodes p _)) where
       made : CallStep
       made = collect_from caller call (process_of w p) (range_with_len 0 w.shape.k)
 
-      by : (down dead : Bool) → (node_of w p).down ≡ down → (node_of w p).dead ≡ dead
-          → (if_up down dead (node_of w p) (treated w.shape (node_of w p) made)).answer ≡ Reply r
-          → process_of (step w (Collect caller call p)).world p ≡ (if_up down dead (node_of w p) (treated w.shape (node_of w p) made)).node.process → ⊥
+      by : (down dead : Bool) → (process_node w p).down ≡ down → (process_node w p).dead ≡ dead
+          → (if_up down dead (process_node w p) (treated w.shape (process_node w p) made)).answer ≡ Reply r
+          → process_of (step w (Collect caller call p)).world p ≡ (if_up down dead (process_node w p) (treated w.shape (process_node w p) made)).node.process
+          → ⊥
       by true dead isdown isdead is same = cc is
       by false true isdown isdead is same = cc is
       by false false isdown isdead is same =

@@ -12,7 +12,7 @@ use Rattle.group_calls.specs.declared.event.Event.{Event}
 use Rattle.group_run.specs.Draining.{event_or, is_waiting, next_among, next_delivery, next_from, next_target, node_at, some_message}
 use Rattle.group_run.specs.Meaning.{IsDrained, Lives, link}
 use Rattle.group_run.specs.Process.{Node}
-use Rattle.group_run.specs.World.{World, after, node_of}
+use Rattle.group_run.specs.World.{World, after, process_node}
 use Rattle.law_progress.proofs.Alone.{alone-after}
 use Rattle.law_progress.proofs.Next.{Waits, next-waits}
 use Rattle.law_causes.specs.Drained.{NextAlways}
@@ -58,8 +58,8 @@ module _ (w : World) where
       let y : ℕ = index_of w.shape to in
       let x-low = index-below w.shape from fin in
       let y-low = index-below w.shape to lives.0 in
-      let here : node_at w x ≡ node_of w from = ap (node_of w) (process_at-index w.shape from fin) in
-      let there : node_at w y ≡ node_of w to = ap (node_of w) (process_at-index w.shape to lives.0) in
+      let here : node_at w x ≡ process_node w from = ap (process_node w) (process_at-index w.shape from fin) in
+      let there : node_at w y ≡ process_node w to = ap (process_node w) (process_at-index w.shape to lives.0) in
       let quiet : is_waiting w x y ≡ false =
       none-target x count 0 y (none-among count 0 x none (omega arith) (omega (arith, x-low))) (omega arith)
       (omega (arith, y-low)) in

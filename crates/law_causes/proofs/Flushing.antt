@@ -18,7 +18,7 @@ use Rattle.group_run.specs.Heading.{other_parities, partition, rank, tell_stable
 use Rattle.group_run.specs.Meaning.{link, process_of}
 use Rattle.group_run.specs.Process.{Head, Node, Process}
 use Rattle.group_run.specs.World.{Ledger, NodeStep, World, after, flush_process, grown, if_up, ledger_after, link_after}
-use Rattle.group_run.specs.World.{node_after, node_of, ops_moved, sent_to, step, treated, with_node}
+use Rattle.group_run.specs.World.{node_after, ops_moved, process_node, sent_to, step, treated, with_node}
 use Rattle.law_moves.proofs.Moves.{Flushes}
 use Rattle.law_moves.proofs.Reading.{link-living, link-sent, node-here, node-other}
 use Rattle.law_histories.proofs.Calls.{sent-one}
@@ -86,22 +86,22 @@ module _ (w : World) (size : length w.nodes ≡ w.shape.k + w.shape.m) (wide : I
   call = flush_process w.shape (process_of w p)
 
   abbrev new : Node
-  new = node_after w.shape (flush_process w.shape (process_of w p)).step (node_of w p)
+  new = node_after w.shape (flush_process w.shape (process_of w p)).step (process_node w p)
 
   abbrev later : World
-  later = world_with w p (treated w.shape (node_of w p) (flush_process w.shape (process_of w p)))
+  later = world_with w p (treated w.shape (process_node w p) (flush_process w.shape (process_of w p)))
 
   ledger-is : ledger_after w.tickets [] (range_with_len 0 w.shape.k) (record { logged = []; places = w.places }) ≡ record { logged = []; places = w.places }
   ledger-is = ledger-stays w.tickets w.shape.k 0 (record { logged = []; places = w.places }) (let many = wide.places in omega (arith, many))
 
-  here : node_of later p ≡ new
+  here : process_node later p ≡ new
   here = node-here w.shape w.nodes p new
 
   -- the link to a process afterwards
   sent-link : (q : ProcessId) → IsProcess w.shape q → link later p q ≡ link_after (knows_dead x.known q) (link w p q)
       (sent_to q (tell_stables w.shape x (range_with_len 0 w.shape.k)))
   sent-link q qin = ap (λ (n : Node). at [] n.links (index_of w.shape q)) here
-      ∙ link-sent w.shape x.known (tell_stables w.shape x (range_with_len 0 w.shape.k)) (node_of w p).links q qin
+      ∙ link-sent w.shape x.known (tell_stables w.shape x (range_with_len 0 w.shape.k)) (process_node w p).links q qin
 
   none-sent : (q : ProcessId) → IsProcess w.shape q → sent_to q (tell_stables w.shape x (range_with_len 0 w.shape.k)) ≡ [] → link later p q ≡ link w p q
   none-sent q qin none = sent-link q qin ∙ ap (link_after (knows_dead x.known q) (link w p q)) none ∙ quiet-link (knows_dead x.known q) (link w p q)
@@ -110,7 +110,7 @@ module _ (w : World) (size : length w.nodes ≡ w.shape.k + w.shape.m) (wide : I
   told = record {
     told = λ i low other living.
         ap (λ (n : Node). at [] n.links (index_of w.shape (ParityNode i))) here
-        ∙ link-living w.shape x.known (tell_stables w.shape x (range_with_len 0 w.shape.k)) (node_of w p).links (ParityNode i) low living
+        ∙ link-living w.shape x.known (tell_stables w.shape x (range_with_len 0 w.shape.k)) (process_node w p).links (ParityNode i) low living
         ∙ ap (λ (ms : List Message). link w p (ParityNode i) ++ ms)
         (all-told w.shape x i low (λ same. other (same ∙ name)) living (range_with_len 0 w.shape.k));
     to_data = λ d low. none-sent (DataNode d) low (no-data w.shape x d (range_with_len 0 w.shape.k));
@@ -129,9 +129,9 @@ module _ (w : World) (size : length w.nodes ≡ w.shape.k + w.shape.m) (wide : I
   }
 
   pub flush-tells : (step w (Flush p)).turn.answer ≡ Done → HasToldStables w (step w (Flush p)).world p
-  flush-tells is = by (node_of w p).down (node_of w p).dead is where
-    by : (down dead : Bool) → (if_up down dead (node_of w p) (treated w.shape (node_of w p) call)).answer ≡ Done
-        → HasToldStables w (world_with w p (if_up down dead (node_of w p) (treated w.shape (node_of w p) call))) p
+  flush-tells is = by (process_node w p).down (process_node w p).dead is where
+    by : (down dead : Bool) → (if_up down dead (process_node w p) (treated w.shape (process_node w p) call)).answer ≡ Done
+        → HasToldStables w (world_with w p (if_up down dead (process_node w p) (treated w.shape (process_node w p) call))) p
     by true dead is = absurd (cc is)
     by false true is = absurd (cc is)
     by false false is = told

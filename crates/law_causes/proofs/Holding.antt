@@ -18,11 +18,11 @@ use Rattle.group_run.specs.History.{History, history}
 use Rattle.group_run.specs.Meaning.{Lives, process_of}
 use Rattle.group_run.specs.Process.{Head, Held}
 use Rattle.group_run.specs.Replica.{last_of}
-use Rattle.group_run.specs.World.{Call, World, after, update_name}
-use Rattle.law_moves.specs.State.{IsUp, state_of}
+use Rattle.group_run.specs.World.{AskedCall, World, after, update_name}
+use Rattle.law_moves.specs.State.{IsGroupUp, state_of}
 use Rattle.law_moves.proofs.Notices.{both}
 use Rattle.law_updates.specs.Fine.{AreSteps, IsCallOf}
-use Rattle.law_updates.specs.Store.{Store, stored}
+use Rattle.law_updates.specs.Store.{Store, store_with_update}
 use Rattle.law_histories.proofs.Around.{keeper-rank}
 use Rattle.law_histories.proofs.Finished.{reached-and-told}
 use Rattle.law_histories.proofs.Histories.{length-history}
@@ -48,11 +48,11 @@ pub record IsIssuedHere (w : World) (p : ProcessId) (d : ℕ) (x : Held) : Type 
   pub within : x.number ≤ last_of (replica_of (process_of w p) d)
 
 -- the call of an update of a fine history
-call-of : (s : Dimensions) (calls : List Call) (d n : ℕ) (store : Store) (us : List Update) (u : Update) → AreSteps s calls d n store us → Contains us u
-    → (c : Call) × Contains calls c × IsCallOf s d c × (update_name u ≡ c.name)
+call-of : (s : Dimensions) (calls : List AskedCall) (d n : ℕ) (store : Store) (us : List Update) (u : Update) → AreSteps s calls d n store us → Contains us u
+    → (c : AskedCall) × Contains calls c × IsCallOf s d c × (update_name u ≡ c.name)
 call-of s calls d n store [] u steps (k, low, is) = absurd (omega (arith, low))
 call-of s calls d n store (v ∷ us) u steps (zero, low, is) = (steps.0.call, steps.0.asked, steps.0.fits, ap update_name (sym is) ∙ steps.0.name)
-call-of s calls d n store (v ∷ us) u steps (suc k, low, is) = call-of s calls d (suc n) (stored s d v store) us u steps.1 (k, omega (arith, low), is)
+call-of s calls d n store (v ∷ us) u steps (suc k, low, is) = call-of s calls d (suc n) (store_with_update s d v store) us u steps.1 (k, omega (arith, low), is)
 
 module _ (h : History) (reached : Reached h.world.shape (state_of h)) (held : HeldStand h.world.shape (state_of h))
     (p : ProcessId) (lives : Lives h.world p) where
@@ -84,10 +84,10 @@ module _ (h : History) (reached : Reached h.world.shape (state_of h)) (held : He
       let long = length-history ((state_of h).settled d) (replica_of (process_of h.world p) d) reaches.applied in
       record { head = head.0; heads = head.1; within = omega (arith, number, high, long) }
 
-  module _ (calls : List Call) (stands : Stands h.world.shape calls (state_of h)) (up : IsUp h.world.shape (state_of h)) where
+  module _ (calls : List AskedCall) (stands : Stands h.world.shape calls (state_of h)) (up : IsGroupUp h.world.shape (state_of h)) where
     -- the issued call of a held one
     held-call : (d : ℕ) (x : Held) → d < h.world.shape.k → Contains (held_at (process_of h.world p) d) x
-        → (c : Call) × Contains calls c × (home_of (key_of c.op.act) h.world.shape.k ≡ d) × (c.name ≡ record { caller = x.caller; call = x.call })
+        → (c : AskedCall) × Contains calls c × (home_of (key_of c.op.act) h.world.shape.k ≡ d) × (c.name ≡ record { caller = x.caller; call = x.call })
     held-call d x low there = by (call-of h.world.shape calls d 0 _ (history ((state_of h).settled d) (replica_of (process_of h.world p) d)) of.update
         (stands.heads up p d head.0 lives.0 lives.1 low head.1).fine.steps of.there)
       where
@@ -100,8 +100,8 @@ module _ (h : History) (reached : Reached h.world.shape (state_of h)) (held : He
         named : update_name of.update ≡ record { caller = x.caller; call = x.call }
         named = let caller = of.caller in let call = of.call in λ i. record { caller = caller i; call = call i }
 
-        by : (c : Call) × Contains calls c × IsCallOf h.world.shape d c × (update_name of.update ≡ c.name)
-            → (c : Call) × Contains calls c × (home_of (key_of c.op.act) h.world.shape.k ≡ d) × (c.name ≡ record { caller = x.caller; call = x.call })
+        by : (c : AskedCall) × Contains calls c × IsCallOf h.world.shape d c × (update_name of.update ≡ c.name)
+            → (c : AskedCall) × Contains calls c × (home_of (key_of c.op.act) h.world.shape.k ≡ d) × (c.name ≡ record { caller = x.caller; call = x.call })
         by (c, asked, fits, name) = (c, asked, fits.home, sym name ∙ named)
 
     -- the held call is of this name
@@ -121,11 +121,12 @@ module _ (h : History) (reached : Reached h.world.shape (state_of h)) (held : He
           let call_is : z.call ≡ call = grind (arith, common_steps) in
           λ i. record { caller = caller_is i; call = call_is i }
 
-      by : (a : Call) × Contains calls a × (home_of (key_of a.op.act) h.world.shape.k ≡ d) × (a.name ≡ record { caller = x.caller; call = x.call })
-          → (b : Call) × Contains calls b × (home_of (key_of b.op.act) h.world.shape.k ≡ e) × (b.name ≡ record { caller = y.caller; call = y.call }) → d ≡ e
+      by : (a : AskedCall) × Contains calls a × (home_of (key_of a.op.act) h.world.shape.k ≡ d) × (a.name ≡ record { caller = x.caller; call = x.call })
+          → (b : AskedCall) × Contains calls b × (home_of (key_of b.op.act) h.world.shape.k ≡ e) × (b.name ≡ record { caller = y.caller; call = y.call })
+          → d ≡ e
       by (a, asked, home, name) (b, asked_too, home_too, name_too) =
           let same : a ≡ b = same-issued calls a b differ asked asked_too (name ∙ named x first.named ∙ sym (named y second.named) ∙ sym name_too) in
-          sym home ∙ ap (λ (c : Call). home_of (key_of c.op.act) h.world.shape.k) same ∙ home_too
+          sym home ∙ ap (λ (c : AskedCall). home_of (key_of c.op.act) h.world.shape.k) same ∙ home_too
 
 -- what a living process holds was issued there, along every run
 abbrev pub HoldsIssued : World → Type 0

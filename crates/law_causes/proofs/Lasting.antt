@@ -35,7 +35,7 @@ use Rattle.group_run.specs.Meaning.{process_of}
 use Rattle.group_run.specs.Process.{Head, Held, Process}
 use Rattle.group_run.specs.Receiving.{receive}
 use Rattle.group_run.specs.Replica.{with_update}
-use Rattle.group_run.specs.World.{flush_process, next_name, node_of, step}
+use Rattle.group_run.specs.World.{flush_process, next_name, process_node, step}
 use Rattle.law_moves.specs.State.{State, state_of}
 use Rattle.law_moves.proofs.Events.{FramedHistory}
 use Rattle.law_moves.proofs.Moves.{Acted}
@@ -170,8 +170,8 @@ module _ (h : History) (framed : FramedHistory h) (p : ProcessId) (pin : IsProce
   pub lasts : (e : Event) → MayCome h.world e → Contains (held_at (process_of (step h.world e).world p) d) x ⊎ IsCollected e p x (step h.world e).turn.answer
   lasts (Ask caller op q) may = inl (by
       (call-comes h.world.shape h.world.nodes h.settled framed q
-      (ask_process h.world.shape (next_name h.world caller) op (process_of h.world q)) may.1 (node_of h.world q).down
-      (node_of h.world q).dead refl refl)) where
+      (ask_process h.world.shape (next_name h.world caller) op (process_of h.world q)) may.1 (process_node h.world q).down
+      (process_node h.world q).dead refl refl)) where
         by : {w : State} {answer : Answer}
             → Answers h.world.shape (state_of h) w q
             (ask_process h.world.shape (next_name h.world caller) op (process_of h.world q)) answer → Kept w
@@ -183,7 +183,7 @@ module _ (h : History) (framed : FramedHistory h) (p : ProcessId) (pin : IsProce
   lasts (Collect caller call q) may = by
       (call-comes h.world.shape h.world.nodes h.settled framed q
       (collect_from caller call (process_of h.world q) (range_with_len 0 h.world.shape.k)) may.1
-      (node_of h.world q).down (node_of h.world q).dead refl refl) where
+      (process_node h.world q).down (process_node h.world q).dead refl refl) where
         made : CallStep
         made = collect_from caller call (process_of h.world q) (range_with_len 0 h.world.shape.k)
 
@@ -200,14 +200,15 @@ module _ (h : History) (framed : FramedHistory h) (p : ProcessId) (pin : IsProce
           by_process (inr other) = inl (acted-kept (state_of h) w q made.step refl acts (λ same. absurd (other same)))
   lasts (Flush q) may = inl (by
       (call-comes h.world.shape h.world.nodes h.settled framed q (flush_process h.world.shape (process_of h.world q))
-      may (node_of h.world q).down (node_of h.world q).dead refl refl)) where
+      may (process_node h.world q).down (process_node h.world q).dead refl refl)) where
         by : {w : State} {answer : Answer} → Answers h.world.shape (state_of h) w q (flush_process h.world.shape (process_of h.world q)) answer → Kept w
         by {w} {answer} (Idle same idle) = same-kept w same
         by {w} {answer} (Acts up lives acts is) = acted-kept (state_of h) w q _ refl acts (at_own q)
-  lasts (Trace caller call e q) may = inl (same-kept _ (trace-stays h framed caller call e.0 q may.3 (node_of h.world q).down (node_of h.world q).dead).1)
+  lasts (Trace caller call e q) may =
+      inl (same-kept _ (trace-stays h framed caller call e.0 q may.3 (process_node h.world q).down (process_node h.world q).dead).1)
   lasts (Deliver from to) may = inl (by
-      (message-comes h.world.shape h.world.nodes h.settled framed from to may.0 may.1 may.2 (node_of h.world to).down
-      (node_of h.world to).dead refl refl (at [] (node_of h.world from).links (index_of h.world.shape to))
+      (message-comes h.world.shape h.world.nodes h.settled framed from to may.0 may.1 may.2 (process_node h.world to).down
+      (process_node h.world to).dead refl refl (at [] (process_node h.world from).links (index_of h.world.shape to))
       refl)) where
         by : {w : State} → Delivers h.world.shape (state_of h) w from to → Kept w
         by {w} (Nothing same) = same-kept w same
@@ -215,7 +216,7 @@ module _ (h : History) (framed : FramedHistory h) (p : ProcessId) (pin : IsProce
             (λ same. has-same h.world.shape d x (process_of h.world to)
             (receive h.world.shape from m (process_of h.world to)).process
             (holds-receive h.world.shape from m (process_of h.world to)) (at_own to same))
-  lasts (Fail q keep) may = inl (by (failure-comes h.world.shape h.world.nodes h.settled framed q keep may (node_of h.world q).dead refl)) where
+  lasts (Fail q keep) may = inl (by (failure-comes h.world.shape h.world.nodes h.settled framed q keep may (process_node h.world q).dead refl)) where
     by : {w : State} → Fails h.world.shape (state_of h) w q keep → Kept w
     by {w} (Was same) = same-kept w same
     by {w} (Dies died) = subst (λ (y : Process). Contains (held_at y d) x) (sym (died.processes p pin)) there

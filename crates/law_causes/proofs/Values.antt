@@ -28,7 +28,7 @@ use Rattle.group_run.specs.Deciding.{is_touch}
 use Rattle.group_run.specs.Headline.{IsRun}
 use Rattle.group_run.specs.Meaning.{Logged, is_update_of, next_run, runs_left, updates_from, updates_of}
 use Rattle.group_run.specs.Replica.{run_of}
-use Rattle.group_run.specs.World.{Call, World, after, front_if}
+use Rattle.group_run.specs.World.{AskedCall, World, after, front_if}
 use Rattle.law_updates.specs.Right.{IsBodyOf, IsRight}
 use Rattle.law_updates.specs.Store.{Store, held, no_store}
 use Rattle.law_updates.proofs.Steps.{no_store-fits}
@@ -132,7 +132,7 @@ module _ (s : Dimensions) (es : List Event) (run : IsRun s es) (d n : ℕ) (l : 
   always : StandsAlways s
   always = stands-always s (whole-always s)
 
-  abbrev calls : List Call
+  abbrev calls : List AskedCall
   calls = (book_of s es).issued
 
   abbrev settled : List Update
@@ -158,7 +158,7 @@ module _ (s : Dimensions) (es : List Event) (run : IsRun s es) (d n : ℕ) (l : 
       (log_is_tied s always es run).stands.entries entry.0) where
         by : EntryStands s calls (book_of s es).history.settled l.entry → l.entry.op ≡ found.step.call.op
         by (inl is) =
-            ap (λ (c : Call). c.op) (same-issued calls (record { name = name_of l.entry; op = l.entry.op }) found.step.call
+            ap (λ (c : AskedCall). c.op) (same-issued calls (record { name = name_of l.entry; op = l.entry.op }) found.step.call
             logs.differ is.call found.step.asked named)
         by (inr is) = let refused = is.refused in let takes = entry.1 in absurd (cc (refused, takes))
 

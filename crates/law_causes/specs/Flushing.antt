@@ -17,7 +17,7 @@ use Rattle.group_run.specs.Headline.{IsRun, MayCome}
 use Rattle.group_run.specs.Heading.{partition, rank}
 use Rattle.group_run.specs.Meaning.{is_dead, link, process_of}
 use Rattle.group_run.specs.Process.{Head, Process}
-use Rattle.group_run.specs.World.{World, after, node_of, step}
+use Rattle.group_run.specs.World.{World, after, process_node, step}
 
 -- what is told of partition d, if it is headed: its settled number, under the head's rank
 abbrev pub stable_told : Process → ℕ → Option Head → List Message
@@ -38,7 +38,7 @@ pub record HasToldStables (w after : World) (p : ProcessId) : Type 0 where
   pub to_itself : link after p p ≡ link w p p
   pub process : process_of after p ≡ process_of w p
   pub lives : is_dead after p ≡ is_dead w p
-  pub others : (q : ProcessId) → IsProcess w.shape q → q ≢ p → node_of after q ≡ node_of w q
+  pub others : (q : ProcessId) → IsProcess w.shape q → q ≢ p → process_node after q ≡ process_node w q
   pub ledger : KeepsLedger w after
 
 -- a flush that is done

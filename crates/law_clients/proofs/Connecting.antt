@@ -25,12 +25,12 @@ use Rattle.group_wire.specs.Sets.{one_or}
 use Rattle.group_wire.proofs.Changes.{changed-here}
 use Rattle.group_member.specs.Standing.{Member}
 use Rattle.member_runs.specs.Calls.{Begins, Shows}
-use Rattle.member_runs.specs.Laws.{HaveMade, run_of}
+use Rattle.member_runs.specs.Laws.{HaveMade, composed_of}
 use Rattle.member_runs.specs.System.{System, SystemStep, after_steps}
 use Rattle.member_gateway.specs.Calls.{AreMade, MadeCall}
 use Rattle.member_gateway.specs.Laws.{calls_at}
 use Rattle.member_gateway.specs.Order.{made_on}
-use Rattle.member_gateway.specs.Rules.{Gateway, IsLater, IsMade, member_rules}
+use Rattle.member_gateway.specs.Rules.{Gateway, HasCallEnded, IsLaterMember, member_rules}
 use Rattle.law_clients.specs.Laws.{WrittenInOrder, WrittenIsLogged}
 use Rattle.law_clients.specs.Logged.{AreLogged, log_by, step_of}
 use Rattle.law_clients.specs.Told.{calls_along, calls_for, calls_of}
@@ -44,7 +44,7 @@ same-is : (a b : List ℕ) → same_key a b ≡ true → a ≡ b
 same-is a b same = map.slice_cmp-IsAntisymmetric map.nat_cmp-IsAntisymmetric a b ((Equal-is (slice_cmp nat_cmp a b)).0 same)
 
 module _ (s : Dimensions) (y : System) (steps : List SystemStep) (p : ProcessId) (made : HaveMade s y steps)
-    (apart : NoTwoHoldAll (run_of s y steps).group) (member : IsProcess s p) where
+    (apart : NoTwoHoldAll (composed_of s y steps).group) (member : IsProcess s p) where
   -- from wherever the member came quietly to where a connection's last call ended, its calls are logged, where its further
   -- calls are those along them
   abbrev Goes : List Call → Gateway → List MadeCall → Type 0
@@ -60,7 +60,7 @@ module _ (s : Dimensions) (y : System) (steps : List SystemStep) (p : ProcessId)
       (made-front s y done rest (subst (λ (l : List SystemStep). HaveMade s y l) is made))))
 
   -- the steps of one call of the connection
-  record IsTaken (began : Gateway) (op : Asked) (end : CallEnd) (after : Gateway) (call : IsMade began op end after) (done : List SystemStep)
+  record IsTaken (began : Gateway) (op : Asked) (end : CallEnd) (after : Gateway) (call : HasCallEnded began op end after) (done : List SystemStep)
       (along : List MadeCall) : Type 0 where
     front : List SystemStep
     since : List SystemStep
@@ -82,7 +82,7 @@ module _ (s : Dimensions) (y : System) (steps : List SystemStep) (p : ProcessId)
       sym (append_assoc quiet behind (b ∷ ((begun ++ e ∷ []) ++ along)))
       ∙ ap (λ (l : List MadeCall). (quiet ++ behind) ++ b ∷ l) (append_assoc begun (e ∷ []) along)
 
-  taken : (last began after : Gateway) (op : Asked) (end : CallEnd) (behind : List MadeCall) (call : IsMade began op end after) (along : List MadeCall)
+  taken : (last began after : Gateway) (op : Asked) (end : CallEnd) (behind : List MadeCall) (call : HasCallEnded began op end after) (along : List MadeCall)
       (done rest : List SystemStep) (v : Member) (quiet : List MadeCall) → steps ≡ done ++ rest → (after_steps y done).members p ≡ v
       → AreMade v quiet last.member → AreMade last.member behind began.member
       → calls_at p rest ≡ quiet ++ (behind ++ (calls_for began op end after call ++ along)) → IsTaken began op end after call done along
@@ -106,7 +106,7 @@ module _ (s : Dimensions) (y : System) (steps : List SystemStep) (p : ProcessId)
         behind_are = second.later;
       }
 
-  module _ (began after : Gateway) (op : Asked) (end : CallEnd) (call : IsMade began op end after) (done rest : List SystemStep) (along : List MadeCall)
+  module _ (began after : Gateway) (op : Asked) (end : CallEnd) (call : HasCallEnded began op end after) (done rest : List SystemStep) (along : List MadeCall)
       (is : steps ≡ done ++ rest) (t : IsTaken began op end after call done along) where
     -- the steps up to the call's end, and the one that shows it
     abbrev before-end : List SystemStep
@@ -150,7 +150,7 @@ module _ (s : Dimensions) (y : System) (steps : List SystemStep) (p : ProcessId)
         passes calls count place next (omega (arith, low, long)) (omega (arith, from, log))
 
   -- a call that ended by a reply
-  module _ (began after : Gateway) (op : Asked) (reply : Reply) (call : IsMade began op (ends.Reply reply) after) (done rest : List SystemStep)
+  module _ (began after : Gateway) (op : Asked) (reply : Reply) (call : HasCallEnded began op (ends.Reply reply) after) (done rest : List SystemStep)
       (along : List MadeCall) (is : steps ≡ done ++ rest) (t : IsTaken began op (ends.Reply reply) after call done along) where
     at : IsPlaced s y steps (done ++ t.front) (before-end began after op (ends.Reply reply) call done rest along is t) call.caller op reply
     at = is-placed s y steps (done ++ t.front) t.since t.behind p call.caller op reply began.member call.before after.member call.begun call.shown
@@ -193,7 +193,7 @@ module _ (s : Dimensions) (y : System) (steps : List SystemStep) (p : ProcessId)
         )
 
   -- a call of the sequence, whatever it ended by
-  ended : (began after : Gateway) (op : Asked) (end : CallEnd) (call : IsMade began op end after) (done rest : List SystemStep)
+  ended : (began after : Gateway) (op : Asked) (end : CallEnd) (call : HasCallEnded began op end after) (done rest : List SystemStep)
       (along : List MadeCall) (is : steps ≡ done ++ rest) (t : IsTaken began op end after call done along) (calls : List Call) (count place : ℕ)
       → Goes calls after along → count ≤ length done → place ≤ length (log_by s y done)
       → AreLogged s y steps p count place (Made op end ∷ calls)
@@ -209,7 +209,7 @@ module _ (s : Dimensions) (y : System) (steps : List SystemStep) (p : ProcessId)
       skips began after op ends.Moves call done rest along is t calls count place next low from
 
   -- a call is of the sequence, or of another
-  one-call : (op : Asked) (end : CallEnd) (from last began after : Gateway) (behind : IsLater from began) (call : IsMade began op end after)
+  one-call : (op : Asked) (end : CallEnd) (from last began after : Gateway) (behind : IsLaterMember from began) (call : HasCallEnded began op end after)
       (calls : List Call) (along : List MadeCall) (b : Bool) → (b ≡ true → from ≡ last) → Goes calls (if b then after else last) along
       → Goes (one_or b (Made op end ∷ calls) calls) last (one_or b (behind.calls ++ (calls_for began op end after call ++ along)) along)
   one-call op end from last began after behind call calls along true same next = λ done rest v quiet count place is at came are low begun.
@@ -219,7 +219,7 @@ module _ (s : Dimensions) (y : System) (steps : List SystemStep) (p : ProcessId)
       (taken last began after op end behind.calls call along done rest v quiet is at came on are) calls count place next low begun
   one-call op end from last began after behind call calls along false same next = next
 
-  one-order : (last before after : Gateway) (behind : IsLater last before) (on : IsLater before after) (calls : List Call) (along : List MadeCall)
+  one-order : (last before after : Gateway) (behind : IsLaterMember last before) (on : IsLaterMember before after) (calls : List Call) (along : List MadeCall)
       → Goes calls after along → Goes calls last (behind.calls ++ (on.calls ++ along))
   one-order last before after behind on calls along next = λ done rest v quiet count place is at came are low begun.
       next done rest v ((quiet ++ behind.calls) ++ on.calls) count place is at

@@ -18,7 +18,7 @@ use Rattle.group_wire.specs.Composed.{AreActions, AreActionsFrom, Composed, Made
 use Rattle.group_wire.specs.Composed.{begun_after, made_by, opening_composed}
 use Rattle.group_wire.specs.Composition.{machine}
 use Rattle.group_wire.specs.Laws.{NoTwoHoldAll}
-use Rattle.group_wire.specs.Sets.{IsWithin, Processes, one_or}
+use Rattle.group_wire.specs.Sets.{IsSubset, Processes, one_or}
 use Rattle.group_wire.specs.Sending.{heard_first, words_after}
 use Rattle.group_wire.proofs.Barrier.{Barred, barred-step}
 use Rattle.group_wire.proofs.Changes.{changed-each}
@@ -163,7 +163,7 @@ logged-before s actions more caller op run =
 
 -- a set that is permitted stays so
 permitted-step : (c : Composed) (a : Action) → Barred c.group.shape c.group.words c.failed
-    → (p : ProcessId) → IsWithin (c.group.words.permitted p) ((words_after c.group.words a).permitted p)
+    → (p : ProcessId) → IsSubset (c.group.words.permitted p) ((words_after c.group.words a).permitted p)
 permitted-step c (Permit q) barred p x is =
     changed-each (λ (r : ProcessId) (set : Processes). c.group.words.permitted r x ≡ true → set x ≡ true)
     c.group.words.permitted q (c.group.words.cut q) (barred.permitted q x)
@@ -175,7 +175,7 @@ permitted-step c (Hear q r) barred p x is = by (c.group.words.said q r) where
 permitted-step c _ barred p x is = is
 
 permitted-stays : (c : Composed) (actions : List Action) → Barred c.group.shape c.group.words c.failed → AreActionsFrom c actions
-    → (p : ProcessId) → IsWithin (c.group.words.permitted p) ((composed_from c actions).group.words.permitted p)
+    → (p : ProcessId) → IsSubset (c.group.words.permitted p) ((composed_from c actions).group.words.permitted p)
 permitted-stays c [] barred run p x is = is
 permitted-stays c (a ∷ actions) barred run p x is =
     permitted-stays (composed_with c a) actions (barred-step c a run.0 barred) run.1 p x (permitted-step c a barred p x is)

@@ -8,7 +8,7 @@ use Rattle.group_types.proofs.Names.{same-refl}
 use Rattle.memc_table.specs.Asked.{Asked}
 use Rattle.memc_table.specs.declared.reply.Reply.{Reply}
 use Rattle.memc_proto.specs.declared.end.CallEnd.TheVariants as ends
-use Rattle.group_calls.specs.Turns.{accepts, entry_of, log_of}
+use Rattle.group_calls.specs.Turns.{accepts, call_entry, log_of}
 use Rattle.group_calls.specs.declared.entry.Entry.{Entry}
 use Rattle.group_calls.specs.declared.event.Answer.{Answer}
 use Rattle.group_calls.specs.declared.event.Answer.TheVariants as says
@@ -25,11 +25,11 @@ use Rattle.group_wire.specs.State.{Answered, AskedOf, OpenCall, Stage, Told, Tra
 use Rattle.group_wire.proofs.FromWhom.{callers_are_theirs}
 use Rattle.group_wire.proofs.Once.{shown_once}
 use Rattle.group_wire.proofs.Showing.{shown_is_logged}
-use Rattle.group_member.specs.Callers.{caller_of, told_at, told_in}
+use Rattle.group_member.specs.Callers.{answer_told_at, caller_of, told_in}
 use Rattle.group_member.specs.Standing.{Member, MemberStands}
 use Rattle.member_runs.specs.Calls as calls
 use Rattle.member_runs.specs.Calls.{HasCalled}
-use Rattle.member_runs.specs.Laws.{HaveMade, run_of}
+use Rattle.member_runs.specs.Laws.{HaveMade, composed_of}
 use Rattle.member_runs.specs.System.{System, SystemStep, after_step, after_steps, all_actions}
 use Rattle.member_runs.proofs.Following.{show-logged}
 use Rattle.member_runs.proofs.Reaching.{shape-all}
@@ -43,7 +43,7 @@ use Rattle.law_clients.proofs.Growing.{get-below, logged-before}
 use Rattle.law_clients.proofs.Walking.{apart-before, entry-after, made-front, member-after, run-by, same-run, steps-joined}
 
 -- what was told stands in the stage
-told-stage : (stage : Stage) (t : Told) → told_at stage ≡ Some t → (pinged : ℕ) × (stage ≡ Answered t pinged)
+told-stage : (stage : Stage) (t : Told) → answer_told_at stage ≡ Some t → (pinged : ℕ) × (stage ≡ Answered t pinged)
 told-stage (Answered told pinged) t is = (pinged, ap (λ (o : Option Told). Answered (told_or told o) pinged) is) where
   told_or : Told → Option Told → Told
   told_or u None = u
@@ -62,11 +62,11 @@ reply-of a shown logged ended told = same-reply shown logged (sym ended ∙ ap e
 
 -- of the entries of a call that is shown only the one that is logged with its reply may have changed the table
 only-one : (c later : Composed) (caller place : ℕ) (o : OpenCall) (t : Told) (op : Asked) (reply : Reply) → end_of t.answer ≡ Some (ends.Reply reply)
-    → slice_get (machine later).log place ≡ Some (entry_of (record { caller = caller; call = o.position }) op reply)
+    → slice_get (machine later).log place ≡ Some (call_entry (record { caller = caller; call = o.position }) op reply)
     → (other : ℕ) (e : Entry) → IsChangeBy c later caller other e → IsShownChange c later caller other o t e → other ≡ place
 only-one c later caller place o t op reply ended logged other e by shown =
     let same = reply-of t.answer reply e.reply ended shown.shown in
-    sym (shown.only place (entry_of (record { caller = caller; call = o.position }) op reply) (record {
+    sym (shown.only place (call_entry (record { caller = caller; call = o.position }) op reply) (record {
       change = record {
         there = logged;
         caller_is = refl;
@@ -80,10 +80,10 @@ only-one c later caller place o t op reply ended logged other e by shown =
 pub record IsPlaced (s : Dimensions) (y : System) (steps before done : List SystemStep) (caller : ℕ) (op : Asked) (reply : Reply) : Type 0 where
   pub position : ℕ
   pub place : ℕ
-  pub entry : slice_get (log_by s y steps) place ≡ Some (entry_of (record { caller = caller; call = position }) op reply)
+  pub entry : slice_get (log_by s y steps) place ≡ Some (call_entry (record { caller = caller; call = position }) op reply)
   pub begun : length (log_by s y before) ≤ place
   pub shown : place < length (log_by s y done)
-  pub only : (other : ℕ) (e : Entry) → IsChangeBy (run_of s y done) (run_of s y steps) caller other e → other ≡ place
+  pub only : (other : ℕ) (e : Entry) → IsChangeBy (composed_of s y done) (composed_of s y steps) caller other e → other ≡ place
 
 all-logged : EndsAreLogged
 all-logged = ends-logged callers_are_theirs (show-logged callers_are_theirs shown_is_logged)
@@ -96,7 +96,7 @@ module _ (s : Dimensions) (y : System) (steps before since behind : List SystemS
   abbrev all : List SystemStep
   all = done ++ step_of p (calls.Shows caller shown.ping) last ∷ behind
 
-  module _ (are : steps ≡ all) (made : HaveMade s y steps) (apart : NoTwoHoldAll (run_of s y steps).group) (member : IsProcess s p)
+  module _ (are : steps ≡ all) (made : HaveMade s y steps) (apart : NoTwoHoldAll (composed_of s y steps).group) (member : IsProcess s p)
       (began-is : (after_steps y before).members p ≡ began) (since-are : calls_at p since ≡ begun.calls) where
     made-all : HaveMade s y all
     made-all = subst (λ (l : List SystemStep). HaveMade s y l) are made
@@ -104,9 +104,9 @@ module _ (s : Dimensions) (y : System) (steps before since behind : List SystemS
     made-done : HaveMade s y done
     made-done = made-front s y done (step_of p (calls.Shows caller shown.ping) last ∷ behind) made-all
 
-    apart-done : NoTwoHoldAll (run_of s y done).group
+    apart-done : NoTwoHoldAll (composed_of s y done).group
     apart-done = apart-before s y done (step_of p (calls.Shows caller shown.ping) last ∷ behind) made-all
-        (subst (λ (l : List SystemStep). NoTwoHoldAll (run_of s y l).group) are apart)
+        (subst (λ (l : List SystemStep). NoTwoHoldAll (composed_of s y l).group) are apart)
 
     -- the member's calls since the call began
     its-calls : calls_at p (step_of p (calls.Begins caller op) begun.first ∷ since)
@@ -139,56 +139,56 @@ module _ (s : Dimensions) (y : System) (steps before since behind : List SystemS
     was-told : told_in (caller_of ((after_steps y done).members p).callers caller).call ≡ Some shown.told
     was-told = subst (λ (m : Member). told_in (caller_of m.callers caller).call ≡ Some shown.told) (sym now-is) shown.was
 
-    found : IsLoggedFor (run_of s y done) caller op reply
+    found : IsLoggedFor (composed_of s y done) caller op reply
     found = all-logged s y before (step_of p (calls.Begins caller op) begun.first ∷ since) p caller op reply last made-done apart-done member began-in
         (record { ping = shown.ping; told = shown.told; shows = shows-now; was = was-told; ends = shown.ends })
 
-    entry-done : slice_get (log_by s y done) found.logged.place ≡ Some (entry_of (record { caller = caller; call = found.opened.position }) op reply)
-    entry-done = found.logged.entry ∙ ap (λ (a : Asked). Some (entry_of (record { caller = caller; call = found.opened.position }) a reply)) found.asks
+    entry-done : slice_get (log_by s y done) found.logged.place ≡ Some (call_entry (record { caller = caller; call = found.opened.position }) op reply)
+    entry-done = found.logged.entry ∙ ap (λ (a : Asked). Some (call_entry (record { caller = caller; call = found.opened.position }) a reply)) found.asks
 
-    entry-all : slice_get (log_by s y steps) found.logged.place ≡ Some (entry_of (record { caller = caller; call = found.opened.position }) op reply)
+    entry-all : slice_get (log_by s y steps) found.logged.place ≡ Some (call_entry (record { caller = caller; call = found.opened.position }) op reply)
     entry-all = ap (λ (l : List SystemStep). slice_get (log_by s y l) found.logged.place) are
         ∙ entry-after s y done (step_of p (calls.Shows caller shown.ping) last ∷ behind) made-all found.logged.place
-        (entry_of (record { caller = caller; call = found.opened.position }) op reply) entry-done
+        (call_entry (record { caller = caller; call = found.opened.position }) op reply) entry-done
 
     -- the member stands in the group, which may show the call
-    own : MemberStands (run_of s y done).group ((after_steps y done).out p) ((after_steps y done).members p)
+    own : MemberStands (composed_of s y done).group ((after_steps y done).out p) ((after_steps y done).members p)
     own = ((make-a-run callers_are_theirs s y done made-done).stand p
         (subst (λ (d : Dimensions). IsProcess d p) (sym (shape-all (opening_composed s) (all_actions y done))) member)).1
 
-    may-show : MayAct (run_of s y done).group (Show caller shown.ping)
-    may-show = (shows-now.1 (run_of s y done).group ((after_steps y done).out p) own).may.0
+    may-show : MayAct (composed_of s y done).group (Show caller shown.ping)
+    may-show = (shows-now.1 (composed_of s y done).group ((after_steps y done).out p) own).may.0
 
-    shows-it : Shows (run_of s y done) caller found.opened shown.told
+    shows-it : Shows (composed_of s y done) caller found.opened shown.told
     shows-it =
         let call : (caller_of ((after_steps y done).members p).callers caller).call ≡ Some found.opened =
         sym (own.callers.call caller shows-now.0) ∙ found.call in
         let stage = told-stage found.opened.stage shown.told (sym (ap told_in call) ∙ was-told) in
         record { pinged = stage.0; call = found.call; stage = stage.1 }
 
-    shown-by : (other : ℕ) (e : Entry) → IsChangeBy (run_of s y done) (run_of s y all) caller other e
-        → IsShownChange (run_of s y done) (run_of s y all) caller other found.opened shown.told e
+    shown-by : (other : ℕ) (e : Entry) → IsChangeBy (composed_of s y done) (composed_of s y all) caller other e
+        → IsShownChange (composed_of s y done) (composed_of s y all) caller other found.opened shown.told e
     shown-by other e by =
         let show = step_of p (calls.Shows caller shown.ping) last ∷ behind in
         let same = same-run s y done show made-all in
-        subst (λ (d : Composed). IsShownChange (run_of s y done) d caller other found.opened shown.told e) same
+        subst (λ (d : Composed). IsShownChange (composed_of s y done) d caller other found.opened shown.told e) same
         (shown_once s (all_actions y done) (all_actions (after_steps y done) show) caller shown.ping other found.opened shown.told e
         (run-by s y done show made-all) apart-done may-show shows-it
-        (subst (λ (d : Composed). IsChangeBy (run_of s y done) d caller other e) (sym same) by))
+        (subst (λ (d : Composed). IsChangeBy (composed_of s y done) d caller other e) (sym same) by))
 
-    only-it : (other : ℕ) (e : Entry) → IsChangeBy (run_of s y done) (run_of s y steps) caller other e → other ≡ found.logged.place
-    only-it other e by = only-one (run_of s y done) (run_of s y steps) caller found.logged.place found.opened shown.told
+    only-it : (other : ℕ) (e : Entry) → IsChangeBy (composed_of s y done) (composed_of s y steps) caller other e → other ≡ found.logged.place
+    only-it other e by = only-one (composed_of s y done) (composed_of s y steps) caller found.logged.place found.opened shown.told
         op reply shown.ends entry-all other e by
-        (subst (λ (l : List SystemStep). IsShownChange (run_of s y done) (run_of s y l) caller other found.opened shown.told e) (sym are)
-        (shown-by other e (subst (λ (l : List SystemStep). IsChangeBy (run_of s y done) (run_of s y l) caller other e) are by)))
+        (subst (λ (l : List SystemStep). IsShownChange (composed_of s y done) (composed_of s y l) caller other found.opened shown.told e) (sym are)
+        (shown-by other e (subst (λ (l : List SystemStep). IsChangeBy (composed_of s y done) (composed_of s y l) caller other e) are by)))
 
     since-begun : length (log_by s y before) ≤ found.logged.place
     since-begun =
         let front = step_of p (calls.Begins caller op) begun.first ∷ since in
         let low : length (log_by s y before)
         ≤ length (log_of
-        (take ((run_of s y done).begun caller)
-        (turns_of (run_of s y done).group.shape (events_of (run_of s y done))))) =
+        (take ((composed_of s y done).begun caller)
+        (turns_of (composed_of s y done).group.shape (events_of (composed_of s y done))))) =
         subst (λ (d : Composed). length (log_by s y before)
         ≤ length (log_of (take (d.begun caller) (turns_of d.group.shape (events_of d)))))
         (same-run s y before front made-done)
@@ -204,6 +204,6 @@ module _ (s : Dimensions) (y : System) (steps before since behind : List SystemS
       place = found.logged.place;
       entry = entry-all;
       begun = since-begun;
-      shown = get-below (log_by s y done) found.logged.place (entry_of (record { caller = caller; call = found.opened.position }) op reply) entry-done;
+      shown = get-below (log_by s y done) found.logged.place (call_entry (record { caller = caller; call = found.opened.position }) op reply) entry-done;
       only = only-it;
     }

@@ -16,8 +16,8 @@ use Rattle.group_wire.proofs.Changes.{changed-here, changed-other}
 use Rattle.group_wire.proofs.FromWhom.{callers_are_theirs}
 use Rattle.group_member.specs.Standing.{Member}
 use Rattle.member_runs.specs.Calls.{actions_of}
-use Rattle.member_runs.specs.Laws.{HaveMade, run_of}
-use Rattle.member_runs.specs.System.{AreSteps, System, SystemStep, after_step, after_steps, all_actions}
+use Rattle.member_runs.specs.Laws.{HaveMade, composed_of}
+use Rattle.member_runs.specs.System.{AreSystemSteps, System, SystemStep, after_step, after_steps, all_actions}
 use Rattle.member_runs.proofs.Running.{make-a-run}
 use Rattle.member_gateway.specs.Calls.{AreMade, MadeCall}
 use Rattle.member_gateway.specs.Laws.{calls_at}
@@ -140,7 +140,7 @@ actions-joined y (t ∷ xs) ys =
     ap (λ (l : List Action). actions_of t.call (y.members t.at) ++ l) (actions-joined (after_step y t) xs ys)
     ∙ sym (append_assoc (actions_of t.call (y.members t.at)) (all_actions (after_step y t) xs) (all_actions (after_steps (after_step y t) xs) ys))
 
-steps-parts : (s : Dimensions) (y : System) (xs ys : List SystemStep) → AreSteps s y (xs ++ ys) → AreSteps s y xs
+steps-parts : (s : Dimensions) (y : System) (xs ys : List SystemStep) → AreSystemSteps s y (xs ++ ys) → AreSystemSteps s y xs
 steps-parts s y [] ys made = tt
 steps-parts s y (t ∷ xs) ys made = (made.0, steps-parts s (after_step y t) xs ys made.1)
 
@@ -152,7 +152,7 @@ module _ (s : Dimensions) (y : System) (xs ys : List SystemStep) (made : HaveMad
   pub run-by : AreActions s (all_actions y xs ++ all_actions (after_steps y xs) ys)
   run-by = subst (λ (l : List Action). AreActions s l) (actions-joined y xs ys) (make-a-run callers_are_theirs s y (xs ++ ys) made).run
 
-  pub same-run : composed s (all_actions y xs ++ all_actions (after_steps y xs) ys) ≡ run_of s y (xs ++ ys)
+  pub same-run : composed s (all_actions y xs ++ all_actions (after_steps y xs) ys) ≡ composed_of s y (xs ++ ys)
   same-run = ap (composed s) (sym (actions-joined y xs ys))
 
   pub log-after : length (log_by s y xs) ≤ length (log_by s y (xs ++ ys))
@@ -163,6 +163,6 @@ module _ (s : Dimensions) (y : System) (xs ys : List SystemStep) (made : HaveMad
   entry-after place e is = subst (λ (c : Composed). slice_get (machine c).log place ≡ Some e) same-run
       (entry-stays s (all_actions y xs) (all_actions (after_steps y xs) ys) run-by place e is)
 
-  pub apart-before : NoTwoHoldAll (run_of s y (xs ++ ys)).group → NoTwoHoldAll (run_of s y xs).group
+  pub apart-before : NoTwoHoldAll (composed_of s y (xs ++ ys)).group → NoTwoHoldAll (composed_of s y xs).group
   apart-before apart = no-two-before s (all_actions y xs) (all_actions (after_steps y xs) ys) run-by
       (subst (λ (c : Composed). NoTwoHoldAll c.group) (sym same-run) apart)

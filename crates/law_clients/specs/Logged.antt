@@ -6,18 +6,18 @@ use Rattle.memc_table.specs.Asked.{Asked}
 use Rattle.memc_table.specs.declared.reply.Reply.{Reply}
 use Rattle.memc_proto.specs.declared.end.CallEnd.TheVariants as ends
 use Rattle.front_end.specs.Calls.{Call, Made}
-use Rattle.group_calls.specs.Turns.{entry_of}
+use Rattle.group_calls.specs.Turns.{call_entry}
 use Rattle.group_calls.specs.declared.entry.Entry.{Entry}
 use Rattle.group_wire.specs.Composition.{machine}
 use Rattle.group_wire.specs.Once.{IsChangeBy}
 use Rattle.group_member.specs.Standing.{Member}
 use Rattle.member_runs.specs.Calls.{MemberCall, Begins, Shows}
-use Rattle.member_runs.specs.Laws.{run_of}
+use Rattle.member_runs.specs.Laws.{composed_of}
 use Rattle.member_runs.specs.System.{System, SystemStep}
 
 -- the log of the machine's run that members' steps make
 abbrev pub log_by : Dimensions → System → List SystemStep → List Entry
-log_by s y steps = (machine (run_of s y steps)).log
+log_by s y steps = (machine (composed_of s y steps)).log
 
 -- the step in which the member of a process makes a call
 abbrev pub step_of : ProcessId → MemberCall → Member → SystemStep
@@ -36,11 +36,11 @@ pub record IsReplyLogged (s : Dimensions) (y : System) (steps : List SystemStep)
   pub are : steps ≡ before ++ step_of p (Begins caller op) first ∷ (since ++ step_of p (Shows caller ping) last ∷ behind)
   pub position : ℕ
   pub place : ℕ
-  pub entry : slice_get (log_by s y steps) place ≡ Some (entry_of (record { caller = caller; call = position }) op reply)
+  pub entry : slice_get (log_by s y steps) place ≡ Some (call_entry (record { caller = caller; call = position }) op reply)
   pub begun : length (log_by s y before) ≤ place
   pub shown : place < length (log_by s y (before ++ step_of p (Begins caller op) first ∷ since))
   pub only : (other : ℕ) (e : Entry)
-      → IsChangeBy (run_of s y (before ++ step_of p (Begins caller op) first ∷ since)) (run_of s y steps) caller other e → other ≡ place
+      → IsChangeBy (composed_of s y (before ++ step_of p (Begins caller op) first ∷ since)) (composed_of s y steps) caller other e → other ≡ place
 
 -- of these calls each that ended by a reply is so logged: begun when so many steps had come, at this place or behind it, and
 -- the next only when it was shown, at a place behind its own

@@ -10,10 +10,10 @@ use Rattle.ready_client.specs.Ordered.{AreInSequences}
 use Rattle.group_wire.specs.Sets.{one_or}
 use Rattle.member_runs.specs.Calls.{Begins, Shows}
 use Rattle.member_gateway.specs.Calls.{MadeCall}
-use Rattle.member_gateway.specs.Rules.{Gateway, IsMade, member_rules}
+use Rattle.member_gateway.specs.Rules.{Gateway, HasCallEnded, member_rules}
 
 -- the member's calls from the one by which a client's call began to the one that showed its end
-abbrev pub calls_for : (began : Gateway) (op : Asked) (end : CallEnd) (after : Gateway) → IsMade began op end after → List MadeCall
+abbrev pub calls_for : (began : Gateway) (op : Asked) (end : CallEnd) (after : Gateway) → HasCallEnded began op end after → List MadeCall
 calls_for began op end after made = record { call = Begins made.caller op; after = made.begun.first }
     ∷ (made.begun.calls ++ record { call = Shows made.caller made.shown.ping; after = after.member } ∷ [])
 

@@ -13,7 +13,7 @@ use Rattle.group_run.specs.Free.{in_run, in_some_run}
 use Rattle.group_run.specs.Headline.{AreApart}
 use Rattle.group_run.specs.Replica.{Items, item_settled, run_in, run_of, slot_after, slot_in}
 use Rattle.law_updates.specs.Fine.{AreClear}
-use Rattle.law_updates.specs.Right.{IsClear, WritesClear}
+use Rattle.law_updates.specs.Right.{IsClearOfItems, WritesClear}
 use Rattle.law_updates.proofs.Keys.{OfSlot, each-slot, key-refl, slot_in-with}
 use Rattle.law_frames.proofs.Addresses.{bit, sum-few, sum-plus, sum-run-all, sum-zero, sum_below}
 
@@ -62,7 +62,7 @@ apart-by n old (Put flags until run delta) (Put others later other change) apart
   by false is = is
   by true is = let not = apart a is in absurd (cc (not, hit))
 
-clear-of : (u : Update) (items : Items) (c : Option Run) → IfSome c (IsClear (item_settled u items))
+clear-of : (u : Update) (items : Items) (c : Option Run) → IfSome c (IsClearOfItems (item_settled u items))
     → IfSome c (λ run. OfSlot (λ x. AreApart run (run_in x)) (slot_after u.number u.body (slot_in items u.key)))
 clear-of u items None clear = tt
 clear-of u items (Some run) clear = subst (OfSlot (λ x. AreApart run (run_in x))) (slot-of u items)

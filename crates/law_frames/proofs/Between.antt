@@ -12,7 +12,7 @@ use Rattle.group_message.specs.declared.message.Message.TheVariants as tells
 use Rattle.group_run.specs.Applying.{head_at, replica_of}
 use Rattle.group_run.specs.Process.{Head}
 use Rattle.group_run.specs.Replica.{last_of}
-use Rattle.group_run.specs.World.{Call}
+use Rattle.group_run.specs.World.{AskedCall}
 use Rattle.law_moves.specs.State.{State}
 use Rattle.law_moves.proofs.Members.{IsFrom, IsParity, MayStand, seat_of}
 use Rattle.law_histories.proofs.Histories.{length-history}
@@ -30,7 +30,7 @@ heads-by : (o : Option Head) (r : ℕ) → option_map (λ h. h.rank) o ≡ Some 
 heads-by None r is = absurd cc
 heads-by (Some h) r is = (h, refl, cc)
 
-module _ (s : Dimensions) (shaped : IsShape s) (calls : List Call) (fits : Each CallFits calls) (v : State)
+module _ (s : Dimensions) (shaped : IsShape s) (calls : List AskedCall) (fits : Each CallFits calls) (v : State)
     (whole : Whole s calls v) (sound : LinksSound s v) (n : ℕ) (few : n < 2 ^ 63)
     (low : (p : ProcessId) (d : ℕ) → IsProcess s p → v.dead p ≡ false → last_of (replica_of (v.process p) d) ≤ n) where
   seated : (x : ProcessId) (d r : ℕ) → v.dead x ≡ false → IsFrom s v x d r → (h : Head) × (head_at (v.process x) d ≡ Some h) × (h.rank ≡ r)

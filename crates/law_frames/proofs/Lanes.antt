@@ -13,7 +13,7 @@ use Rattle.group_message.specs.declared.message.Message.TheVariants as tells
 use Rattle.group_message.specs.declared.update.Update.{Update}
 use Rattle.group_run.specs.Deciding.{window}
 use Rattle.group_run.specs.Fitting.{Writes}
-use Rattle.group_run.specs.World.{Call}
+use Rattle.group_run.specs.World.{AskedCall}
 use Rattle.law_histories.proofs.Folds.{Along, run}
 use Rattle.law_histories.proofs.Histories.{last-number}
 use Rattle.law_histories.proofs.Lanes.{run-rises}
@@ -37,7 +37,7 @@ Found n d rank (tells.Adopt r e base list) = e.0 ≡ d → r.0 ≡ rank → Each
 Found n d rank (tells.Stable r e number) = e.0 ≡ d → r.0 ≡ rank → number ≤ n
 Found n d rank _ = Unit {0}
 
-module _ (s : Dimensions) (shaped : IsShape s) (calls : List Call) (fits : Each CallFits calls) (n : ℕ)
+module _ (s : Dimensions) (shaped : IsShape s) (calls : List AskedCall) (fits : Each CallFits calls) (n : ℕ)
     (few : n < 2 ^ 63) (d : ℕ) (settled : List Update) (low : length settled ≤ n) where
   update-found : (seen : Seen) (r : ℕ) (u : Update) (stable : ℕ) → UpdateGoes (FineIn s calls) d settled seen r u stable
       → FitsUpdate u × (written u.body ≤ most_space) × (stable ≤ n)

@@ -20,7 +20,7 @@ use Rattle.group_run.specs.Fitting.{Writes}
 use Rattle.group_run.specs.History.{History, history}
 use Rattle.group_run.specs.Meaning.{Lives, link, process_of}
 use Rattle.group_run.specs.Replica.{Replica, empty_replica, last_of}
-use Rattle.group_run.specs.World.{Call, World, after, call_of, group_step, is_issued}
+use Rattle.group_run.specs.World.{AskedCall, World, after, call_of, group_step, is_issued}
 use Rattle.law_moves.specs.State.{State, state_of}
 use Rattle.law_histories.proofs.Histories.{length-history, log-is}
 use Rattle.law_histories.proofs.Reach.{IsKeeper, ReplicaReaches}
@@ -50,7 +50,7 @@ keeper-cases d (ParityNode i) = inl tt
 keeper-cases d (DataNode e) = cases_eq e d
 
 -- an issued call is one that was asked, and what was asked fits
-call-if-fits : (b : Bool) (c : Call) → FitsAsked c.op → Each (λ x. FitsAsked x.op) (call_if b c)
+call-if-fits : (b : Bool) (c : AskedCall) → FitsAsked c.op → Each (λ x. FitsAsked x.op) (call_if b c)
 call-if-fits true c fits = (fits, tt)
 call-if-fits false c fits = tt
 
@@ -70,7 +70,7 @@ issued-fit b (e ∷ es) before all =
     (issued_by (call_of b.history.world e) (group_step b.history.world e).answer) before
     (event-fits b.history.world e (group_step b.history.world e).answer all.0)) all.1
 
-calls-fit : (asked : List ℕ) (calls : List Call) → ((caller : ℕ) → at 0 asked caller < 2 ^ 64) → AreAsked asked calls
+calls-fit : (asked : List ℕ) (calls : List AskedCall) → ((caller : ℕ) → at 0 asked caller < 2 ^ 64) → AreAsked asked calls
     → Each (λ x. FitsAsked x.op) calls → Each CallFits calls
 calls-fit asked [] low there all = tt
 calls-fit asked (c ∷ cs) low there all = (
@@ -78,7 +78,7 @@ calls-fit asked (c ∷ cs) low there all = (
   calls-fit asked cs low there.1 all.1,
 )
 
-module _ (s : Dimensions) (shaped : IsShape s) (calls : List Call) (fits : Each CallFits calls) (r d : ℕ)
+module _ (s : Dimensions) (shaped : IsShape s) (calls : List AskedCall) (fits : Each CallFits calls) (r d : ℕ)
     (is_r : r ≤ s.m) (is_d : d < s.k) (settled : List Update) where
   -- a replica of a fine history
   fine-frames : (replica : Replica) → replica.applied ≤ length settled → length replica.log ≤ 256
@@ -107,7 +107,7 @@ module _ (s : Dimensions) (shaped : IsShape s) (calls : List Call) (fits : Each 
       }
 
 -- of a group, beside the calls whose updates were issued
-state-frames : (s : Dimensions) → IsShape s → (calls : List Call) (v : State) → Whole s calls v → Each CallFits calls
+state-frames : (s : Dimensions) → IsShape s → (calls : List AskedCall) (v : State) → Whole s calls v → Each CallFits calls
     → (p : ProcessId) (r d : ℕ) → IsProcess s p → v.dead p ≡ false → r ≤ s.m → d < s.k
     → last_of (replica_of (v.process p) d) < 2 ^ 64 → LogHasFrames r d (replica_of (v.process p) d)
 state-frames s shaped calls v whole fits p r d pin lives is_r is_d low = by (keeper-cases d p) where
@@ -132,7 +132,7 @@ low-at n replicas d all = by (cases_lt d (length replicas)) where
   by (inr behind) = subst (λ (r : Replica). last_of r ≤ n) (sym (at_behind empty_replica replicas d behind)) (omega arith)
 
 -- of a group, in its own words
-world-frames : (s : Dimensions) → IsShape s → (h : History) (calls : List Call) → h.world.shape ≡ s
+world-frames : (s : Dimensions) → IsShape s → (h : History) (calls : List AskedCall) → h.world.shape ≡ s
     → Whole s calls (state_of h) → Each (λ x. FitsAsked x.op) calls → AreAsked h.world.asked calls
     → NumbersAreLow h.world
     → h.world.events < 2 ^ 64 → (p : ProcessId) (r d : ℕ) → Lives h.world p → r ≤ s.m → d < s.k → LogHasFrames r d (replica_of (process_of h.world p) d)
@@ -154,7 +154,7 @@ logs_have_frames s es run all few p r d lives is_r is_d =
     (subst (λ (w : World). Lives w p) (sym same) lives) is_r is_d)
 
 -- between two living processes of a group, in its own words
-world-tellings : (s : Dimensions) → IsShape s → (h : History) (calls : List Call) → h.world.shape ≡ s
+world-tellings : (s : Dimensions) → IsShape s → (h : History) (calls : List AskedCall) → h.world.shape ≡ s
     → Whole s calls (state_of h) → LinksSound s (state_of h) → Each (λ x. FitsAsked x.op) calls
     → AreAsked h.world.asked calls
     → NumbersAreLow h.world → h.world.events < 2 ^ 63 → (from to : ProcessId) → Lives h.world from → Lives h.world to

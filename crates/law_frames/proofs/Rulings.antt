@@ -59,7 +59,7 @@ value-fits false below v is = tt
 
 number-fits : (bytes : List ℕ) → FitsMaybe IsEight (number_of bytes)
 number-fits bytes = by (nat_le 1 (length bytes) && nat_le (length bytes) 20) where
-  by : (b : Bool) → FitsMaybe IsEight (if b then numeral.value_of bytes else None)
+  by : (b : Bool) → FitsMaybe IsEight (if b then numeral.numeral_value bytes else None)
   by true = value-fits (all_ascii_digits bytes) (nat_lt (digits_value 10 bytes) (2 ^ 64)) (digits_value 10 bytes) refl
   by false = tt
 

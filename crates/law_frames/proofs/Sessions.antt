@@ -19,7 +19,7 @@ use Rattle.group_message.specs.declared.message.Message.TheVariants as tells
 use Rattle.group_message.specs.declared.message.Session.{Session}
 use Rattle.group_run.specs.Applying.{replica_of}
 use Rattle.group_run.specs.Replica.{last_of}
-use Rattle.group_run.specs.World.{Call}
+use Rattle.group_run.specs.World.{AskedCall}
 use Rattle.law_moves.specs.State.{State}
 use Rattle.law_moves.proofs.Members.{IsData, IsParity, MayStand}
 use Rattle.law_histories.proofs.Histories.{length-history}
@@ -42,7 +42,7 @@ use Rattle.law_frames.proofs.Distinct.{all-each, each-eight, each-one, few-disti
 not-below : (a b : ℕ) → b ≤ a → nat_lt a b ≡ false
 not-below a b less = grind (arith, common_steps)
 
-module _ (s : Dimensions) (shaped : IsShape s) (calls : List Call) (v : State) (whole : Whole s calls v)
+module _ (s : Dimensions) (shaped : IsShape s) (calls : List AskedCall) (v : State) (whole : Whole s calls v)
     (sound : LinksSound s v) (rows : RowsSound s v) (n : ℕ) (few : n < 2 ^ 63)
     (low : (p : ProcessId) (d : ℕ) → IsProcess s p → v.dead p ≡ false → last_of (replica_of (v.process p) d) ≤ n)
     (started : (p : ProcessId) → IsProcess s p → (v.process p).as_leader.last_session ≤ n) where

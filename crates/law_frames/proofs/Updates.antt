@@ -22,10 +22,10 @@ use Rattle.group_calls.specs.Turns.{CallName}
 use Rattle.group_run.specs.Deciding.{held_as, is_touch}
 use Rattle.group_run.specs.Fitting.{IsRunOf, Writes}
 use Rattle.group_run.specs.Replica.{freed_by, slot_after, slot_in}
-use Rattle.group_run.specs.World.{Call}
+use Rattle.group_run.specs.World.{AskedCall}
 use Rattle.law_updates.specs.Fine.{AreSteps, IsStep}
 use Rattle.law_updates.specs.Right.{IsBodyOf}
-use Rattle.law_updates.specs.Store.{Store, StoreFits, held_in, stored}
+use Rattle.law_updates.specs.Store.{Store, StoreFits, held_in, store_with_update}
 use Rattle.law_updates.proofs.Histories.{step-writes}
 use Rattle.law_updates.proofs.Keys.{OfSlot, each-slot, each-with}
 use Rattle.law_updates.proofs.Steps.{right_updates_leave}
@@ -35,7 +35,7 @@ use Rattle.link_frames.specs.Limits.{FitsAct, FitsAsked}
 use Rattle.law_frames.proofs.Rulings.{HoldingFits, RulingFits, ruling-fits}
 
 -- a call whose numbers fit
-abbrev pub CallFits : Call → Type 0
+abbrev pub CallFits : AskedCall → Type 0
 CallFits c = FitsAsked c.op × IsEight c.name.call
 
 -- an item's flags and its end fit
@@ -103,7 +103,7 @@ module _ (s : Dimensions) (shaped : IsShape s) where
   frees-fit Remove None inside = tt
   frees-fit Remove (Some slot) inside = run-fits slot.at slot.len inside
 
-  module _ (calls : List Call) (all : Each CallFits calls) (d : ℕ) where
+  module _ (calls : List AskedCall) (all : Each CallFits calls) (d : ℕ) where
     -- what the call of an update leaves fits
     leaves-fit : (n : ℕ) (store : Store) (u : Update) → Each (λ x. SlotFits x.1) store.items
         → (step : IsStep s calls d n store u) → RulingFits (Accepted step.right.reply step.right.leaves)
@@ -147,7 +147,7 @@ module _ (s : Dimensions) (shaped : IsShape s) where
         let step = steps.0 in
         let leaves = leaves-fit (suc n) store u slots step in (
           (step-fits (suc n) store u (omega (arith, low)) fits slots step, step-writes s calls d (suc n) store u fits step),
-          steps-fit (suc n) (stored s d u store) us (omega (arith, low))
+          steps-fit (suc n) (store_with_update s d u store) us (omega (arith, low))
               ((right_updates_leave s d (suc n) store step.call.op u fits step.right).fits step.fits.bytes)
               (each-with SlotFits u.key (slot_after u.number u.body (slot_in store.items u.key)) store.items
               (slot-fits u.number store (is_touch step.call.op.act) step.right.leaves u.body (slot_in store.items u.key)

@@ -7,7 +7,7 @@ use Rattle.group_types.specs.Shape.{IsShape}
 use Rattle.group_types.specs.declared.process.ProcessId.{ProcessId}
 use Rattle.group_run.specs.History.{History}
 use Rattle.group_run.specs.Meaning.{Lives, link, process_of}
-use Rattle.group_run.specs.World.{Call, World, after}
+use Rattle.group_run.specs.World.{AskedCall, World, after}
 use Rattle.law_moves.specs.State.{state_of}
 use Rattle.law_log.specs.Book.{book_of, no_book}
 use Rattle.law_log.proofs.Books.{book-history, book-shape, book-world}
@@ -26,7 +26,7 @@ use Rattle.law_frames.proofs.Sessions.{session-words}
 use Rattle.law_frames.proofs.Started.{sessions-low}
 
 -- of a group, in its own words
-world-words : (s : Dimensions) → IsShape s → (h : History) (calls : List Call) → h.world.shape ≡ s
+world-words : (s : Dimensions) → IsShape s → (h : History) (calls : List AskedCall) → h.world.shape ≡ s
     → Whole s calls (state_of h) → LinksSound s (state_of h) → RowsSound s (state_of h) → NumbersAreLow h.world
     → ((p : ProcessId) → IsProcess s p → ((state_of h).process p).as_leader.last_session ≤ h.world.events)
     → LinksClose s h.world.events (state_of h) → h.world.events < 2 ^ 63

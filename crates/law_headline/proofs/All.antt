@@ -21,9 +21,9 @@ use Rattle.group_run.specs.Headline.{IsRun}
 use Rattle.group_run.specs.Leaders.{open_session, rebuilt_block}
 use Rattle.group_run.specs.Process.{Gathering, Head, Process}
 use Rattle.group_run.specs.Receiving.{receive}
-use Rattle.group_run.specs.World.{Call, flush_process, is_issued}
+use Rattle.group_run.specs.World.{AskedCall, flush_process, is_issued}
 use Rattle.law_moves.proofs.Moves.{Acted, Asks, Collects, Died, Flushes, Popped, Treats}
-use Rattle.law_moves.specs.State.{IsUp, State, state_of}
+use Rattle.law_moves.specs.State.{IsGroupUp, State, state_of}
 use Rattle.law_moves.proofs.State.{Opens}
 use Rattle.law_moves.proofs.Members.{IsParity, Members}
 use Rattle.law_moves.proofs.Calls.{Seated, step-treats}
@@ -62,7 +62,7 @@ use Rattle.law_headline.proofs.News.{HasOpen, ask-news, receive-news}
 use Rattle.law_headline.proofs.Promises.{WholeAlways}
 
 -- what is carried
-pub record All (s : Dimensions) (calls : List Call) (v : State) : Type 0 where
+pub record All (s : Dimensions) (calls : List AskedCall) (v : State) : Type 0 where
   pub group : WholeOff s calls v
   pub fits : SessionsFit s v
   pub led : LostLed s v
@@ -109,7 +109,7 @@ module _ (s : Dimensions) (shaped : IsShape s) where
   some : 0 < s.k
   some = let first = shaped.k.0 in omega (arith, first)
 
-  module _ (calls : List Call) (v : State) (all : All s calls v) (p : ProcessId) (pin : IsProcess s p) (lives : v.dead p ≡ false) where
+  module _ (calls : List AskedCall) (v : State) (all : All s calls v) (p : ProcessId) (pin : IsProcess s p) (lives : v.dead p ≡ false) where
     backed : Backed s v
     backed = backed-from s v all.group.stands.carried all.group.stands.bytes all.fits
 
@@ -139,7 +139,8 @@ module _ (s : Dimensions) (shaped : IsShape s) where
         (all.group.stands.carried.members.not_self p pin lives) keeps-own
 
     -- a process that treats something
-    module _ (w : State) (t : ProcessStep) (more : List Call) (grown : (d a : ℕ) (h : List Update) → FineIn s calls d a h → FineIn s more d a h) (up : IsUp s v)
+    module _ (w : State) (t : ProcessStep) (more : List AskedCall) (grown : (d a : ℕ) (h : List Update) → FineIn s calls d a h → FineIn s more d a h)
+        (up : IsGroupUp s v)
         (treats : Treats s (v.process p) t) (acts : Acted s v w p t) (both : LeavesEach s more v w p) where
       after : Members s w
       after = (members.keeps s shaped).treats v w p t pin up lives treats all.group.stands.carried.members acts
@@ -162,7 +163,8 @@ module _ (s : Dimensions) (shaped : IsShape s) where
       pub treated-since : (d : ℕ) → d < s.k → Since d (v.process p) t.process
       treated-since d below = subst (Since d (v.process p)) acts.process (both d below).1
 
-  asked : (calls : List Call) (v w : State) (p : ProcessId) (c : Call) → IsProcess s p → IsUp s v → v.dead p ≡ false → IsNextCall calls c → All s calls v
+  asked : (calls : List AskedCall) (v w : State) (p : ProcessId) (c : AskedCall) → IsProcess s p → IsGroupUp s v → v.dead p ≡ false → IsNextCall calls c
+      → All s calls v
       → Acted s v w p (ask_process s c.name c.op (v.process p)).step
       → All s (calls ++ call_if (is_issued (ask_process s c.name c.op (v.process p)).answer) c) w
   asked calls v w p c pin up lives next all acts = record {
@@ -176,7 +178,7 @@ module _ (s : Dimensions) (shaped : IsShape s) where
     step : ProcessStep
     step = (ask_process s c.name c.op (v.process p)).step
 
-    more : List Call
+    more : List AskedCall
     more = calls ++ call_if (is_issued (ask_process s c.name c.op (v.process p)).answer) c
 
     grown : (d a : ℕ) (h : List Update) → FineIn s calls d a h → FineIn s more d a h
@@ -215,7 +217,7 @@ module _ (s : Dimensions) (shaped : IsShape s) where
         (treated-since calls v all p pin lives w step more grown up treats acts both)
         (treated-given calls v all p pin lives w step more grown up treats acts both)
 
-  collected : (calls : List Call) (v w : State) (p : ProcessId) (caller call : ℕ) → IsProcess s p → IsUp s v → v.dead p ≡ false → All s calls v
+  collected : (calls : List AskedCall) (v w : State) (p : ProcessId) (caller call : ℕ) → IsProcess s p → IsGroupUp s v → v.dead p ≡ false → All s calls v
       → Acted s v w p (collect_from caller call (v.process p) (range_with_len 0 s.k)).step → All s calls w
   collected calls v w p caller call pin up lives all acts = record {
     group = offs.collected s shaped calls v w p caller call pin up lives all.group acts;
@@ -231,7 +233,7 @@ module _ (s : Dimensions) (shaped : IsShape s) where
     both = reaching.collects-both (FineIn s calls) (fine-laws s calls) s shaped v w p caller call pin up lives
         all.group.stands.carried.members all.group.stands.reach acts
 
-  flushed : (calls : List Call) (v w : State) (p : ProcessId) → IsProcess s p → IsUp s v → v.dead p ≡ false
+  flushed : (calls : List AskedCall) (v w : State) (p : ProcessId) → IsProcess s p → IsGroupUp s v → v.dead p ≡ false
       → All s calls v → Acted s v w p (flush_process s (v.process p)).step → All s calls w
   flushed calls v w p pin up lives all acts = record {
     group = offs.flushed s shaped calls v w p pin up lives all.group acts;
@@ -245,7 +247,7 @@ module _ (s : Dimensions) (shaped : IsShape s) where
     both : LeavesEach s calls v w p
     both = reaching.flushes-both (FineIn s calls) (fine-laws s calls) s shaped v w p pin up lives all.group.stands.carried.members all.group.stands.reach acts
 
-  received : (calls : List Call) (v u w : State) (x p : ProcessId) (m : Message) → IsProcess s x → IsProcess s p → x ≢ p → IsUp s v → v.dead p ≡ false
+  received : (calls : List AskedCall) (v u w : State) (x p : ProcessId) (m : Message) → IsProcess s x → IsProcess s p → x ≢ p → IsGroupUp s v → v.dead p ≡ false
       → All s calls v → Popped s v u x p m → Acted s u w p (receive s x m (v.process p)) → All s calls w
   received calls v u w x p m xin pin apart up lives all pops acts = record {
     group = offs.received s shaped calls v u w x p m xin pin apart up lives all.group pops acts rebuilds;
@@ -302,7 +304,7 @@ module _ (s : Dimensions) (shaped : IsShape s) where
         (λ d low. subst (Since d (v.process p)) acts.process (both d low).1)
         ((steps_rebuild s shaped).receives v u w x p m xin pin apart up lives (backed calls v all p pin lives) after marks settles pops acts all.stamps)
 
-  died : (calls : List Call) (v w : State) (p : ProcessId) (keep : ℕ) → IsProcess s p → All s calls v → Died s v w p keep → All s calls w
+  died : (calls : List AskedCall) (v w : State) (p : ProcessId) (keep : ℕ) → IsProcess s p → All s calls v → Died s v w p keep → All s calls w
   died calls v w p keep pin all dies = record {
     group = offs.died s shaped calls v w p keep pin all.group dies;
     fits = ((fits-keeps s shaped).dies v w p keep pin (all.group.stands.carried.members, all.fits) dies).1;

@@ -10,7 +10,7 @@ use Rattle.group_run.specs.Fitting.{Fits}
 use Rattle.group_run.specs.Headline.{IsRun, MayCome}
 use Rattle.group_run.specs.History.{History, no_history, prolonged}
 use Rattle.group_run.specs.Meaning.{Lives, link, process_of}
-use Rattle.group_run.specs.World.{Call, World, after}
+use Rattle.group_run.specs.World.{AskedCall, World, after}
 use Rattle.law_moves.proofs.Moves.{Failed, Moves, Received, Stays, Treated}
 use Rattle.law_moves.specs.State.{State, state_of}
 use Rattle.law_moves.proofs.Runs.{runs_move}
@@ -25,7 +25,7 @@ use Rattle.law_headline.proofs.Sound.{LinksSound}
 use Rattle.law_headline.proofs.Beside.{deliveries-fit, group-stands, sound-began, sound-died, sound-received, sound-treated}
 
 -- a move keeps what messages carry, where all stands before it
-sound-moved : (s : Dimensions) → IsShape s → (calls : List Call) (v w : State) → Whole s calls v → Moves s v w → LinksSound s v → LinksSound s w
+sound-moved : (s : Dimensions) → IsShape s → (calls : List AskedCall) (v w : State) → Whole s calls v → Moves s v w → LinksSound s v → LinksSound s w
 sound-moved s shaped calls v w whole (Stays same) sound = subst (LinksSound s) (sym same) sound
 sound-moved s shaped calls v w whole (Treated p t pin up lives treats acts) sound = sound-treated s shaped calls v whole w p t pin up lives treats sound acts
 sound-moved s shaped calls v w whole (Received u x p m xin pin apart up lives pops acts) sound =

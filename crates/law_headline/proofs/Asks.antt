@@ -19,10 +19,10 @@ use Rattle.group_run.specs.Asking.{act_on, ask_head, ask_process, found_at, issu
 use Rattle.group_run.specs.Deciding.{decide}
 use Rattle.group_run.specs.Leaders.{rebuilt_block}
 use Rattle.group_run.specs.Process.{Head, Process}
-use Rattle.group_run.specs.World.{Call, is_issued, new_ones, settled_in}
+use Rattle.group_run.specs.World.{AskedCall, is_issued, new_ones, settled_in}
 use Rattle.group_run.specs.History.{history}
 use Rattle.law_moves.proofs.Moves.{Acted, Asks}
-use Rattle.law_moves.specs.State.{IsUp, State}
+use Rattle.law_moves.specs.State.{IsGroupUp, State}
 use Rattle.law_moves.proofs.Members.{Members}
 use Rattle.law_moves.proofs.Keeping as members
 use Rattle.law_histories.proofs.Lanes.{begins-append}
@@ -50,8 +50,8 @@ ticketed-replica : (b : Bool) (d : ℕ) (u : Update) (t : ProcessStep) → repli
 ticketed-replica true d u t = refl
 ticketed-replica false d u t = refl
 
-module _ (s : Dimensions) (shaped : IsShape s) (calls : List Call) (v w : State) (p : ProcessId) (c : Call)
-    (pin : IsProcess s p) (up : IsUp s v) (lives : v.dead p ≡ false) (next : IsNextCall calls c)
+module _ (s : Dimensions) (shaped : IsShape s) (calls : List AskedCall) (v w : State) (p : ProcessId) (c : AskedCall)
+    (pin : IsProcess s p) (up : IsGroupUp s v) (lives : v.dead p ≡ false) (next : IsNextCall calls c)
     (whole : Whole s calls v)
     (acts : Acted s v w p (ask_process s c.name c.op (v.process p)).step) where
   abbrev e : ℕ
@@ -60,7 +60,7 @@ module _ (s : Dimensions) (shaped : IsShape s) (calls : List Call) (v w : State)
   abbrev t : ProcessStep
   t = (ask_process s c.name c.op (v.process p)).step
 
-  abbrev more : List Call
+  abbrev more : List AskedCall
   more = calls ++ call_if (is_issued (ask_process s c.name c.op (v.process p)).answer) c
 
   abbrev below-home : e < s.k

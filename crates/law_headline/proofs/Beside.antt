@@ -21,9 +21,9 @@ use Rattle.group_run.specs.Meaning.{Lives, link, process_of}
 use Rattle.group_run.specs.Process.{Head, Process}
 use Rattle.group_run.specs.Receiving.{receive}
 use Rattle.group_run.specs.Replica.{Items, Replica}
-use Rattle.group_run.specs.World.{Call}
+use Rattle.group_run.specs.World.{AskedCall}
 use Rattle.law_moves.proofs.Moves.{Acted, Died, Popped, Treats}
-use Rattle.law_moves.specs.State.{IsUp, State, state_of}
+use Rattle.law_moves.specs.State.{IsGroupUp, State, state_of}
 use Rattle.law_moves.proofs.State.{Opens}
 use Rattle.law_moves.proofs.Members.{IsParity}
 use Rattle.law_moves.proofs.Keeping as members
@@ -55,7 +55,7 @@ misses s d p (DataNode e) run b is = absurd (bytes_not is) where
   bytes_not m = cc m
 
 module _ (s : Dimensions) (shaped : IsShape s) where
-  module _ (calls : List Call) (v : State) (whole : Whole s calls v) where
+  module _ (calls : List AskedCall) (v : State) (whole : Whole s calls v) where
     write : SettledWrite s v.settled
     write d low = fine-writes s calls d (length (v.settled d)) (v.settled d) (whole.settled d low)
 
@@ -93,13 +93,14 @@ module _ (s : Dimensions) (shaped : IsShape s) where
         (below-own (fnv1a (key_of op.act)) s.k shaped.k.0) op h b heads decided
 
     -- every move keeps what messages carry
-    pub sound-treated : (w : State) (p : ProcessId) (t : ProcessStep) → IsProcess s p → IsUp s v → v.dead p ≡ false
+    pub sound-treated : (w : State) (p : ProcessId) (t : ProcessStep) → IsProcess s p → IsGroupUp s v → v.dead p ≡ false
         → Treats s (v.process p) t → LinksSound s v → Acted s v w p t → LinksSound s w
     sound-treated w p t pin up lives treats sound acts =
         (sound_kept s shaped).treats v w p t pin lives treats whole.carried.members
         ((members.keeps s shaped).treats v w p t pin up lives treats whole.carried.members acts) whole.bytes (needs-sound p pin lives) sound acts
 
-    pub sound-received : (u w : State) (x p : ProcessId) (m : Message) → IsProcess s x → IsProcess s p → x ≢ p → IsUp s v → v.dead p ≡ false → LinksSound s v
+    pub sound-received : (u w : State) (x p : ProcessId) (m : Message) → IsProcess s x → IsProcess s p → x ≢ p → IsGroupUp s v → v.dead p ≡ false
+        → LinksSound s v
         → Popped s v u x p m → Acted s u w p (receive s x m (v.process p)) → LinksSound s w
     sound-received u w x p m xin pin apart up lives sound pops acts =
         (sound_kept s shaped).receives v u w x p m xin pin apart lives whole.carried.members
@@ -122,7 +123,7 @@ module _ (s : Dimensions) (shaped : IsShape s) where
   sound-died v w p keep pin sound dies = (sound_kept s shaped).dies v w p keep pin sound dies
 
 -- of a group, in its own words
-pub deliveries-fit : (h : History) (s : Dimensions) (calls : List Call) → GroupStands s calls (state_of h) → h.world.shape ≡ s
+pub deliveries-fit : (h : History) (s : Dimensions) (calls : List AskedCall) → GroupStands s calls (state_of h) → h.world.shape ≡ s
     → (from to : ProcessId) (m : Message) (rest : List Message) → IsProcess s from → IsProcess s to → from ≢ to → Lives h.world to
     → link h.world from to ≡ m ∷ rest → SameBlock m (process_of h.world to) → RowAsked from m (process_of h.world to) → Fits s from m (process_of h.world to)
 deliveries-fit h s calls stands shape from to m rest fin tin apart lives first same asked =

@@ -8,7 +8,7 @@ use Rattle.group_run.specs.Fitting.{AllCanCome, CanCome}
 use Rattle.group_run.specs.Process.{Process}
 use Rattle.group_run.specs.Applying.{head_at, replica_of}
 use Rattle.group_run.specs.Replica.{Replica, applied_to, items_after, with_log}
-use Rattle.group_run.specs.World.{Call}
+use Rattle.group_run.specs.World.{AskedCall}
 use Rattle.group_run.specs.History.{history}
 use Rattle.law_histories.proofs.LaneWords.{AdoptGoes, Prolongs, UpdateGoes}
 use Rattle.law_histories.proofs.Histories.{applied-is, history-applied, length-history}
@@ -19,7 +19,7 @@ use Rattle.law_updates.proofs.Fine.{IsReplicaOf}
 use Rattle.law_updates.proofs.Fines.{all-come, histories_are_fine, next-comes}
 use Rattle.law_headline.proofs.Issues.{fine-laws, replica-of-history}
 
-module _ (s : Dimensions) (calls : List Call) (d : ℕ) (settled : List Update) (p : Process) (fits : ReplicaReaches (Fine s calls) d settled p) where
+module _ (s : Dimensions) (calls : List AskedCall) (d : ℕ) (settled : List Update) (p : Process) (fits : ReplicaReaches (Fine s calls) d settled p) where
   abbrev r : Replica
   r = replica_of p d
 

@@ -12,9 +12,9 @@ use Rattle.group_run.specs.Applying.{ProcessStep, head_at, replica_of}
 use Rattle.group_run.specs.Asking.{collect_from}
 use Rattle.group_run.specs.Leaders.{rebuilt_block}
 use Rattle.group_run.specs.Process.{Head, Process, opening_process}
-use Rattle.group_run.specs.World.{Call, flush_process, new_ones, settled_in}
+use Rattle.group_run.specs.World.{AskedCall, flush_process, new_ones, settled_in}
 use Rattle.law_moves.proofs.Moves.{Acted, Collects, Died, Flushes, Treats}
-use Rattle.law_moves.specs.State.{IsUp, State}
+use Rattle.law_moves.specs.State.{IsGroupUp, State}
 use Rattle.law_moves.proofs.State.{Opens}
 use Rattle.law_moves.proofs.Members.{Members}
 use Rattle.law_moves.proofs.Keeping as members
@@ -36,7 +36,7 @@ use Rattle.law_headline.proofs.WholeSteps.{all-off, long-off, treats-built}
 
 module _ (s : Dimensions) (shaped : IsShape s) where
   -- a process treats something that puts nothing behind a log
-  module _ (calls : List Call) (v w : State) (p : ProcessId) (t : ProcessStep) (pin : IsProcess s p) (up : IsUp s v)
+  module _ (calls : List AskedCall) (v w : State) (p : ProcessId) (t : ProcessStep) (pin : IsProcess s p) (up : IsGroupUp s v)
       (lives : v.dead p ≡ false) (treats : Treats s (v.process p) t) (whole : Whole s calls v)
       (acts : Acted s v w p t) (both : LeavesEach s calls v w p) (next : SettlesNext s w.settled (v.process p) t)
       (long : (d : ℕ) → Long d (v.process p) t.process) where
@@ -63,7 +63,7 @@ module _ (s : Dimensions) (shaped : IsShape s) where
     treated-long : HeadsOff s v → HeadsOff s w
     treated-long off = all-off s calls calls v w p pin lives whole.reach acts.others acts.dead begins own off
 
-  pub collected : (calls : List Call) (v w : State) (p : ProcessId) (caller call : ℕ) → IsProcess s p → IsUp s v → v.dead p ≡ false → Whole s calls v
+  pub collected : (calls : List AskedCall) (v w : State) (p : ProcessId) (caller call : ℕ) → IsProcess s p → IsGroupUp s v → v.dead p ≡ false → Whole s calls v
       → Acted s v w p (collect_from caller call (v.process p) (range_with_len 0 s.k)).step → HeadsOff s v → HeadsOff s w
   collected calls v w p caller call pin up lives whole acts =
       treated-long calls v w p (collect_from caller call (v.process p) (range_with_len 0 s.k)).step pin up lives (Collects caller call) whole acts
@@ -72,7 +72,7 @@ module _ (s : Dimensions) (shaped : IsShape s) where
       (λ d. (still-collect s d caller call (v.process p) (range_with_len 0 s.k)).quiet))
       (λ d. long-collect s d caller call (v.process p))
 
-  pub flushed : (calls : List Call) (v w : State) (p : ProcessId) → IsProcess s p → IsUp s v → v.dead p ≡ false → Whole s calls v
+  pub flushed : (calls : List AskedCall) (v w : State) (p : ProcessId) → IsProcess s p → IsGroupUp s v → v.dead p ≡ false → Whole s calls v
       → Acted s v w p (flush_process s (v.process p)).step → HeadsOff s v → HeadsOff s w
   flushed calls v w p pin up lives whole acts =
       treated-long calls v w p (flush_process s (v.process p)).step pin up lives Flushes whole acts

@@ -27,7 +27,7 @@ use Rattle.group_run.specs.Deciding.{decide}
 use Rattle.group_run.specs.Fitting.{Writes}
 use Rattle.group_run.specs.Process.{Head, Process}
 use Rattle.group_run.specs.Replica.{Replica, items_after}
-use Rattle.group_run.specs.World.{Call}
+use Rattle.group_run.specs.World.{AskedCall}
 use Rattle.group_run.specs.History.{history}
 use Rattle.law_moves.specs.State.{State}
 use Rattle.law_moves.proofs.Members.{Members, Sits}
@@ -42,7 +42,7 @@ use Rattle.law_updates.proofs.Fines.{fine_histories_fit, histories_are_fine, iss
 use Rattle.law_histories.proofs.HistoryWords.{HistoryLaws}
 use Rattle.law_histories.proofs.Reach.{IsKeeper, Reach, ReplicaFits, ReplicaReaches}
 use Rattle.law_histories.proofs.Histories.{front-long, length-history, log-is}
-use Rattle.law_bytes.specs.Areas.{HasBytes, WritesBytes, SettledWrite}
+use Rattle.law_bytes.specs.Areas.{HasByteDelta, WritesBytes, SettledWrite}
 use Rattle.law_bytes.specs.Decoding.{columns, values}
 use Rattle.law_bytes.specs.Held.{stand}
 use Rattle.law_bytes.proofs.Held.{HoldsBytes}
@@ -51,10 +51,10 @@ use Rattle.law_log.proofs.CallWords.{IsNextCall}
 use Rattle.law_headline.proofs.Reading.{reads}
 
 -- a history of updates of these calls
-abbrev pub FineIn : Dimensions → List Call → ℕ → ℕ → List Update → Type 0
+abbrev pub FineIn : Dimensions → List AskedCall → ℕ → ℕ → List Update → Type 0
 FineIn s calls d a h = updates.Fine s calls d a h
 
-pub fine-laws : (s : Dimensions) (calls : List Call) → HistoryLaws (FineIn s calls)
+pub fine-laws : (s : Dimensions) (calls : List AskedCall) → HistoryLaws (FineIn s calls)
 fine-laws s calls = record {
   start = λ d. (histories_are_fine s d).start calls;
   rises = λ d a b h fine low high. (histories_are_fine s d).rises calls a b h fine low high;
@@ -77,7 +77,7 @@ replica-of-history F d settled r head fits = record {
 }
 
 -- the updates of a fine history write in the space, and bytes
-writes-one : (s : Dimensions) (u : Update) (body : Body) → Writes (space_of s) body → laws.WritesBytes body → HasBytes body
+writes-one : (s : Dimensions) (u : Update) (body : Body) → Writes (space_of s) body → laws.WritesBytes body → HasByteDelta body
 writes-one s u (Put flags until run delta) writes bytes = bytes
 writes-one s u Remove writes bytes = tt
 writes-one s u (Touch until) writes bytes = tt
@@ -86,7 +86,7 @@ writes-each : (s : Dimensions) (us : List Update) → Each (λ u. Writes (space_
 writes-each s [] writes bytes = tt
 writes-each s (u ∷ us) writes bytes = (record { writes = writes.0; bytes = writes-one s u u.body writes.0 bytes.0 }, writes-each s us writes.1 bytes.1)
 
-pub fine-writes : (s : Dimensions) (calls : List Call) (d a : ℕ) (h : List Update) → FineIn s calls d a h → Each (WritesBytes s) h
+pub fine-writes : (s : Dimensions) (calls : List AskedCall) (d a : ℕ) (h : List Update) → FineIn s calls d a h → Each (WritesBytes s) h
 fine-writes s calls d a h fine = let fits : FineFits s calls d a h = fine_histories_fit s calls d a h fine in writes-each s h fits.writes fits.bytes
 
 rank-if : Bool → Option ℕ
@@ -110,7 +110,7 @@ column-at s us d space below is =
       zero-plus : 0 + d ≡ d
       zero-plus = omega arith
 
-module _ (s : Dimensions) (shaped : IsShape s) (calls : List Call) (v : State) (members : Members s v) (reach : Reach (FineIn s calls) s v)
+module _ (s : Dimensions) (shaped : IsShape s) (calls : List AskedCall) (v : State) (members : Members s v) (reach : Reach (FineIn s calls) s v)
     (write : SettledWrite s v.settled) (holds : HoldsBytes s v) where
   module _ (p : ProcessId) (pin : IsProcess s p) (lives : v.dead p ≡ false) (d : ℕ) (below : d < s.k) (h : Head)
       (heads : head_at (v.process p) d ≡ Some h) where
@@ -138,7 +138,7 @@ module _ (s : Dimensions) (shaped : IsShape s) (calls : List Call) (v : State) (
               (same, space ∙ ap (λ (j : ℕ). values s j (stand v.settled (v.process p) j)) same)
 
     -- the update that it issues for a new call
-    pub issue : (c : Call) (body : Body) (outcome : Outcome) → home_of (key_of c.op.act) s.k ≡ d → IsNextCall calls c
+    pub issue : (c : AskedCall) (body : Body) (outcome : Outcome) → home_of (key_of c.op.act) s.k ≡ d → IsNextCall calls c
         → decide (space_of s) h.inherited (replica_of (v.process p) d) c.op (found_at s d (v.process p) (v.process p).name) ≡ decides.Issue body outcome
         → FineIn s (calls ++ c ∷ []) d (replica_of (v.process p) d).applied
         (history (v.settled d) (replica_of (v.process p) d) ++ update_of c.name c.op d body outcome (v.process p)

@@ -27,9 +27,9 @@ use Rattle.group_run.specs.History.{settled_with, history}
 use Rattle.group_run.specs.Process.{Head, Process}
 use Rattle.group_run.specs.Receiving.{receive}
 use Rattle.group_run.specs.Replica.{empty_replica}
-use Rattle.group_run.specs.World.{Call, flush_process, is_issued}
+use Rattle.group_run.specs.World.{AskedCall, flush_process, is_issued}
 use Rattle.law_moves.proofs.Moves.{Acted, Asks, Collects, Died, Flushes, Popped, Treats}
-use Rattle.law_moves.specs.State.{IsUp, State}
+use Rattle.law_moves.specs.State.{IsGroupUp, State}
 use Rattle.law_moves.proofs.State.{Opens}
 use Rattle.law_moves.proofs.Members.{Members}
 use Rattle.law_moves.proofs.Keeping as members
@@ -61,7 +61,7 @@ use Rattle.law_headline.proofs.Issues.{FineIn, fine-laws, fine-writes, fits, hea
 use Rattle.law_headline.proofs.Nexts.{act-next, nothing-next}
 
 -- all that stands beside the issued calls
-pub record Whole (s : Dimensions) (calls : List Call) (v : State) : Type 0 where
+pub record Whole (s : Dimensions) (calls : List AskedCall) (v : State) : Type 0 where
   pub carried : sessions.Carried s v
   pub reach : Reach (FineIn s calls) s v
   pub settled : (d : ℕ) → d < s.k → FineIn s calls d (length (v.settled d)) (v.settled d)
@@ -70,7 +70,7 @@ pub record Whole (s : Dimensions) (calls : List Call) (v : State) : Type 0 where
   pub exact : MessagesExact s v
 
 -- what a step of a process leaves of each partition
-abbrev pub LeavesEach : Dimensions → List Call → State → State → ProcessId → Type 0
+abbrev pub LeavesEach : Dimensions → List AskedCall → State → State → ProcessId → Type 0
 LeavesEach s calls v w p = (d : ℕ) → d < s.k → PartitionReaches (FineIn s calls) s w d
     × Since d (v.process p) (w.process p) × GrewBy d (v.settled d) (w.settled d) (w.process p)
     × FollowsBy d (v.settled d) (replica_of (v.process p) d) (w.settled d) (w.process p)
@@ -80,12 +80,12 @@ inside : (a k : ℕ) → 0 < k → a % k < k
 inside a k some = omega (arith, some)
 
 -- with more calls histories stay fine
-pub fine-more : (s : Dimensions) (calls later : List Call) (d a : ℕ) (h : List Update) → FineIn s calls d a h → FineIn s (calls ++ later) d a h
+pub fine-more : (s : Dimensions) (calls later : List AskedCall) (d a : ℕ) (h : List Update) → FineIn s calls d a h → FineIn s (calls ++ later) d a h
 fine-more s calls later d a h fine = (histories_are_fine s d).more calls later a h fine
 
 module _ (s : Dimensions) (shaped : IsShape s) where
   -- what a process that stepped leaves, with the calls that are issued then
-  module _ (calls more : List Call) (grown : (d a : ℕ) (h : List Update) → FineIn s calls d a h → FineIn s more d a h)
+  module _ (calls more : List AskedCall) (grown : (d a : ℕ) (h : List Update) → FineIn s calls d a h → FineIn s more d a h)
       (v w : State) (p : ProcessId) (t : ProcessStep) (pin : IsProcess s p) (lives : v.dead p ≡ false)
       (whole : Whole s calls v) (is : w.process p ≡ t.process) (others : (q : ProcessId) → IsProcess s q → q ≢ p
       → w.process q ≡ v.process q) (dead : (q : ProcessId) → IsProcess s q → w.dead q ≡ v.dead q)
@@ -128,8 +128,8 @@ module _ (s : Dimensions) (shaped : IsShape s) where
     right-after rebuilds = record { write = write-after; applies = applies-after; rebuilds = rebuilds }
 
   -- a process treats a call, a collect or a flush
-  module _ (calls more : List Call) (grown : (d a : ℕ) (h : List Update) → FineIn s calls d a h → FineIn s more d a h)
-      (v w : State) (p : ProcessId) (t : ProcessStep) (pin : IsProcess s p) (up : IsUp s v) (lives : v.dead p ≡ false)
+  module _ (calls more : List AskedCall) (grown : (d a : ℕ) (h : List Update) → FineIn s calls d a h → FineIn s more d a h)
+      (v w : State) (p : ProcessId) (t : ProcessStep) (pin : IsProcess s p) (up : IsGroupUp s v) (lives : v.dead p ≡ false)
       (treats : Treats s (v.process p) t) (whole : Whole s calls v) (acts : Acted s v w p t)
       (both : LeavesEach s more v w p) (next : SettlesNext s w.settled (v.process p) t)
       (rebuilds : RebuildsRight s w.settled (v.process p) t.process) where
@@ -162,7 +162,7 @@ module _ (s : Dimensions) (shaped : IsShape s) where
       ap (λ (x : Decision). is_issued (act_on s name op e h p x).answer) is
       ∙ ticketed-issued e (nat_le u.number (replica_of (issued s e h u p).process e).applied) u (issued s e h u p)
 
-  module _ (calls : List Call) (v w : State) (p : ProcessId) (c : Call) (pin : IsProcess s p) (up : IsUp s v)
+  module _ (calls : List AskedCall) (v w : State) (p : ProcessId) (c : AskedCall) (pin : IsProcess s p) (up : IsGroupUp s v)
       (lives : v.dead p ≡ false) (next : IsNextCall calls c) (whole : Whole s calls v)
       (acts : Acted s v w p (ask_process s c.name c.op (v.process p)).step) where
     -- the partition of its key, what is made of it, and the calls that are issued then
@@ -172,7 +172,7 @@ module _ (s : Dimensions) (shaped : IsShape s) where
     abbrev step : ProcessStep
     step = (ask_process s c.name c.op (v.process p)).step
 
-    abbrev pub more : List Call
+    abbrev pub more : List AskedCall
     more = calls ++ call_if (is_issued (ask_process s c.name c.op (v.process p)).answer) c
 
     abbrev decision-of : Head → Decision
@@ -234,8 +234,8 @@ module _ (s : Dimensions) (shaped : IsShape s) where
     asked = treated calls more more-fine v w p step pin up lives (Asks c.name c.op next.bytes) whole acts asked-leaves asked-next
 
   -- a message is received
-  module _ (calls : List Call) (v u w : State) (x p : ProcessId) (m : Message) (xin : IsProcess s x)
-      (pin : IsProcess s p) (apart : x ≢ p) (up : IsUp s v) (lives : v.dead p ≡ false) (whole : Whole s calls v)
+  module _ (calls : List AskedCall) (v u w : State) (x p : ProcessId) (m : Message) (xin : IsProcess s x)
+      (pin : IsProcess s p) (apart : x ≢ p) (up : IsGroupUp s v) (lives : v.dead p ≡ false) (whole : Whole s calls v)
       (pops : Popped s v u x p m) (acts : Acted s u w p (receive s x m (v.process p))) where
     pub both_received : LeavesEach s calls v w p
     both_received = reaching.receives-both (FineIn s calls) (fine-laws s calls) s shaped v u w x p m xin pin apart up
@@ -294,7 +294,7 @@ module _ (s : Dimensions) (shaped : IsShape s) where
     }
 
   -- a process dies
-  pub died : (calls : List Call) (v w : State) (p : ProcessId) (keep : ℕ) → IsProcess s p → Whole s calls v → Died s v w p keep → Whole s calls w
+  pub died : (calls : List AskedCall) (v w : State) (p : ProcessId) (keep : ℕ) → IsProcess s p → Whole s calls v → Died s v w p keep → Whole s calls w
   died calls v w p keep pin whole dies = record {
     carried = (sessions.keeps s shaped).dies v w p keep pin whole.carried dies;
     reach = reaching.dies (FineIn s calls) (fine-laws s calls) s shaped v w p keep pin whole.reach dies;
@@ -317,7 +317,7 @@ module _ (s : Dimensions) (shaped : IsShape s) where
     exact = (exact_kept s shaped).opens v starts;
   }
 
-  pub collected : (calls : List Call) (v w : State) (p : ProcessId) (caller call : ℕ) → IsProcess s p → IsUp s v → v.dead p ≡ false → Whole s calls v
+  pub collected : (calls : List AskedCall) (v w : State) (p : ProcessId) (caller call : ℕ) → IsProcess s p → IsGroupUp s v → v.dead p ≡ false → Whole s calls v
       → Acted s v w p (collect_from caller call (v.process p) (range_with_len 0 s.k)).step
       → RebuildsRight s w.settled (v.process p) (collect_from caller call (v.process p) (range_with_len 0 s.k)).step.process → Whole s calls w
   collected calls v w p caller call pin up lives whole acts rebuilds =
@@ -328,7 +328,7 @@ module _ (s : Dimensions) (shaped : IsShape s) where
       (nothing-next s w.settled (v.process p) (collect_from caller call (v.process p) (range_with_len 0 s.k)).step
       (λ d. (still-collect s d caller call (v.process p) (range_with_len 0 s.k)).quiet)) rebuilds
 
-  pub flushed : (calls : List Call) (v w : State) (p : ProcessId) → IsProcess s p → IsUp s v → v.dead p ≡ false
+  pub flushed : (calls : List AskedCall) (v w : State) (p : ProcessId) → IsProcess s p → IsGroupUp s v → v.dead p ≡ false
       → Whole s calls v → Acted s v w p (flush_process s (v.process p)).step
       → RebuildsRight s w.settled (v.process p) (flush_process s (v.process p)).step.process → Whole s calls w
   flushed calls v w p pin up lives whole acts rebuilds =

@@ -10,7 +10,7 @@ use Rattle.group_run.specs.Fitting.{Fits}
 use Rattle.group_run.specs.Leaders.{open_session}
 use Rattle.group_run.specs.Process.{Gathering, Process}
 use Rattle.group_run.specs.Rows.{copy_in, parity_number}
-use Rattle.group_run.specs.World.{Call}
+use Rattle.group_run.specs.World.{AskedCall}
 use Rattle.law_moves.specs.State.{State}
 use Rattle.law_moves.proofs.Members.{Members}
 use Rattle.law_histories.proofs.Reach.{Reach}
@@ -35,7 +35,7 @@ RowAsked x (tells.Row session bytes stamp) p = IfSome (open_session p.as_leader 
 RowAsked x _ p = Unit {0}
 
 -- what is told of a group at one moment: of its members, of histories of these calls, of marks, and of sessions
-pub record GroupStands (s : Dimensions) (calls : List Call) (v : State) : Type 0 where
+pub record GroupStands (s : Dimensions) (calls : List AskedCall) (v : State) : Type 0 where
   pub members : Members s v
   pub reach : Reach (Fine s calls) s v
   pub marks : MarksAreNew s v
@@ -50,4 +50,4 @@ FirstsFit s v = (x p : ProcessId) (m : Message) (rest : List Message) → IsProc
 
 -- so it is in every such group
 abbrev pub MessagesFit : Type 0
-MessagesFit = (s : Dimensions) (calls : List Call) (v : State) → GroupStands s calls v → FirstsFit s v
+MessagesFit = (s : Dimensions) (calls : List AskedCall) (v : State) → GroupStands s calls v → FirstsFit s v

@@ -16,7 +16,7 @@ use Rattle.group_message.specs.declared.message.Session.{Session}
 use Rattle.group_run.specs.Fitting.{BlockFits, Fits}
 use Rattle.group_run.specs.Leaders.{open_session}
 use Rattle.group_run.specs.Process.{Gathering}
-use Rattle.group_run.specs.World.{Call}
+use Rattle.group_run.specs.World.{AskedCall}
 use Rattle.law_moves.specs.State.{State}
 use Rattle.law_moves.proofs.Members.{IsData, IsParity, MayStand, Stands}
 use Rattle.law_moves.proofs.Standing.{sender-lives}
@@ -47,7 +47,7 @@ as-parity : (s : Dimensions) (x : ProcessId) → IsProcess s x → IsParity x �
 as-parity s (ParityNode i) there parity = (i, refl, there)
 as-parity s (DataNode d) there parity = absurd parity
 
-module _ (s : Dimensions) (calls : List Call) (v : State) (stands : GroupStands s calls v) (x p : ProcessId) (xin : IsProcess s x) (pin : IsProcess s p)
+module _ (s : Dimensions) (calls : List AskedCall) (v : State) (stands : GroupStands s calls v) (x p : ProcessId) (xin : IsProcess s x) (pin : IsProcess s p)
     (apart : x ≢ p) (lives : v.dead p ≡ false) where
   abbrev First : Message → List Message → Type 0
   First m rest = v.link x p ≡ m ∷ rest

@@ -11,7 +11,7 @@ use Rattle.group_message.specs.declared.message.Message.TheVariants as tells
 use Rattle.group_run.specs.Leaders.{open_session}
 use Rattle.group_run.specs.Process.{Gathering}
 use Rattle.group_run.specs.Rows.{copy_in, parity_number}
-use Rattle.group_run.specs.World.{Call}
+use Rattle.group_run.specs.World.{AskedCall}
 use Rattle.law_moves.specs.State.{State}
 use Rattle.law_moves.proofs.Members.{MayStand}
 use Rattle.law_bytes.proofs.Finds.{found-each, if-weaker}
@@ -21,7 +21,7 @@ use Rattle.law_headline.proofs.PlannedWords.{PlannedFit}
 use Rattle.law_headline.proofs.Sound.{SessionSound, Sound}
 use Rattle.law_headline.proofs.Meets.{messages_fit}
 
-module _ (s : Dimensions) (calls : List Call) (v : State) (stands : GroupStands s calls v) (plans : SessionsStand s v)
+module _ (s : Dimensions) (calls : List AskedCall) (v : State) (stands : GroupStands s calls v) (plans : SessionsStand s v)
     (x : ProcessId) (xin : IsProcess s x) where
   -- the first message follows the plan
   follows-first : (l n : ℕ) (inside : l < s.m) (p : ProcessId) (m : Message) (rest : List Message) → IsProcess s p → x ≢ p → v.dead p ≡ false
@@ -57,7 +57,7 @@ no-session : (s : Dimensions) (number : ℕ) (e : ℕ) (gs : List Gathering) (P 
 no-session s number e gs P None all found = tt
 no-session s number e gs P (Some g) all found = absurd (found-each (λ y. y.number == number) (SessionSound s (DataNode e)) gs g found all).1.leader
 
-module _ (s : Dimensions) (calls : List Call) (v : State) (stands : GroupStands s calls v) (plans : SessionsStand s v) where
+module _ (s : Dimensions) (calls : List AskedCall) (v : State) (stands : GroupStands s calls v) (plans : SessionsStand s v) where
   row-asked : (x p : ProcessId) (m : Message) (rest : List Message) → IsProcess s x → IsProcess s p → x ≢ p
       → v.dead p ≡ false → v.link x p ≡ m ∷ rest → MayStand s v x p m → RowAsked x m (v.process p)
   row-asked (ParityNode i) (DataNode e) (tells.Row session bytes stamp) rest xin pin apart lives first may =

@@ -6,7 +6,7 @@ use Rattle.group_types.specs.Names.{IsProcess}
 use Rattle.group_types.specs.declared.process.ProcessId.{ProcessId}
 use Rattle.group_message.specs.declared.message.Message.{Message}
 use Rattle.group_run.specs.Fitting.{Fits}
-use Rattle.group_run.specs.World.{Call}
+use Rattle.group_run.specs.World.{AskedCall}
 use Rattle.law_moves.specs.State.{State}
 use Rattle.law_bytes.proofs.Stamps.{SessionsStand}
 use Rattle.law_headline.proofs.MeetingWords.{GroupStands}
@@ -18,4 +18,4 @@ EveryFirstFits s v = (x p : ProcessId) (m : Message) (rest : List Message) → I
 
 -- so it is in every such group in which each session follows a plan
 abbrev pub PlannedFit : Type 0
-PlannedFit = (s : Dimensions) (calls : List Call) (v : State) → GroupStands s calls v → SessionsStand s v → EveryFirstFits s v
+PlannedFit = (s : Dimensions) (calls : List AskedCall) (v : State) → GroupStands s calls v → SessionsStand s v → EveryFirstFits s v

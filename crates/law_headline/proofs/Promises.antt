@@ -20,7 +20,7 @@ use Rattle.group_run.specs.History.{History}
 use Rattle.group_run.specs.Meaning.{AgreesOn, AgreeingSurvivors, Lives, process_of, spaces_at, updates_of, values_after}
 use Rattle.group_run.specs.Process.{Head}
 use Rattle.group_run.specs.Replica.{Replica}
-use Rattle.group_run.specs.World.{Call, World, after}
+use Rattle.group_run.specs.World.{AskedCall, World, after}
 use Rattle.law_moves.specs.State.{State, state_of}
 use Rattle.law_histories.proofs.Histories.{length-history}
 use Rattle.law_histories.proofs.Reach.{IsKeeper, ReplicaReaches}
@@ -49,7 +49,7 @@ use Rattle.law_headline.proofs.Joint.{Whole}
 use Rattle.law_headline.proofs.Reading.{store-values}
 
 -- what the laws of the log ask
-pub stands : (s : Dimensions) (calls : List Call) (v : State) → IsShape s → Whole s calls v → HeldIsSettled s v → Stands s calls v
+pub stands : (s : Dimensions) (calls : List AskedCall) (v : State) → IsShape s → Whole s calls v → HeldIsSettled s v → Stands s calls v
 stands s calls v shaped whole held = record {
   settled = whole.settled;
   heads = λ up p d h pin lives below heads. head p d h pin lives below heads;
@@ -118,7 +118,7 @@ each-of P [] every = tt
 each-of P (x ∷ xs) every = (every x (0, omega arith, refl), each-of P xs (λ y there. every y (suc there.0, (let low = there.1 in omega (arith, low)), there.2)))
 
 -- of a group beside the issued calls, in the group's own words
-module _ (h : History) (calls : List Call) (shaped : IsShape h.world.shape) (whole : Whole h.world.shape calls (state_of h))
+module _ (h : History) (calls : List AskedCall) (shaped : IsShape h.world.shape) (whole : Whole h.world.shape calls (state_of h))
     (shows : (d : ℕ) → d < h.world.shape.k → LogShows h.world.shape h.world d (at [] h.settled d))
     (keeps : (d : ℕ) → d < h.world.shape.k → (r : Replica) → ReplicaStands h.world.shape calls (at [] h.settled d) d r → KeepsAll h.world d r) where
   abbrev s : Dimensions

@@ -22,7 +22,7 @@ use Rattle.group_run.specs.Deciding.{Bytes}
 use Rattle.group_run.specs.Leaders.{blocks_met, missing_block, rebuilt_block, rebuilt_byte, rebuilt_bytes}
 use Rattle.group_run.specs.Process.{LeaderState, Process}
 use Rattle.law_updates.specs.Decisions.{ReadsFrom}
-use Rattle.law_updates.specs.Store.{Store, no_store, store_after, store_from, stored}
+use Rattle.law_updates.specs.Store.{Store, no_store, store_after, store_from, store_with_update}
 use Rattle.law_updates.proofs.Spaces.{get_or-bytes_at, length-bytes_at}
 use Rattle.law_bytes.specs.Areas.{IsArea, IsBlock, WritesBytes, block_size, value}
 use Rattle.law_bytes.specs.Decoding.{values}
@@ -32,7 +32,7 @@ use Rattle.law_bytes.proofs.Decode.{values-area}
 -- the space of a store is the partition's space after its updates
 pub store-space : (s : Dimensions) (d : ℕ) (store : Store) (us : List Update) → (store_from s d store us).space ≡ space_after s (DataNode d) d us store.space
 store-space s d store [] = refl
-store-space s d store (u ∷ us) = store-space s d (stored s d u store) us
+store-space s d store (u ∷ us) = store-space s d (store_with_update s d u store) us
 
 -- so its bytes are the values
 pub store-values : (s : Dimensions) (d : ℕ) (us : List Update) → (store_after s d us).space ≡ values s d us

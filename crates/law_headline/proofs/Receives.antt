@@ -14,9 +14,9 @@ use Rattle.group_message.specs.declared.update.Update.{Update}
 use Rattle.group_run.specs.Applying.{ProcessStep, head_at, when}
 use Rattle.group_run.specs.Process.{Head, Process}
 use Rattle.group_run.specs.Receiving.{ack_to, log_adopted, receive, update_taken}
-use Rattle.group_run.specs.World.{Call, new_ones, settled_in}
+use Rattle.group_run.specs.World.{AskedCall, new_ones, settled_in}
 use Rattle.law_moves.proofs.Moves.{Acted, Popped}
-use Rattle.law_moves.specs.State.{IsUp, State}
+use Rattle.law_moves.specs.State.{IsGroupUp, State}
 use Rattle.law_moves.proofs.Members.{MayStand}
 use Rattle.law_histories.proofs.Lanes.{begins-append}
 use Rattle.law_histories.proofs.Around.{enters}
@@ -32,8 +32,8 @@ use Rattle.law_headline.proofs.Histories.{StaysBuilt}
 use Rattle.law_headline.proofs.Longs.{Long, Spares, long-receive}
 use Rattle.law_headline.proofs.WholeSteps.{all-off, long-off, received-built}
 
-module _ (s : Dimensions) (shaped : IsShape s) (calls : List Call) (v u w : State) (x p : ProcessId) (m : Message)
-    (xin : IsProcess s x) (pin : IsProcess s p) (apart : x ≢ p) (up : IsUp s v) (lives : v.dead p ≡ false)
+module _ (s : Dimensions) (shaped : IsShape s) (calls : List AskedCall) (v u w : State) (x p : ProcessId) (m : Message)
+    (xin : IsProcess s x) (pin : IsProcess s p) (apart : x ≢ p) (up : IsGroupUp s v) (lives : v.dead p ≡ false)
     (whole : Whole s calls v)
     (pops : Popped s v u x p m) (acts : Acted s u w p (receive s x m (v.process p))) where
   -- the head hears no rank of another that it would take

@@ -17,7 +17,7 @@ use Rattle.group_run.specs.Meaning.{process_of}
 use Rattle.group_run.specs.Process.{Process}
 use Rattle.group_run.specs.Recovery.{CopiesHoldCode, RebuiltIsSettled, code_block, copy_stamp, value_block}
 use Rattle.group_run.specs.Rows.{block_in}
-use Rattle.group_run.specs.World.{Call}
+use Rattle.group_run.specs.World.{AskedCall}
 use Rattle.law_moves.specs.State.{state_of}
 use Rattle.law_log.proofs.Calls.{each-contained}
 use Rattle.law_log.proofs.ReplicaWords.{ReplicaStands}
@@ -32,7 +32,7 @@ use Rattle.law_bytes.proofs.Decode.{area-one, coded-area, columns-areas, values-
 use Rattle.law_headline.proofs.Joint.{Whole}
 use Rattle.law_headline.proofs.Promises.{stamp-columns, values-are, write}
 
-module _ (h : History) (calls : List Call) (shaped : IsShape h.world.shape) (whole : Whole h.world.shape calls (state_of h))
+module _ (h : History) (calls : List AskedCall) (shaped : IsShape h.world.shape) (whole : Whole h.world.shape calls (state_of h))
     (shows : (d : ℕ) → d < h.world.shape.k → LogShows h.world.shape h.world d (at [] h.settled d))
     (keeps : (d : ℕ) → d < h.world.shape.k → (r : Replica) → ReplicaStands h.world.shape calls (at [] h.settled d) d r → KeepsAll h.world d r) where
   -- a block of the values of the first settled updates

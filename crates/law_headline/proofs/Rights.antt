@@ -23,9 +23,9 @@ use Rattle.group_run.specs.Asking.{ask_process, collect_from}
 use Rattle.group_run.specs.Process.{Head, Process}
 use Rattle.group_run.specs.Receiving.{receive}
 use Rattle.group_run.specs.Rows.{accepts_mark, parity_number}
-use Rattle.group_run.specs.World.{Call, flush_process, new_ones, settled_in}
+use Rattle.group_run.specs.World.{AskedCall, flush_process, new_ones, settled_in}
 use Rattle.law_moves.proofs.Moves.{Acted, Popped}
-use Rattle.law_moves.specs.State.{IsUp, State}
+use Rattle.law_moves.specs.State.{IsGroupUp, State}
 use Rattle.law_moves.proofs.Members.{IsParity, MayStand}
 use Rattle.law_histories.proofs.Histories.{history-grown}
 use Rattle.law_histories.proofs.Lanes.{begins-append}
@@ -67,7 +67,7 @@ pub flushed-right : (s : Dimensions) (settled : ℕ → List Update) (p : Proces
 flushed-right s settled p = none-right s settled p p (λ d b none. none)
 
 -- a living process before a step, with what is settled after it
-module _ (s : Dimensions) (calls : List Call) (v w : State) (p : ProcessId) (pin : IsProcess s p) (lives : v.dead p ≡ false) (whole : Whole s calls v)
+module _ (s : Dimensions) (calls : List AskedCall) (v w : State) (p : ProcessId) (pin : IsProcess s p) (lives : v.dead p ≡ false) (whole : Whole s calls v)
     (grows : (d : ℕ) → d < s.k → Prolongs (v.settled d) (w.settled d)) where
   applied-before : IsParity (v.process p).name → (d : ℕ) → d < s.k → (replica_of (v.process p) d).applied ≤ length (v.settled d)
   applied-before parity d below = by (parity-is p (subst IsParity (whole.carried.members.named p pin) parity)) where
@@ -106,7 +106,7 @@ module _ (s : Dimensions) (calls : List Call) (v w : State) (p : ProcessId) (pin
         values = subst (λ (us : List Update). IsBlock s b (value us) bytes) same gave.values;
       }
 
-module _ (s : Dimensions) (shaped : IsShape s) (calls : List Call) (v w : State) (p : ProcessId) (pin : IsProcess s p)
+module _ (s : Dimensions) (shaped : IsShape s) (calls : List AskedCall) (v w : State) (p : ProcessId) (pin : IsProcess s p)
     (lives : v.dead p ≡ false) (whole : Whole s calls v) (off : HeadsOff s v) where
   grown-by : (t : ProcessStep) → Acted s v w p t → (d : ℕ) → d < s.k → Prolongs (v.settled d) (w.settled d)
   grown-by t acts d below = subst (Prolongs (v.settled d)) (sym (acts.settled d below))
@@ -121,8 +121,8 @@ module _ (s : Dimensions) (shaped : IsShape s) (calls : List Call) (v w : State)
       (λ d below h heads. ask-rebuilds s d name op (home_of (key_of op.act) s.k) (v.process p) (head_at (v.process p) (home_of (key_of op.act) s.k)))
 
 -- what it rebuilds as it receives a message
-module _ (s : Dimensions) (shaped : IsShape s) (calls : List Call) (v u w : State) (x p : ProcessId) (m : Message)
-    (xin : IsProcess s x) (pin : IsProcess s p) (apart : x ≢ p) (up : IsUp s v) (lives : v.dead p ≡ false)
+module _ (s : Dimensions) (shaped : IsShape s) (calls : List AskedCall) (v u w : State) (x p : ProcessId) (m : Message)
+    (xin : IsProcess s x) (pin : IsProcess s p) (apart : x ≢ p) (up : IsGroupUp s v) (lives : v.dead p ≡ false)
     (whole : Whole s calls v)
     (pops : Popped s v u x p m) (acts : Acted s u w p (receive s x m (v.process p))) (off : HeadsOff s v) where
   pub unmarked : (z : Message) → MayStand s v x p z → (d : ℕ) → d < s.k → (h : Head) → head_at (v.process p) d ≡ Some h → Unmarks s d z (v.process p)

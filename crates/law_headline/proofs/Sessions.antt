@@ -18,7 +18,7 @@ use Rattle.group_run.specs.Meaning.{Lives, link, process_of}
 use Rattle.group_run.specs.Process.{Gathering}
 use Rattle.group_run.specs.Recovery.{SessionsHaveStamps, StandsAt, code_block, value_block}
 use Rattle.group_run.specs.Replica.{Replica}
-use Rattle.group_run.specs.World.{Call}
+use Rattle.group_run.specs.World.{AskedCall}
 use Rattle.law_moves.specs.State.{state_of}
 use Rattle.law_log.specs.Book.{book_of, no_book}
 use Rattle.law_log.proofs.Books.{book-history, book-shape, book-world}
@@ -46,7 +46,7 @@ stamp-is f (x ∷ xs) a each =
     let here : x ≡ f a = each 0 (omega arith) ∙ ap f (omega arith) in
     ap (λ (n : ℕ). n ∷ xs) here ∙ ap (λ (ns : List ℕ). f a ∷ ns) (stamp-is f xs (a + 1) (λ d low. each (suc d) (omega (arith, low)) ∙ ap f (omega arith)))
 
-module _ (h : History) (calls : List Call) (shaped : IsShape h.world.shape) (whole : Whole h.world.shape calls (state_of h))
+module _ (h : History) (calls : List AskedCall) (shaped : IsShape h.world.shape) (whole : Whole h.world.shape calls (state_of h))
     (shows : (d : ℕ) → d < h.world.shape.k → LogShows h.world.shape h.world d (at [] h.settled d))
     (keeps : (d : ℕ) → d < h.world.shape.k → (r : Replica) → ReplicaStands h.world.shape calls (at [] h.settled d) d r → KeepsAll h.world d r)
     (plans : stamps.SessionsStand h.world.shape (state_of h)) (rows : RowsSound h.world.shape (state_of h)) where

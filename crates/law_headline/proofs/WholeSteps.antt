@@ -13,7 +13,7 @@ use Rattle.group_message.specs.declared.update.Update.{Update}
 use Rattle.group_run.specs.Applying.{ProcessStep, head_at, replica_of}
 use Rattle.group_run.specs.Process.{Head, Process}
 use Rattle.group_run.specs.Receiving.{receive}
-use Rattle.group_run.specs.World.{Call}
+use Rattle.group_run.specs.World.{AskedCall}
 use Rattle.group_run.specs.History.{history}
 use Rattle.law_moves.proofs.Moves.{Acted, Popped, Treats}
 use Rattle.law_moves.specs.State.{State}
@@ -83,7 +83,7 @@ received-built s v u w x p m i is pin lives members holds may marks write applie
       pops.processes pops.dead pops.settled acts lives holds))
 
 -- one process made a step
-module _ (s : Dimensions) (calls more : List Call) (v w : State) (p : ProcessId) (pin : IsProcess s p)
+module _ (s : Dimensions) (calls more : List AskedCall) (v w : State) (p : ProcessId) (pin : IsProcess s p)
     (lives : v.dead p ≡ false) (reach : Reach (FineIn s calls) s v)
     (others : (q : ProcessId) → IsProcess s q → q ≢ p → w.process q ≡ v.process q)
     (dead : (q : ProcessId) → IsProcess s q → w.dead q ≡ v.dead q)

@@ -9,7 +9,7 @@ use Rattle.group_types.specs.Names.{IsProcess, of_rank, process_at}
 use Rattle.group_types.specs.declared.process.ProcessId.{ProcessId}
 use Rattle.group_types.specs.declared.process.ProcessId.TheVariants.{DataNode, ParityNode}
 use Rattle.group_types.proofs.Names.{process_at-index}
-use Rattle.membership.specs.Members.{count_dead}
+use Rattle.membership.specs.Members.{count_dead_words}
 use Rattle.group_message.specs.declared.message.Message.TheVariants as tells
 use Rattle.group_run.specs.History.{History, history_of, no_history}
 use Rattle.group_run.specs.Meaning.{HasTakenOver, Heads, IsDown, IsDrained, is_dead, link}
@@ -20,29 +20,29 @@ use Rattle.law_moves.proofs.Runs.{framed-from, framed-opening, world-from}
 use Rattle.law_histories.specs.Laws.{HeadedAlways, IsHeaded}
 
 -- the dead of a range are those of its parts
-count-parts : (f : ℕ → Bool) (a m n : ℕ) → count_dead (map f (range_with_len a (n + m)))
-    ≡ count_dead (map f (range_with_len a n)) + count_dead (map f (range_with_len (a + n) m))
+count-parts : (f : ℕ → Bool) (a m n : ℕ) → count_dead_words (map f (range_with_len a (n + m)))
+    ≡ count_dead_words (map f (range_with_len a n)) + count_dead_words (map f (range_with_len (a + n) m))
 count-parts f a m zero =
     let shorter : 0 + m ≡ m = omega arith in
     let here : a + 0 ≡ a = omega arith in
-    let whole : count_dead (map f (range_with_len a (0 + m))) ≡ count_dead (map f (range_with_len a m)) =
-    ap (λ (x : ℕ). count_dead (map f (range_with_len a x))) shorter in
-    let there : count_dead (map f (range_with_len (a + 0) m)) ≡ count_dead (map f (range_with_len a m)) =
-    ap (λ (x : ℕ). count_dead (map f (range_with_len x m))) here in
+    let whole : count_dead_words (map f (range_with_len a (0 + m))) ≡ count_dead_words (map f (range_with_len a m)) =
+    ap (λ (x : ℕ). count_dead_words (map f (range_with_len a x))) shorter in
+    let there : count_dead_words (map f (range_with_len (a + 0) m)) ≡ count_dead_words (map f (range_with_len a m)) =
+    ap (λ (x : ℕ). count_dead_words (map f (range_with_len x m))) here in
     omega (arith, whole, there)
 count-parts f a m (suc n) =
     let rest = count-parts f (a + 1) m n in
     let longer : suc n + m ≡ suc (n + m) = omega arith in
     let next : a + 1 + n ≡ a + suc n = omega arith in
-    let whole : count_dead (map f (range_with_len a (suc n + m)))
-    ≡ count_dead (map f (range_with_len a (suc (n + m)))) = ap (λ (x : ℕ). count_dead (map f (range_with_len a x)))
+    let whole : count_dead_words (map f (range_with_len a (suc n + m)))
+    ≡ count_dead_words (map f (range_with_len a (suc (n + m)))) = ap (λ (x : ℕ). count_dead_words (map f (range_with_len a x)))
     longer in
-    let there : count_dead (map f (range_with_len (a + 1 + n) m)) ≡ count_dead (map f (range_with_len (a + suc n) m)) =
-    ap (λ (x : ℕ). count_dead (map f (range_with_len x m))) next in
+    let there : count_dead_words (map f (range_with_len (a + 1 + n) m)) ≡ count_dead_words (map f (range_with_len (a + suc n) m)) =
+    ap (λ (x : ℕ). count_dead_words (map f (range_with_len x m))) next in
     omega (arith, rest, whole, there)
 
 -- where all of a range are dead they are as many
-count-all : (f : ℕ → Bool) (a n : ℕ) → ((j : ℕ) → a ≤ j → j < a + n → f j ≡ true) → n ≤ count_dead (map f (range_with_len a n))
+count-all : (f : ℕ → Bool) (a n : ℕ) → ((j : ℕ) → a ≤ j → j < a + n → f j ≡ true) → n ≤ count_dead_words (map f (range_with_len a n))
 count-all f a zero all = omega arith
 count-all f a (suc n) all =
     let rest = count-all f (a + 1) n (λ j low high. all j (omega (arith, low)) (omega (arith, high))) in
@@ -50,10 +50,10 @@ count-all f a (suc n) all =
     omega (arith, rest, one)
 
 -- where one of a range is dead there is one at least
-count-one : (f : ℕ → Bool) (a n j : ℕ) → a ≤ j → j < a + n → f j ≡ true → 1 ≤ count_dead (map f (range_with_len a n))
+count-one : (f : ℕ → Bool) (a n j : ℕ) → a ≤ j → j < a + n → f j ≡ true → 1 ≤ count_dead_words (map f (range_with_len a n))
 count-one f a zero j low high dead = absurd (omega (arith, low, high))
 count-one f a (suc n) j low high dead = by (cases_eq j a) (λ above. count-one f (a + 1) n j above (omega (arith, high)) dead) where
-  by : (j ≡ a) ⊎ (j ≢ a) → (a + 1 ≤ j → 1 ≤ count_dead (map f (range_with_len (a + 1) n))) → 1 ≤ count_dead (map f (range_with_len a (suc n)))
+  by : (j ≡ a) ⊎ (j ≢ a) → (a + 1 ≤ j → 1 ≤ count_dead_words (map f (range_with_len (a + 1) n))) → 1 ≤ count_dead_words (map f (range_with_len a (suc n)))
   by (inl same) later = let one : ◌≡◌ {A = ℕ} (if f a then 1 else 0) 1 = ap (λ (b : Bool). if b then 1 else 0) (ap f (sym same) ∙ dead) in omega (arith, one)
   by (inr other) later = let rest = later (omega (arith, low, other)) in omega (arith, rest)
 
@@ -71,7 +71,8 @@ lowest dead (suc n) = by (lowest dead n) (dead n) refl where
     each q low (inr other) = all q (omega (arith, low, other))
 
 -- not all of a partition are dead
-some-lives : (s : Dimensions) (dead : ProcessId → Bool) (d : ℕ) → d < s.k → count_dead (map (λ x. dead (process_at s x)) (range_with_len 0 (s.k + s.m))) ≤ s.m
+some-lives : (s : Dimensions) (dead : ProcessId → Bool) (d : ℕ) → d < s.k
+    → count_dead_words (map (λ x. dead (process_at s x)) (range_with_len 0 (s.k + s.m))) ≤ s.m
     → ((q : ℕ) → q < suc s.m → dead (of_rank d q) ≡ true) → ⊥
 some-lives s dead d below few all =
     let parts = count-parts f 0 s.m s.k in

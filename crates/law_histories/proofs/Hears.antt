@@ -6,7 +6,7 @@ use Rattle.std.proofs.lemmas.Bool.{cases_eq, cases_lt}
 use Rattle.std.proofs.lemmas.List.{take-take}
 use Rattle.group_types.specs.Dimensions.{Dimensions}
 use Rattle.group_types.specs.Lists.{at}
-use Rattle.group_types.specs.Names.{IsProcess, of_rank, rank_of}
+use Rattle.group_types.specs.Names.{IsProcess, heading_rank, of_rank}
 use Rattle.group_types.specs.declared.process.ProcessId.{ProcessId}
 use Rattle.group_types.specs.declared.process.ProcessId.TheVariants.{ParityNode}
 use Rattle.group_types.proofs.Lists.{at-replicate}
@@ -95,26 +95,26 @@ module _ (F : ℕ → ℕ → List Update → Type 0) (laws : HistoryLaws F) (s 
       old_lane = around.inward y i is yin yother
 
       -- messages there have another rank
-      other_ranks : Each (λ n. Ranked d (λ k. (k ≡ rank_of y) × (k ≢ r)) n) (v.link y p)
-      other_ranks = each-weaker (MayStand s v y p) (λ n. Ranked d (λ k. (k ≡ rank_of y) × (k ≢ r)) n)
-          (λ n may. ranked-weaker d (Used s v d y) (λ k. (k ≡ rank_of y) × (k ≢ r))
+      other_ranks : Each (λ n. Ranked d (λ k. (k ≡ heading_rank y) × (k ≢ r)) n) (v.link y p)
+      other_ranks = each-weaker (MayStand s v y p) (λ n. Ranked d (λ k. (k ≡ heading_rank y) × (k ≢ r)) n)
+          (λ n may. ranked-weaker d (Used s v d y) (λ k. (k ≡ heading_rank y) × (k ≢ r))
           (λ k from. (
-            sym (rank-of_rank d k) ∙ ap rank_of (sym from.0),
+            sym (rank-of_rank d k) ∙ ap heading_rank (sym from.0),
             λ same. apart (from.0 ∙ ap (of_rank d) same ∙ sym in_use.0),
           )) n (may-used s v d y p n may))
           (v.link y p) (around.may y yin yother)
 
-      goes_by : (r < rank_of y) ⊎ (rank_of y ≤ r) → Along (next d) (Goes F d settled) b (v.link y p)
+      goes_by : (r < heading_rank y) ⊎ (heading_rank y ≤ r) → Along (next d) (Goes F d settled) b (v.link y p)
       goes_by (inr low) = stale-along F d settled b (v.link y p)
-          (each-weaker (λ n. Ranked d (λ k. (k ≡ rank_of y) × (k ≢ r)) n) (Stale d b.rank)
-          (λ n ranked. ranked-weaker d (λ k. (k ≡ rank_of y) × (k ≢ r)) (λ k. k < b.rank)
+          (each-weaker (λ n. Ranked d (λ k. (k ≡ heading_rank y) × (k ≢ r)) n) (Stale d b.rank)
+          (λ n ranked. ranked-weaker d (λ k. (k ≡ heading_rank y) × (k ≢ r)) (λ k. k < b.rank)
           (λ k both. let same = both.0 in let other = both.1 in omega (arith, same, other, low, now)) n ranked)
           (v.link y p) other_ranks)
       goes_by (inl high) = (resynced high).goes where
-        resynced : r < rank_of y → Resyncs F d settled a b (v.link y p)
+        resynced : r < heading_rank y → Resyncs F d settled a b (v.link y p)
         resynced high = resync F d settled a b (omega (arith, risen, now)) (around.own keeps).prolongs fits.prolongs (v.link y p)
-            (each-weaker (λ n. Ranked d (λ k. (k ≡ rank_of y) × (k ≢ r)) n) (λ n. Ranked d (λ k. b.rank < k) n)
-            (λ n ranked. ranked-weaker d (λ k. (k ≡ rank_of y) × (k ≢ r)) (λ k. b.rank < k)
+            (each-weaker (λ n. Ranked d (λ k. (k ≡ heading_rank y) × (k ≢ r)) n) (λ n. Ranked d (λ k. b.rank < k) n)
+            (λ n ranked. ranked-weaker d (λ k. (k ≡ heading_rank y) × (k ≢ r)) (λ k. b.rank < k)
             (λ k both. let same = both.0 in omega (arith, same, high, now)) n ranked)
             (v.link y p) other_ranks) old_lane.goes
 
@@ -131,13 +131,13 @@ module _ (F : ℕ → ℕ → List Update → Type 0) (laws : HistoryLaws F) (s 
         from : Used s v d y h.rank
         from = head-from s v d members below y h yin living is_head
 
-        own_rank : rank_of y ≡ h.rank
-        own_rank = ap rank_of from.0 ∙ rank-of_rank d h.rank
+        own_rank : heading_rank y ≡ h.rank
+        own_rank = ap heading_rank from.0 ∙ rank-of_rank d h.rank
 
         again : Resyncs F d settled a b (v.link y p)
         again = resync F d settled a b (omega (arith, risen, now)) (around.own keeps).prolongs fits.prolongs (v.link y p)
-            (each-weaker (λ n. Ranked d (λ k. (k ≡ rank_of y) × (k ≢ r)) n) (λ n. Ranked d (λ k. b.rank < k) n)
-            (λ n ranked. ranked-weaker d (λ k. (k ≡ rank_of y) × (k ≢ r)) (λ k. b.rank < k)
+            (each-weaker (λ n. Ranked d (λ k. (k ≡ heading_rank y) × (k ≢ r)) n) (λ n. Ranked d (λ k. b.rank < k) n)
+            (λ n ranked. ranked-weaker d (λ k. (k ≡ heading_rank y) × (k ≢ r)) (λ k. b.rank < k)
             (λ k both. let same = both.0 in omega (arith, same, high, now, own_rank)) n ranked)
             (v.link y p) other_ranks) old_lane.goes
 
@@ -166,7 +166,7 @@ module _ (F : ℕ → ℕ → List Update → Type 0) (laws : HistoryLaws F) (s 
     in_by y i is yin yother (inr apart) =
         subst (λ (link : List Message). LaneReaches F d settled y i (v.dead y) (head_at (v.process y) d)
         (replica_of (v.process y) d) b link (v.link p y)) (sym (rest y yin apart)) (record {
-          goes = goes_by i is y yin yother apart (cases_lt r (rank_of y));
+          goes = goes_by i is y yin yother apart (cases_lt r (heading_rank y));
           ends = λ living h is_head. ends_by i is y yin yother apart living h is_head (cases_lt r h.rank);
           kept = kept_by i is y yin yother;
           acks = acks_by i is y yin yother;

@@ -16,7 +16,7 @@ use Rattle.group_types.proofs.Names.{same-cases}
 use Rattle.group_types.specs.Each.{Each}
 use Rattle.group_types.proofs.Eaches.{each-append, each-take}
 use Rattle.membership.specs.Members.{Membership, knows_dead, with_dead}
-use Rattle.memc_table.specs.Act.{key_of, value_of}
+use Rattle.memc_table.specs.Act.{act_value, key_of}
 use Rattle.memc_table.specs.Asked.{Asked}
 use Rattle.std.specs.Prelude.{All}
 use Rattle.group_message.specs.declared.message.Message.{Message}
@@ -32,7 +32,7 @@ use Rattle.group_run.specs.Receiving.{death_known, receive}
 use Rattle.group_run.specs.Replica.{Replica, empty_replica, last_of}
 use Rattle.group_run.specs.World.{flush_process, sent_to}
 use Rattle.law_moves.proofs.Moves.{Acted, Asks, Collects, Died, Flushes, Keeps, Popped, Treats}
-use Rattle.law_moves.specs.State.{IsUp, State}
+use Rattle.law_moves.specs.State.{IsGroupUp, State}
 use Rattle.law_moves.proofs.State.{Opens}
 use Rattle.law_moves.proofs.Known.{known-notice}
 use Rattle.law_moves.proofs.Runs.{holds_always}
@@ -125,12 +125,12 @@ module _ (F : ℕ → ℕ → List Update → Type 0) (laws : HistoryLaws F) (s 
       → v.dead (ParityNode i) ≡ false → knows_dead (v.process p).known (ParityNode i) ≡ false
   spares_of v members p pin lives i iin other living = unknown s v members p pin lives (ParityNode i) iin other living
 
-  members_after : (v w : State) (p : ProcessId) (t : ProcessStep) → IsProcess s p → IsUp s v → v.dead p ≡ false
+  members_after : (v w : State) (p : ProcessId) (t : ProcessStep) → IsProcess s p → IsGroupUp s v → v.dead p ≡ false
       → Treats s (v.process p) t → Members s v → Acted s v w p t → Members s w
   members_after v w p t pin up lives treats members acts = (keeps s shaped).treats v w p t pin up lives treats members acts
 
   -- a step that leaves every partition as it is
-  still-treated : (v w : State) (p : ProcessId) (t : ProcessStep) → IsProcess s p → IsUp s v → v.dead p ≡ false → Treats s (v.process p) t
+  still-treated : (v w : State) (p : ProcessId) (t : ProcessStep) → IsProcess s p → IsGroupUp s v → v.dead p ≡ false → Treats s (v.process p) t
       → ((d : ℕ) → Still d (v.process p) t) → Members s v → Reach F s v → Acted s v w p t → Leaves_both v w p
   still-treated v w p t pin up lives treats still members reach acts d below =
       treated v w p t pin lives (members_after v w p t pin up lives treats members acts) acts d below
@@ -138,8 +138,8 @@ module _ (F : ℕ → ℕ → List Update → Type 0) (laws : HistoryLaws F) (s 
       (v.settled d) (enters F s v members d below p pin lives (reach d below)))
 
   -- a call is asked, where what is issued keeps the sentence
-  pub asks-both : (v w : State) (p : ProcessId) (name : CallName) (op : Asked) → IsProcess s p → IsUp s v
-      → v.dead p ≡ false → All (λ b. b < 256) (value_of op.act) → IssueKeeps F s v p name op
+  pub asks-both : (v w : State) (p : ProcessId) (name : CallName) (op : Asked) → IsProcess s p → IsGroupUp s v
+      → v.dead p ≡ false → All (λ b. b < 256) (act_value op.act) → IssueKeeps F s v p name op
       → Members s v → Reach F s v → Acted s v w p (ask_process s name op (v.process p)).step → Leaves_both v w p
   asks-both v w p name op pin up lives bytes issues members reach acts d below =
       treated v w p (ask_process s name op (v.process p)).step pin lives
@@ -176,20 +176,20 @@ module _ (F : ℕ → ℕ → List Update → Type 0) (laws : HistoryLaws F) (s 
           → found_at s k (v.process p) (v.process p).name run ≡ Missing b → LeadsLost s (v.process p)) same leads)
           (subst (λ (k : ℕ). IssuesIn F s k (v.settled k) (v.process p) name op) same issues) (v.link p) around)
 
-  pub collects-both : (v w : State) (p : ProcessId) (caller call : ℕ) → IsProcess s p → IsUp s v → v.dead p ≡ false → Members s v → Reach F s v
+  pub collects-both : (v w : State) (p : ProcessId) (caller call : ℕ) → IsProcess s p → IsGroupUp s v → v.dead p ≡ false → Members s v → Reach F s v
       → Acted s v w p (collect_from caller call (v.process p) (range_with_len 0 s.k)).step → Leaves_both v w p
   collects-both v w p caller call pin up lives members reach acts =
       still-treated v w p (collect_from caller call (v.process p) (range_with_len 0 s.k)).step pin up lives (Collects caller call)
       (λ d. still-collect s d caller call (v.process p) (range_with_len 0 s.k)) members reach acts
 
-  pub flushes-both : (v w : State) (p : ProcessId) → IsProcess s p → IsUp s v → v.dead p ≡ false → Members s v
+  pub flushes-both : (v w : State) (p : ProcessId) → IsProcess s p → IsGroupUp s v → v.dead p ≡ false → Members s v
       → Reach F s v → Acted s v w p (flush_process s (v.process p)).step → Leaves_both v w p
   flushes-both v w p pin up lives members reach acts = still-treated v w p (flush_process s (v.process p)).step pin up
       lives Flushes (λ d. still-flush s d (v.process p)) members reach acts
 
   -- whatever a process treats, where what is issued keeps the sentence
-  pub treats-both : (v w : State) (p : ProcessId) (t : ProcessStep) → IsProcess s p → IsUp s v → v.dead p ≡ false
-      → ((name : CallName) (op : Asked) → All (λ b. b < 256) (value_of op.act) → IssueKeeps F s v p name op) → Treats s (v.process p) t → Members s v
+  pub treats-both : (v w : State) (p : ProcessId) (t : ProcessStep) → IsProcess s p → IsGroupUp s v → v.dead p ≡ false
+      → ((name : CallName) (op : Asked) → All (λ b. b < 256) (act_value op.act) → IssueKeeps F s v p name op) → Treats s (v.process p) t → Members s v
       → Reach F s v → Acted s v w p t → Leaves_both v w p
   treats-both v w p _ pin up lives issues (Asks name op bytes) members reach acts =
       asks-both v w p name op pin up lives bytes (issues name op bytes) members reach acts
@@ -198,7 +198,7 @@ module _ (F : ℕ → ℕ → List Update → Type 0) (laws : HistoryLaws F) (s 
 
   -- a message is received
   module _ (v u w : State) (x p : ProcessId) (m : Message) (xin : IsProcess s x) (pin : IsProcess s p) (apart : x ≢ p)
-      (up : IsUp s v) (lives : v.dead p ≡ false) (members : Members s v) (reach : Reach F s v)
+      (up : IsGroupUp s v) (lives : v.dead p ≡ false) (members : Members s v) (reach : Reach F s v)
       (pops : Popped s v u x p m)
       (acts : Acted s u w p (receive s x m (v.process p))) where
     after : Members s w
@@ -258,7 +258,7 @@ module _ (F : ℕ → ℕ → List Update → Type 0) (laws : HistoryLaws F) (s 
 
   -- a notice
   receives_notice : (v u w : State) (x p dead : ProcessId) (xin : IsProcess s x) (pin : IsProcess s p) (apart : x ≢ p)
-      (up : IsUp s v) (lives : v.dead p ≡ false) (members : Members s v) (reach : Reach F s v)
+      (up : IsGroupUp s v) (lives : v.dead p ≡ false) (members : Members s v) (reach : Reach F s v)
       (pops : Popped s v u x p (tells.Notice dead))
       (acts : Acted s u w p (receive s x (tells.Notice dead) (v.process p))) → Leaves_both v w p
   receives_notice v u w x p dead xin pin apart up lives members reach pops acts d below =
@@ -289,7 +289,7 @@ module _ (F : ℕ → ℕ → List Update → Type 0) (laws : HistoryLaws F) (s 
           (v.settled d) x (tells.Notice dead) pops.first
           (λ y yin other. pops.links y p yin pin (inl other)) xin apart (λ i is. refl) (enters F s v members d below p pin lives (reach d below))
 
-  pub receives-both : (v u w : State) (x p : ProcessId) (m : Message) → IsProcess s x → IsProcess s p → x ≢ p → IsUp s v → v.dead p ≡ false → Members s v
+  pub receives-both : (v u w : State) (x p : ProcessId) (m : Message) → IsProcess s x → IsProcess s p → x ≢ p → IsGroupUp s v → v.dead p ≡ false → Members s v
       → Reach F s v → Popped s v u x p m → Acted s u w p (receive s x m (v.process p)) → Leaves_both v w p
   receives-both v u w x p (tells.Notice dead) xin pin apart up lives members reach pops acts =
       receives_notice v u w x p dead xin pin apart up lives members reach pops acts
@@ -313,28 +313,28 @@ module _ (F : ℕ → ℕ → List Update → Type 0) (laws : HistoryLaws F) (s 
       receives_plain v u w x p (tells.Cease upto) xin pin apart up lives members reach pops acts refl
 
   -- a call is asked, where what is issued keeps the sentence
-  pub asks : (v w : State) (p : ProcessId) (name : CallName) (op : Asked) → IsProcess s p → IsUp s v → v.dead p ≡ false
-      → All (λ b. b < 256) (value_of op.act) → IssueKeeps F s v p name op
+  pub asks : (v w : State) (p : ProcessId) (name : CallName) (op : Asked) → IsProcess s p → IsGroupUp s v → v.dead p ≡ false
+      → All (λ b. b < 256) (act_value op.act) → IssueKeeps F s v p name op
       → Members s v → Reach F s v → Acted s v w p (ask_process s name op (v.process p)).step → Reach F s w
   asks v w p name op pin up lives bytes issues members reach acts d below = (asks-both v w p name op pin up lives bytes issues members reach acts d below).0
 
   -- a call is collected, and a process is told to tell how far it has settled
-  pub collects : (v w : State) (p : ProcessId) (caller call : ℕ) → IsProcess s p → IsUp s v → v.dead p ≡ false → Members s v → Reach F s v
+  pub collects : (v w : State) (p : ProcessId) (caller call : ℕ) → IsProcess s p → IsGroupUp s v → v.dead p ≡ false → Members s v → Reach F s v
       → Acted s v w p (collect_from caller call (v.process p) (range_with_len 0 s.k)).step → Reach F s w
   collects v w p caller call pin up lives members reach acts d below = (collects-both v w p caller call pin up lives members reach acts d below).0
 
-  pub flushes : (v w : State) (p : ProcessId) → IsProcess s p → IsUp s v → v.dead p ≡ false → Members s v → Reach F s v
+  pub flushes : (v w : State) (p : ProcessId) → IsProcess s p → IsGroupUp s v → v.dead p ≡ false → Members s v → Reach F s v
       → Acted s v w p (flush_process s (v.process p)).step → Reach F s w
   flushes v w p pin up lives members reach acts d below = (flushes-both v w p pin up lives members reach acts d below).0
 
   -- whatever a process treats, where what is issued keeps the sentence
-  pub treats : (v w : State) (p : ProcessId) (t : ProcessStep) → IsProcess s p → IsUp s v → v.dead p ≡ false
-      → ((name : CallName) (op : Asked) → All (λ b. b < 256) (value_of op.act) → IssueKeeps F s v p name op) → Treats s (v.process p) t → Members s v
+  pub treats : (v w : State) (p : ProcessId) (t : ProcessStep) → IsProcess s p → IsGroupUp s v → v.dead p ≡ false
+      → ((name : CallName) (op : Asked) → All (λ b. b < 256) (act_value op.act) → IssueKeeps F s v p name op) → Treats s (v.process p) t → Members s v
       → Reach F s v → Acted s v w p t → Reach F s w
   treats v w p t pin up lives issues treated members reach acts d below = (treats-both v w p t pin up lives issues treated members reach acts d below).0
 
   -- a message is received
-  pub receives : (v u w : State) (x p : ProcessId) (m : Message) → IsProcess s x → IsProcess s p → x ≢ p → IsUp s v → v.dead p ≡ false → Members s v
+  pub receives : (v u w : State) (x p : ProcessId) (m : Message) → IsProcess s x → IsProcess s p → x ≢ p → IsGroupUp s v → v.dead p ≡ false → Members s v
       → Reach F s v → Popped s v u x p m → Acted s u w p (receive s x m (v.process p)) → Reach F s w
   receives v u w x p m xin pin apart up lives members reach pops acts d below =
       (receives-both v u w x p m xin pin apart up lives members reach pops acts d below).0
@@ -480,7 +480,7 @@ any-laws = record { start = λ d. tt; rises = λ d a b history any low high. tt 
 -- every move keeps what is reached, for a sentence that whatever is issued keeps
 pub keeps_by : (F : ℕ → ℕ → List Update → Type 0) → HistoryLaws F → (s : Dimensions) → IsShape s
     → ((v : State) (p : ProcessId) (name : CallName) (op : Asked) → IsProcess s p → v.dead p ≡ false
-    → All (λ b. b < 256) (value_of op.act) → Members s v → Reach F s v → IssueKeeps F s v p name op)
+    → All (λ b. b < 256) (act_value op.act) → Members s v → Reach F s v → IssueKeeps F s v p name op)
     → Keeps s (λ v. Members s v × Reach F s v)
 keeps_by F laws s shaped issues = record {
   opens = λ v starts. ((keeps s shaped).opens v starts, opens F laws s shaped v starts);

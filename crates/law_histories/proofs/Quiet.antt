@@ -39,7 +39,7 @@ use Rattle.group_run.specs.Meaning.{IsDrained, process_of}
 use Rattle.group_run.specs.Process.{Head, Process}
 use Rattle.group_run.specs.Progress.{IsPending}
 use Rattle.group_run.specs.Replica.{Replica, last_of, number_on}
-use Rattle.group_run.specs.World.{after, if_up, next_name, node_of, step, treated, unchanged}
+use Rattle.group_run.specs.World.{after, if_up, next_name, process_node, step, treated, unchanged}
 use Rattle.group_run.proofs.Deciding.{decides-by}
 use Rattle.law_moves.specs.State.{State, state_of}
 use Rattle.law_moves.proofs.Runs.{shape-from, world-from}
@@ -260,11 +260,11 @@ module _ (h : History) (reached : Reached h.world.shape (state_of h)) (told : To
       (head.0, head.1, log-empty h.world.shape (state_of h) reached told empty p d head.0 pin heads.lives below head.1)
 
   traced : IsTraced h.world
-  traced caller call d p may = by (node_of h.world p).down (node_of h.world p).dead refl where
-    by : (down dead : Bool) → (node_of h.world p).dead ≡ dead
-        → (if_up down dead (node_of h.world p)
+  traced caller call d p may = by (process_node h.world p).down (process_node h.world p).dead refl where
+    by : (down dead : Bool) → (process_node h.world p).dead ≡ dead
+        → (if_up down dead (process_node h.world p)
         (unchanged (fate_of h.world.shape caller call d.0 (process_of h.world p) (head_at (process_of h.world p) d.0))
-        (node_of h.world p))).answer ≢ says.NotYet
+        (process_node h.world p))).answer ≢ says.NotYet
     by true dead is e = cc e
     by false true is e = cc e
     by false false is e =
@@ -272,19 +272,20 @@ module _ (h : History) (reached : Reached h.world.shape (state_of h)) (told : To
         (head_at (process_of h.world p) d.0) refl)
 
   asked : 0 < h.world.shape.k → IsAsked h.world
-  asked some caller op p may = never-pending (step h.world (Ask caller op p)).turn.answer (by (node_of h.world p).down (node_of h.world p).dead refl) where
-    below : home_of (key_of op.act) h.world.shape.k < h.world.shape.k
-    below = mod-below (fnv1a (key_of op.act)) h.world.shape.k some
+  asked some caller op p may =
+      never-pending (step h.world (Ask caller op p)).turn.answer (by (process_node h.world p).down (process_node h.world p).dead refl) where
+        below : home_of (key_of op.act) h.world.shape.k < h.world.shape.k
+        below = mod-below (fnv1a (key_of op.act)) h.world.shape.k some
 
-    by : (down dead : Bool) → (node_of h.world p).dead ≡ dead
-        → NotPending (if_up down dead (node_of h.world p)
-        (treated h.world.shape (node_of h.world p)
-        (ask_process h.world.shape (next_name h.world caller) op (process_of h.world p)))).answer
-    by true dead is = tt
-    by false true is = tt
-    by false false is =
-        asks-now h.world.shape (state_of h) reached told empty p may.1 is (next_name h.world caller) op (home_of (key_of op.act) h.world.shape.k) below
-        (head_at (process_of h.world p) (home_of (key_of op.act) h.world.shape.k)) refl
+        by : (down dead : Bool) → (process_node h.world p).dead ≡ dead
+            → NotPending (if_up down dead (process_node h.world p)
+            (treated h.world.shape (process_node h.world p)
+            (ask_process h.world.shape (next_name h.world caller) op (process_of h.world p)))).answer
+        by true dead is = tt
+        by false true is = tt
+        by false false is =
+            asks-now h.world.shape (state_of h) reached told empty p may.1 is (next_name h.world caller) op (home_of (key_of op.act) h.world.shape.k) below
+            (head_at (process_of h.world p) (home_of (key_of op.act) h.world.shape.k)) refl
 
 module _ (s : Dimensions) (es : List Event) (run : IsRun s es) (drained : IsDrained (after s es)) where
   abbrev h : History

@@ -4,7 +4,7 @@ use Rattle.std.proofs.Common.{ℕ, zero, suc, ◌≡◌, ◌≢◌, ◌<◌, ◌
 use Rattle.std.proofs.lemmas.Bool.{cases_lt}
 use Rattle.std.specs.Prelude.{option_map}
 use Rattle.group_types.specs.Dimensions.{Dimensions}
-use Rattle.group_types.specs.Names.{IsProcess, of_rank, rank_of}
+use Rattle.group_types.specs.Names.{IsProcess, heading_rank, of_rank}
 use Rattle.group_types.specs.declared.process.ProcessId.{ProcessId}
 use Rattle.group_types.specs.Each.{Each}
 use Rattle.group_types.proofs.Eaches.{each-weaker}
@@ -17,12 +17,12 @@ use Rattle.law_moves.proofs.Members.{IsFrom, MayStand, Members, Reigns}
 use Rattle.law_moves.proofs.Keeping.{ground_of, seat-from}
 use Rattle.law_histories.proofs.Lanes.{Ranked, Stale, ranked-weaker}
 
-pub rank-of_rank : (d r : ℕ) → rank_of (of_rank d r) ≡ r
+pub rank-of_rank : (d r : ℕ) → heading_rank (of_rank d r) ≡ r
 rank-of_rank d zero = refl
 rank-of_rank d (suc i) = refl
 
 pub rank-one : (d a b : ℕ) → of_rank d a ≡ of_rank d b → a ≡ b
-rank-one d a b same = sym (rank-of_rank d a) ∙ ap rank_of same ∙ rank-of_rank d b
+rank-one d a b same = sym (rank-of_rank d a) ∙ ap heading_rank same ∙ rank-of_rank d b
 
 module _ (s : Dimensions) (v : State) (d : ℕ) where
   -- a rank of partition d that process y has and that is in use

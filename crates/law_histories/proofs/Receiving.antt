@@ -30,7 +30,7 @@ use Rattle.group_run.specs.Rows.{parity_number}
 use Rattle.group_run.specs.World.{front_if, sent_to}
 use Rattle.group_run.specs.History.{history}
 use Rattle.law_moves.proofs.Moves.{Acted, Popped}
-use Rattle.law_moves.specs.State.{IsUp, State}
+use Rattle.law_moves.specs.State.{IsGroupUp, State}
 use Rattle.law_moves.proofs.Members.{IsFrom, IsParity, MayStand, Members, Reigns, seat_of}
 use Rattle.law_moves.specs.Known.{is_notice}
 use Rattle.law_moves.proofs.Calls.{Owes}
@@ -89,7 +89,7 @@ takes-ack s d j r n p (Some g) is = by (r == g.rank) refl where
   }
 
 module _ (s : Dimensions) (shaped : IsShape s) (v u w : State) (x p : ProcessId) (m : Message) (xin : IsProcess s x)
-    (pin : IsProcess s p) (apart : x ≢ p) (up : IsUp s v) (lives : v.dead p ≡ false) (reached : Reached s v)
+    (pin : IsProcess s p) (apart : x ≢ p) (up : IsGroupUp s v) (lives : v.dead p ≡ false) (reached : Reached s v)
     (told : Told s v)
     (pops : Popped s v u x p m) (acts : Acted s u w p (receive s x m (v.process p))) where
   abbrev proc : Process
@@ -294,7 +294,8 @@ plain-ack : (s : Dimensions) (d : ℕ) (x : ProcessId) (r : Rank) (e : Partition
 plain-ack s d (DataNode z) r e n p other = plain-refl d p
 plain-ack s d (ParityNode i) r e n p other = plain-acknowledge s d i r.0 e.0 n (head_at p e.0) p other
 
-module _ (s : Dimensions) (shaped : IsShape s) (v u w : State) (x p : ProcessId) (xin : IsProcess s x) (pin : IsProcess s p) (apart : x ≢ p) (up : IsUp s v)
+module _ (s : Dimensions) (shaped : IsShape s) (v u w : State) (x p : ProcessId) (xin : IsProcess s x) (pin : IsProcess s p) (apart : x ≢ p)
+    (up : IsGroupUp s v)
     (lives : v.dead p ≡ false) (reached : Reached s v) (told : Told s v) where
   abbrev Comes : Message → ℕ → Type 0
   Comes m d = (pops : Popped s v u x p m) (acts : Acted s u w p (receive s x m (v.process p)))

@@ -15,7 +15,7 @@ use Rattle.group_run.specs.Heading.{other_parities}
 use Rattle.group_run.specs.Process.{Head, Process, new_head, opening_process}
 use Rattle.group_run.specs.Replica.{empty_replica, last_of}
 use Rattle.law_moves.proofs.Moves.{Acted, Died, Treats}
-use Rattle.law_moves.specs.State.{IsUp, State}
+use Rattle.law_moves.specs.State.{IsGroupUp, State}
 use Rattle.law_moves.proofs.State.{Opens}
 use Rattle.law_moves.proofs.Members.{Members}
 use Rattle.law_moves.proofs.Calls.{Owes, Seated, step-treats}
@@ -117,7 +117,7 @@ module _ (s : Dimensions) (shaped : IsShape s) where
   seated-at v members p pin lives = record { name = members.named p pin; some = some-partition; sits = λ d below. members.sits p d pin lives below }
 
   -- a call, a collect or a flush
-  pub told-treats : (v w : State) (p : ProcessId) (t : ProcessStep) → IsProcess s p → IsUp s v → v.dead p ≡ false
+  pub told-treats : (v w : State) (p : ProcessId) (t : ProcessStep) → IsProcess s p → IsGroupUp s v → v.dead p ≡ false
       → Treats s (v.process p) t → Reached s v → Told s v → Acted s v w p t → Told s w
   told-treats v w p t pin up lives treated reached told acts =
       told-left s v w p pin acts.others acts.dead (λ x q xin qin other qother. acts.links x q xin qin other) told

@@ -31,7 +31,7 @@ use Rattle.group_run.specs.Heading.{judge_head, least_acked, other_parities, set
 use Rattle.group_run.specs.History.{settled_with, history}
 use Rattle.group_run.specs.Process.{Head, Process}
 use Rattle.group_run.specs.Replica.{Replica, applied_to, empty_replica, last_of, up_to, with_update}
-use Rattle.group_run.specs.World.{Call, front_if, new_ones, settled_in, update_name}
+use Rattle.group_run.specs.World.{AskedCall, front_if, new_ones, settled_in, update_name}
 use Rattle.law_updates.specs.Decisions.{IsSound, ReadsFrom}
 use Rattle.law_updates.specs.Right.{ruling_in}
 use Rattle.law_updates.specs.Store.{held, store_after}
@@ -59,7 +59,7 @@ retry-block-none : (s : Dimensions) (b : ℕ) (o : Option Oldest) (p : Process) 
 retry-block-none s b None p = refl
 retry-block-none s b (Some o) p = refl
 
-module _ (s : Dimensions) (calls : List Call) (settled : List Update) (c : Call) (d : ℕ) (p : Process) (h : Head)
+module _ (s : Dimensions) (calls : List AskedCall) (settled : List Update) (c : AskedCall) (d : ℕ) (p : Process) (h : Head)
     (stands : HeadStands s calls settled d p h) where
   abbrev r : Replica
   r = replica_of p d
@@ -160,7 +160,7 @@ pub record AnsweredBy (settled : List Update) (name : CallName) (reply : Reply) 
   pub named : update_name update ≡ name
   pub replied : reply_from update.outcome ≡ reply
 
-module _ (s : Dimensions) (calls : List Call) (settled : List Update) (c : Call) (d : ℕ) (p : Process) (h : Head)
+module _ (s : Dimensions) (calls : List AskedCall) (settled : List Update) (c : AskedCall) (d : ℕ) (p : Process) (h : Head)
     (stands : HeadStands s calls settled d p h) where
   issued-answered : (body : Body) (outcome : Outcome) (b : Bool)
       → nat_le (suc (last_of (replica_of p d)))
@@ -199,7 +199,7 @@ module _ (s : Dimensions) (calls : List Call) (settled : List Update) (c : Call)
       (nat_le (suc (last_of (replica_of p d)))
       (replica_of (issued s d h (update_of c.name c.op d body outcome p) p).process d).applied) refl reply is
 
-module _ (s : Dimensions) (calls : List Call) (settled : List Update) (c : Call) (p : Process)
+module _ (s : Dimensions) (calls : List AskedCall) (settled : List Update) (c : AskedCall) (p : Process)
     (stands : (h : Head) → head_at p (home_of (key_of c.op.act) s.k) ≡ Some h → HeadStands s calls settled (home_of (key_of c.op.act) s.k) p h) where
   -- what is asked of a process that may head the key's partition
   pub ask-refused : (reply : Reply) → (ask_process s c.name c.op p).answer ≡ says.Reply reply → accepts reply ≡ false

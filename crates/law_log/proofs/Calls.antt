@@ -24,11 +24,11 @@ use Rattle.group_run.specs.Headline.{IsRun, MayCome}
 use Rattle.group_run.specs.History.{History, settled_after}
 use Rattle.group_run.specs.Process.{Node}
 use Rattle.group_run.specs.Receiving.{receive}
-use Rattle.group_run.specs.World.{Call, DeliveryStep, NodeStep, World, all_change, asked_after, delivered}
+use Rattle.group_run.specs.World.{AskedCall, DeliveryStep, NodeStep, World, all_change, asked_after, delivered}
 use Rattle.group_run.specs.World.{flush_process, group_step, if_up, is_issued, link_emptied, next_name, node_after}
-use Rattle.group_run.specs.World.{node_failed, node_in, node_of, nodes_told, treated, unchanged, with_link, with_node}
+use Rattle.group_run.specs.World.{node_failed, node_in, nodes_told, process_node, treated, unchanged, with_link, with_node}
 use Rattle.law_moves.proofs.Moves.{Acted, Died, Popped}
-use Rattle.law_moves.specs.State.{IsUp, State, state_from, state_of}
+use Rattle.law_moves.specs.State.{IsGroupUp, State, state_from, state_of}
 use Rattle.law_moves.proofs.Events.{Framed, FramedHistory, grows, up_from}
 use Rattle.law_moves.proofs.Reading.{node-back, node-other, size-with_node}
 use Rattle.law_moves.proofs.Runs.{runs_move}
@@ -42,12 +42,12 @@ use Rattle.law_log.proofs.Books.{book-framed, book-shape, book-world, book_alway
 -- what comes of a call at a process: it is answered that the group is down or the process lost, or treated
 pub data Answers (s : Dimensions) (v w : State) (p : ProcessId) (call : CallStep) (answer : Answer) : Type 0 where
   Idle : w ≡ v → (answer ≡ says.Down) ⊎ (answer ≡ says.Lost) → Answers s v w p call answer
-  Acts : IsUp s v → v.dead p ≡ false → Acted s v w p call.step → answer ≡ call.answer → Answers s v w p call answer
+  Acts : IsGroupUp s v → v.dead p ≡ false → Acted s v w p call.step → answer ≡ call.answer → Answers s v w p call answer
 
 -- what comes of a delivery: nothing, or a message is received
 pub data Delivers (s : Dimensions) (v w : State) (x p : ProcessId) : Type 0 where
   Nothing : w ≡ v → Delivers s v w x p
-  Takes : (u : State) (m : Message) → IsUp s v → v.dead p ≡ false → Popped s v u x p m → Acted s u w p (receive s x m (v.process p)) → Delivers s v w x p
+  Takes : (u : State) (m : Message) → IsGroupUp s v → v.dead p ≡ false → Popped s v u x p m → Acted s u w p (receive s x m (v.process p)) → Delivers s v w x p
 
 -- what comes of a failure: nothing, or a death
 pub data Fails (s : Dimensions) (v w : State) (p : ProcessId) (keep : ℕ) : Type 0 where
@@ -113,8 +113,8 @@ module _ (s : Dimensions) (nodes : List Node) (settled : List (List Update)) (fr
 
 -- a trace leaves the state
 pub trace-stays : (h : History) (framed : FramedHistory h) (caller call d : ℕ) (p : ProcessId) → IsProcess h.world.shape p → (down dead : Bool)
-    → let t : NodeStep = if_up down dead (node_of h.world p)
-    (unchanged (fate_of h.world.shape caller call d (node_of h.world p).process (head_at (node_of h.world p).process d)) (node_of h.world p)) in
+    → let t : NodeStep = if_up down dead (process_node h.world p)
+    (unchanged (fate_of h.world.shape caller call d (process_node h.world p).process (head_at (process_node h.world p).process d)) (process_node h.world p)) in
     (t.settled ≡ [])
     × (state_from h.world.shape (with_node h.world.shape p t.node h.world.nodes)
     (settled_after t.settled (range_with_len 0 h.world.shape.k) h.settled) ≡ state_of h)
@@ -135,19 +135,19 @@ trace-stays h framed caller call d p pin false false = (
 )
 
 -- each issued call was asked
-abbrev pub AreAsked : List ℕ → List Call → Type 0
+abbrev pub AreAsked : List ℕ → List AskedCall → Type 0
 AreAsked asked calls = Each (λ c. c.name.call < at 0 asked c.name.caller) calls
 
 -- the next call of a caller
-abbrev pub next_call : World → ℕ → Asked → Call
+abbrev pub next_call : World → ℕ → Asked → AskedCall
 next_call w caller op = record { name = next_name w caller; op = op }
 
 -- the calls that are counted stay so
-pub asked-more : (asked : List ℕ) (c : Call) (calls : List Call) → AreAsked asked calls → AreAsked (asked_after asked (Some c)) calls
+pub asked-more : (asked : List ℕ) (c : AskedCall) (calls : List AskedCall) → AreAsked asked calls → AreAsked (asked_after asked (Some c)) calls
 asked-more asked c calls all =
     each-weaker (λ x. x.name.call < at 0 asked x.name.caller) (λ x. x.name.call < at 0 (asked_after asked (Some c)) x.name.caller)
     (λ x below. more x below (cases_eq x.name.caller c.name.caller)) calls all where
-      more : (x : Call) → x.name.call < at 0 asked x.name.caller → (x.name.caller ≡ c.name.caller) ⊎ (x.name.caller ≢ c.name.caller)
+      more : (x : AskedCall) → x.name.call < at 0 asked x.name.caller → (x.name.caller ≡ c.name.caller) ⊎ (x.name.caller ≢ c.name.caller)
           → x.name.call < at 0 (put 0 asked c.name.caller (suc (at 0 asked c.name.caller))) x.name.caller
       more x below (inr other) = let e = at-put-other 0 asked c.name.caller x.name.caller (suc (at 0 asked c.name.caller)) other in omega arith
       more x below (inl same) =
@@ -185,15 +185,15 @@ each-contained P (y ∷ ys) x all (zero, below, is) = subst P is all.0
 each-contained P (y ∷ ys) x all (suc k, below, is) = each-contained P ys x all.1 (k, omega arith, is)
 
 -- the next call of a caller comes behind the issued ones
-pub next-behind : (w : World) (caller : ℕ) (op : Asked) (calls : List Call) → AreAsked w.asked calls → ComesBehind calls (next_call w caller op)
+pub next-behind : (w : World) (caller : ℕ) (op : Asked) (calls : List AskedCall) → AreAsked w.asked calls → ComesBehind calls (next_call w caller op)
 next-behind w caller op calls all other contained same =
     let below = each-contained (λ c. c.name.call < at 0 w.asked c.name.caller) calls other all contained in
     let e : at 0 w.asked other.name.caller ≡ at 0 w.asked caller = ap (at 0 w.asked) same in omega arith
 
-module _ (P : List Call → State → Type 0) where
+module _ (P : List AskedCall → State → Type 0) where
   -- where the state stays, so does the sentence
-  stays : (calls : List Call) (v w : State) → w ≡ v → P calls v → P (calls ++ []) w
-  stays calls v w same holds = subst (λ (cs : List Call). P cs w) (sym (append-nil calls)) (subst (P calls) (sym same) holds)
+  stays : (calls : List AskedCall) (v w : State) → w ≡ v → P calls v → P (calls ++ []) w
+  stays calls v w same holds = subst (λ (cs : List AskedCall). P cs w) (sym (append-nil calls)) (subst (P calls) (sym same) holds)
 
   not-issued : (answer : Answer) → (answer ≡ says.Down) ⊎ (answer ≡ says.Lost) → is_issued answer ≡ false
   not-issued answer (inl down) = ap is_issued down
@@ -204,14 +204,14 @@ module _ (P : List Call → State → Type 0) where
       → P b.issued (state_of b.history) → P (booked b e).issued (state_of (booked b e).history)
   event-kept b (Ask caller op p) framed keeps may all holds =
       let h : History = b.history in
-      let c : Call = next_call h.world caller op in
+      let c : AskedCall = next_call h.world caller op in
       by (call-comes h.world.shape h.world.nodes h.settled framed p
-      (ask_process h.world.shape c.name op (node_of h.world p).process) may.1 (node_of h.world p).down
-      (node_of h.world p).dead refl refl) where
+      (ask_process h.world.shape c.name op (process_node h.world p).process) may.1 (process_node h.world p).down
+      (process_node h.world p).dead refl refl) where
         by : {w : State} {answer : Answer}
             → Answers b.history.world.shape (state_of b.history) w p
             (ask_process b.history.world.shape (next_name b.history.world caller) op
-            (node_of b.history.world p).process) answer
+            (process_node b.history.world p).process) answer
             → P (b.issued ++ call_if (is_issued answer) (next_call b.history.world caller op)) w
         by {w} {answer} (Idle same idle) =
             subst (λ (t : Bool). P (b.issued ++ call_if t (next_call b.history.world caller op)) w)
@@ -223,47 +223,48 @@ module _ (P : List Call → State → Type 0) where
   event-kept b (Collect caller call p) framed keeps may all holds =
       let h : History = b.history in
       by (call-comes h.world.shape h.world.nodes h.settled framed p
-      (collect_from caller call (node_of h.world p).process (range_with_len 0 h.world.shape.k)) may.1
-      (node_of h.world p).down (node_of h.world p).dead refl refl) where
+      (collect_from caller call (process_node h.world p).process (range_with_len 0 h.world.shape.k)) may.1
+      (process_node h.world p).down (process_node h.world p).dead refl refl) where
         by : {w : State} {answer : Answer}
             → Answers b.history.world.shape (state_of b.history) w p
-            (collect_from caller call (node_of b.history.world p).process (range_with_len 0 b.history.world.shape.k))
+            (collect_from caller call (process_node b.history.world p).process (range_with_len 0 b.history.world.shape.k))
             answer
             → P (b.issued ++ []) w
         by {w} {answer} (Idle same idle) = stays b.issued (state_of b.history) w same holds
         by {w} {answer} (Acts up lives acts is) =
-            subst (λ (cs : List Call). P cs w) (sym (append-nil b.issued))
+            subst (λ (cs : List AskedCall). P cs w) (sym (append-nil b.issued))
             (keeps.collects b.issued (state_of b.history) w p caller call may.1 up lives holds acts)
   event-kept b (Flush p) framed keeps may all holds =
       let h : History = b.history in
       by (call-comes h.world.shape h.world.nodes h.settled framed p
-      (flush_process h.world.shape (node_of h.world p).process) may (node_of h.world p).down (node_of h.world p).dead
+      (flush_process h.world.shape (process_node h.world p).process) may (process_node h.world p).down (process_node h.world p).dead
       refl refl) where
         by : {w : State} {answer : Answer}
-            → Answers b.history.world.shape (state_of b.history) w p (flush_process b.history.world.shape (node_of b.history.world p).process) answer
+            → Answers b.history.world.shape (state_of b.history) w p (flush_process b.history.world.shape (process_node b.history.world p).process) answer
             → P (b.issued ++ []) w
         by {w} {answer} (Idle same idle) = stays b.issued (state_of b.history) w same holds
         by {w} {answer} (Acts up lives acts is) =
-            subst (λ (cs : List Call). P cs w) (sym (append-nil b.issued)) (keeps.flushes b.issued (state_of b.history) w p may up lives holds acts)
+            subst (λ (cs : List AskedCall). P cs w) (sym (append-nil b.issued)) (keeps.flushes b.issued (state_of b.history) w p may up lives holds acts)
   event-kept b (Trace caller call d p) framed keeps may all holds =
       let h : History = b.history in
       stays b.issued (state_of h) (state_of (booked b (Trace caller call d p)).history)
-      (trace-stays h framed caller call d.0 p may.3 (node_of h.world p).down (node_of h.world p).dead).1 holds
+      (trace-stays h framed caller call d.0 p may.3 (process_node h.world p).down (process_node h.world p).dead).1 holds
   event-kept b (Deliver from to) framed keeps may all holds =
       let h : History = b.history in
-      by (message-comes h.world.shape h.world.nodes h.settled framed from to may.0 may.1 may.2 (node_of h.world to).down
-      (node_of h.world to).dead refl refl (at [] (node_of h.world from).links (index_of h.world.shape to)) refl) where
+      by (message-comes h.world.shape h.world.nodes h.settled framed from to may.0 may.1 may.2 (process_node h.world to).down
+      (process_node h.world to).dead refl refl (at [] (process_node h.world from).links (index_of h.world.shape to)) refl) where
         by : {w : State} → Delivers b.history.world.shape (state_of b.history) w from to → P (b.issued ++ []) w
         by {w} (Nothing same) = stays b.issued (state_of b.history) w same holds
         by {w} (Takes u m up lives pops acts) =
-            subst (λ (cs : List Call). P cs w) (sym (append-nil b.issued))
+            subst (λ (cs : List AskedCall). P cs w) (sym (append-nil b.issued))
             (keeps.receives b.issued (state_of b.history) u w from to m may.0 may.1 may.2 up lives holds pops acts)
   event-kept b (Fail p keep) framed keeps may all holds =
       let h : History = b.history in
-      by (failure-comes h.world.shape h.world.nodes h.settled framed p keep may (node_of h.world p).dead refl) where
+      by (failure-comes h.world.shape h.world.nodes h.settled framed p keep may (process_node h.world p).dead refl) where
         by : {w : State} → Fails b.history.world.shape (state_of b.history) w p keep → P (b.issued ++ []) w
         by {w} (Was same) = stays b.issued (state_of b.history) w same holds
-        by {w} (Dies died) = subst (λ (cs : List Call). P cs w) (sym (append-nil b.issued)) (keeps.dies b.issued (state_of b.history) w p keep may holds died)
+        by {w} (Dies died) =
+            subst (λ (cs : List AskedCall). P cs w) (sym (append-nil b.issued)) (keeps.dies b.issued (state_of b.history) w p keep may holds died)
 
 pub calls_are_kept : CallsAreKept
 calls_are_kept s P keeps es run =

@@ -19,10 +19,10 @@ use Rattle.group_message.specs.declared.update.Outcome.{Outcome}
 use Rattle.group_message.specs.declared.update.Outcome.TheVariants as ends
 use Rattle.group_message.specs.declared.update.Update.{Update}
 use Rattle.group_calls.specs.Log.{table_of}
-use Rattle.group_calls.specs.Turns.{CallName, accepts, entry_of, name_of}
+use Rattle.group_calls.specs.Turns.{CallName, accepts, call_entry, name_of}
 use Rattle.group_calls.specs.declared.entry.Entry.{Entry}
 use Rattle.group_run.specs.Asking.{reply_from}
-use Rattle.group_run.specs.World.{Call, Ticket, op_in, same_call, update_name}
+use Rattle.group_run.specs.World.{AskedCall, Ticket, op_in, same_call, update_name}
 use Rattle.law_updates.specs.Fine.{AreSteps, ComesBefore, IsStep}
 use Rattle.law_updates.specs.Store.{StoreFits, no_store, store_after}
 use Rattle.law_updates.proofs.Histories.{history-fits, steps-behind, steps-take}
@@ -82,18 +82,19 @@ logged-not-left log more name none = by (is_logged log name) refl where
   by false e = e
 
 -- the ticket of an issued call whose entry isn't in the log has its op
-pub op-of : (log : List Entry) (calls : List Call) (tickets : List Ticket) (c : Call) → AreTickets log calls tickets → EachTwo (λ x y. x.name ≢ y.name) calls
+pub op-of : (log : List Entry) (calls : List AskedCall) (tickets : List Ticket) (c : AskedCall) → AreTickets log calls tickets
+    → EachTwo (λ x y. x.name ≢ y.name) calls
     → Contains calls c → is_logged log c.name ≡ false
     → op_in c.name tickets ≡ Some c.op
 op-of log [] tickets c are differ place none = absurd (omega (arith, place.1))
 op-of log (x ∷ xs) [] c are differ place none = absurd are
 op-of log (x ∷ xs) (t ∷ ts) c are differ (zero, below, is) none =
-    let same : t.name ≡ c.name = are.0 ∙ ap (λ (y : Call). y.name) is in
+    let same : t.name ≡ c.name = are.0 ∙ ap (λ (y : AskedCall). y.name) is in
     ap (λ (n : CallName). if same_call n c.name then t.op else op_in c.name ts) same
     ∙ ap (λ (b : Bool). if b then t.op else op_in c.name ts) (call-refl c.name) ∙ has are.1 where
       has : (t.op ≡ Some x.op) ⊎ (is_logged log x.name ≡ true) → t.op ≡ Some c.op
-      has (inl op) = op ∙ ap (λ (y : Call). Some y.op) is
-      has (inr logged) = let e = ap (λ (y : Call). is_logged log y.name) is in absurd (cc (logged, e, none))
+      has (inl op) = op ∙ ap (λ (y : AskedCall). Some y.op) is
+      has (inr logged) = let e = ap (λ (y : AskedCall). is_logged log y.name) is in absurd (cc (logged, e, none))
 op-of log (x ∷ xs) (t ∷ ts) c are differ (suc k, below, is) none =
     let place : Contains xs c = (k, omega arith, is) in
     let other : x.name ≢ c.name = each-contained (λ y. x.name ≢ y.name) xs c differ.0 place in
@@ -101,13 +102,14 @@ op-of log (x ∷ xs) (t ∷ ts) c are differ (suc k, below, is) none =
     ∙ op-of log xs ts c are.2 differ.1 place none
 
 -- calls of one name are one
-pub same-issued : (calls : List Call) (a b : Call) → EachTwo (λ x y. x.name ≢ y.name) calls → Contains calls a → Contains calls b → a.name ≡ b.name → a ≡ b
+pub same-issued : (calls : List AskedCall) (a b : AskedCall) → EachTwo (λ x y. x.name ≢ y.name) calls → Contains calls a → Contains calls b → a.name ≡ b.name
+    → a ≡ b
 same-issued [] a b differ here there same = absurd (omega (arith, here.1))
 same-issued (x ∷ xs) a b differ (zero, p, is) (zero, q, it) same = sym is ∙ it
 same-issued (x ∷ xs) a b differ (zero, p, is) (suc k, q, it) same =
-    absurd (each-contained (λ y. x.name ≢ y.name) xs b differ.0 (k, omega arith, it) (ap (λ (y : Call). y.name) is ∙ same))
+    absurd (each-contained (λ y. x.name ≢ y.name) xs b differ.0 (k, omega arith, it) (ap (λ (y : AskedCall). y.name) is ∙ same))
 same-issued (x ∷ xs) a b differ (suc k, p, is) (zero, q, it) same =
-    absurd (each-contained (λ y. x.name ≢ y.name) xs a differ.0 (k, omega arith, is) (ap (λ (y : Call). y.name) it ∙ sym same))
+    absurd (each-contained (λ y. x.name ≢ y.name) xs a differ.0 (k, omega arith, is) (ap (λ (y : AskedCall). y.name) it ∙ sym same))
 same-issued (x ∷ xs) a b differ (suc k, p, is) (suc l, q, it) same = same-issued xs a b differ.1 (k, omega arith, is) (l, omega arith, it) same
 
 -- each of those before comes before
@@ -115,7 +117,7 @@ before-all : (R : Update → Update → Type 0) (us : List Update) (u : Update) 
 before-all R [] u rest two = tt
 before-all R (v ∷ vs) u rest two = (each-middle (R v) vs u rest two.0, before-all R vs u rest two.1)
 
-module _ (s : Dimensions) (some : 1 ≤ s.k) (issued : List Call) (differ : EachTwo (λ x y. x.name ≢ y.name) issued) (final : ℕ → List Update)
+module _ (s : Dimensions) (some : 1 ≤ s.k) (issued : List AskedCall) (differ : EachTwo (λ x y. x.name ≢ y.name) issued) (final : ℕ → List Update)
     (steps : (d : ℕ) → d < s.k → AreSteps s issued d 0 (no_store s) (final d)) (rising : (d : ℕ) → d < s.k → EachTwo ComesBefore (final d)) where
   module _ (log : List Entry) (settled : List (List Update)) (d : ℕ) (u : Update) (rest : List Update) (low : d < s.k)
       (is : final d ≡ at [] settled d ++ u ∷ rest)
@@ -133,11 +135,11 @@ module _ (s : Dimensions) (some : 1 ≤ s.k) (issued : List Call) (differ : Each
     before-here : Each (λ v. ComesBefore v u) (at [] settled d)
     before-here = before-all ComesBefore (at [] settled d) u rest (subst (EachTwo ComesBefore) is (rising d low))
 
-    abbrev c : Call
+    abbrev c : AskedCall
     c = step-here.call
 
     abbrev entry : Entry
-    entry = entry_of (update_name u) step-here.call.op (reply_from u.outcome)
+    entry = call_entry (update_name u) step-here.call.op (reply_from u.outcome)
 
     own-call : Contains issued (record { name = update_name u; op = step-here.call.op })
     own-call = subst (λ (n : CallName). Contains issued (record { name = n; op = step-here.call.op })) (sym step-here.name) step-here.asked
@@ -150,7 +152,7 @@ module _ (s : Dimensions) (some : 1 ≤ s.k) (issued : List Call) (differ : Each
       by e (inl of) same =
           let one : record { name = name_of e; op = e.op } ≡ step-here.call = same-issued issued
           (record { name = name_of e; op = e.op }) step-here.call differ of.call step-here.asked (same ∙ step-here.name) in
-          let home : home_of (key_of e.op.act) s.k ≡ d = ap (λ (x : Call). home_of (key_of x.op.act) s.k) one ∙ step-here.fits.home in
+          let home : home_of (key_of e.op.act) s.k ≡ d = ap (λ (x : AskedCall). home_of (key_of x.op.act) s.k) one ∙ step-here.fits.home in
           let there : Contains (at [] settled d) of.update = subst (λ (k : ℕ). Contains (at [] settled k) of.update) home of.there in
           let names : update_name of.update ≡ update_name u = of.named ∙ same in
           let below = each-contained (λ v. ComesBefore v u) (at [] settled d) of.update before-here there (ap (λ (x : CallName). x.caller) names) in

@@ -18,7 +18,7 @@ use Rattle.group_run.specs.Applying.{replica_of}
 use Rattle.group_run.specs.Asking.{fate_from, fate_of, fate_unless, gone_or, is_adopted, is_in_log, reply_from}
 use Rattle.group_run.specs.Process.{Head, Process}
 use Rattle.group_run.specs.Replica.{callers, kept_after}
-use Rattle.group_run.specs.World.{Call, update_name}
+use Rattle.group_run.specs.World.{AskedCall, update_name}
 use Rattle.group_run.specs.History.{history}
 use Rattle.law_updates.specs.Fine.{ComesBefore}
 use Rattle.law_updates.proofs.Clears.{none-passes}
@@ -51,7 +51,7 @@ kept-last caller (u ∷ us) kept rising =
       by (Last v there its same most) own = Last v (suc there.0, (let low = there.1 in omega arith), there.2) its same
           ((λ mine. let below = each-contained (ComesBefore u) us v rising.0 there (mine ∙ sym its) in omega arith), most)
 
-module _ (s : Dimensions) (calls : List Call) (settled : List Update) (d : ℕ) (p : Process) (h : Head) (stands : HeadStands s calls settled d p h) where
+module _ (s : Dimensions) (calls : List AskedCall) (settled : List Update) (d : ℕ) (p : Process) (h : Head) (stands : HeadStands s calls settled d p h) where
   front-rises : EachTwo ComesBefore (take (replica_of p d).applied settled)
   front-rises = subst (EachTwo ComesBefore) (front-is s calls settled d p h stands)
       (each_two-take ComesBefore (replica_of p d).applied (history settled (replica_of p d)) stands.fine.rising)

@@ -25,7 +25,7 @@ use Rattle.group_run.specs.Asking.{collect_from, collect_held, fate_from, fate_o
 use Rattle.group_run.specs.Headline.{MayCome}
 use Rattle.group_run.specs.History.{History}
 use Rattle.group_run.specs.Process.{Head, Held, Process}
-use Rattle.group_run.specs.World.{group_step, if_up, node_of, unchanged}
+use Rattle.group_run.specs.World.{group_step, if_up, process_node, unchanged}
 use Rattle.law_log.specs.Book.{Book}
 use Rattle.law_log.specs.Stands.{IsSettledAs}
 use Rattle.law_log.proofs.Asks.{not-reply, same-reply}
@@ -155,17 +155,17 @@ module _ (b : Book) (framed : FramedHistory b.history) (stands : StandsIn b) (na
   handed-collect caller call p pin names is =
       let h : History = b.history in
       by (call-comes h.world.shape h.world.nodes h.settled framed p
-      (collect_from caller call (node_of h.world p).process (range_with_len 0 h.world.shape.k)) pin
-      (node_of h.world p).down (node_of h.world p).dead refl refl) is
+      (collect_from caller call (process_node h.world p).process (range_with_len 0 h.world.shape.k)) pin
+      (process_node h.world p).down (process_node h.world p).dead refl refl) is
     where
       by : {w : State} {answer : Answer}
           → Answers b.history.world.shape (state_of b.history) w p
-          (collect_from caller call (node_of b.history.world p).process (range_with_len 0 b.history.world.shape.k))
+          (collect_from caller call (process_node b.history.world p).process (range_with_len 0 b.history.world.shape.k))
           answer
           → answer ≡ says.Reply reply → HandedOut b.history.world.shape.k settled_now name reply
       by {w} {answer} (Idle same idle) said = absurd (idle-no-reply answer reply idle said)
       by {w} {answer} (Acts up lives acts its) said =
-          let c = collected b.history.world.shape.k b.history.world.shape.k 0 (node_of b.history.world p).process caller
+          let c = collected b.history.world.shape.k b.history.world.shape.k 0 (process_node b.history.world p).process caller
           call reply (omega arith) (sym its ∙ said) in
           let settles = stands.held up p c.partition c.held pin lives c.low c.there c.applied in
           record {
@@ -180,15 +180,15 @@ module _ (b : Book) (framed : FramedHistory b.history) (stands : StandsIn b) (na
 
   handed-trace : (caller call d : ℕ) (p : ProcessId) → IsProcess b.history.world.shape p → d < b.history.world.shape.k
       → (caller ≡ name.caller) × (call ≡ name.call)
-      → (down dead : Bool) → (node_of b.history.world p).down ≡ down → (node_of b.history.world p).dead ≡ dead
-      → (if_up down dead (node_of b.history.world p)
-      (unchanged (fate_of b.history.world.shape caller call d (node_of b.history.world p).process
-      (head_at (node_of b.history.world p).process d)) (node_of b.history.world p))).answer ≡ says.Reply reply
+      → (down dead : Bool) → (process_node b.history.world p).down ≡ down → (process_node b.history.world p).dead ≡ dead
+      → (if_up down dead (process_node b.history.world p)
+      (unchanged (fate_of b.history.world.shape caller call d (process_node b.history.world p).process
+      (head_at (process_node b.history.world p).process d)) (process_node b.history.world p))).answer ≡ says.Reply reply
       → HandedOut b.history.world.shape.k settled_now name reply
   handed-trace caller call d p pin low names true dead isdown isdead is = absurd (not-reply _ reply refl is)
   handed-trace caller call d p pin low names false true isdown isdead is = absurd (not-reply _ reply refl is)
   handed-trace caller call d p pin low names false false isdown isdead is =
-      let t = traced b.history.world.shape (node_of b.history.world p).process d caller call reply is in
+      let t = traced b.history.world.shape (process_node b.history.world p).process d caller call reply is in
       let up = up_from b.history.world.shape b.history.world.nodes b.history.settled framed p pin isdown in
       record {
         partition = d;
@@ -197,7 +197,7 @@ module _ (b : Book) (framed : FramedHistory b.history) (stands : StandsIn b) (na
         replied = t.replied;
         settles = subst (λ (n : CallName). IsSettledAs (at [] b.history.settled d) n t.kept.outcome) (names-is caller t.kept.call names.0 (t.call_is ∙ names.1))
             (kept-settled b.history.world.shape b.issued (at [] b.history.settled d) d
-            (node_of b.history.world p).process t.head (stands.heads up p d t.head pin isdead low t.heads) caller
+            (process_node b.history.world p).process t.head (stands.heads up p d t.head pin isdead low t.heads) caller
             t.kept t.there);
       }
 
@@ -205,7 +205,7 @@ module _ (b : Book) (framed : FramedHistory b.history) (stands : StandsIn b) (na
       ≡ says.Reply reply → HandedOut b.history.world.shape.k settled_now name reply
   handed-out (Collect caller call p) may names is = handed-collect caller call p may.1 names is
   handed-out (Trace caller call d p) may names is = handed-trace caller call d.0 p may.3 may.2 names
-      (node_of b.history.world p).down (node_of b.history.world p).dead refl refl is
+      (process_node b.history.world p).down (process_node b.history.world p).dead refl refl is
   handed-out (Ask caller op p) may names is = absurd names
   handed-out (Deliver from to) may names is = absurd names
   handed-out (Fail p keep) may names is = absurd names

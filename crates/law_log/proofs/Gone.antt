@@ -11,7 +11,7 @@ use Rattle.group_types.specs.Shape.{IsShape}
 use Rattle.group_types.specs.declared.process.Partition.{Partition}
 use Rattle.group_types.specs.declared.process.ProcessId.{ProcessId}
 use Rattle.group_types.proofs.Lists.{at-put, at-put-other}
-use Rattle.memc_table.specs.Act.{value_of}
+use Rattle.memc_table.specs.Act.{act_value}
 use Rattle.memc_table.specs.Asked.{Asked}
 use Rattle.group_message.specs.declared.kept.Kept.{Kept}
 use Rattle.group_message.specs.declared.message.Message.{Message}
@@ -27,9 +27,9 @@ use Rattle.group_run.specs.Headline.{IsRun, MayCome}
 use Rattle.group_run.specs.History.{History, no_history, prolonged, history}
 use Rattle.group_run.specs.Process.{Head}
 use Rattle.group_run.specs.Receiving.{receive}
-use Rattle.group_run.specs.World.{Call, World, flush_process, if_up, next_name, node_of, step, unchanged, update_name}
+use Rattle.group_run.specs.World.{AskedCall, World, flush_process, if_up, next_name, process_node, step, unchanged, update_name}
 use Rattle.law_moves.proofs.Moves.{Acted, Asks, Collects, Died, Flushes, Popped}
-use Rattle.law_moves.specs.State.{IsUp, State, state_of}
+use Rattle.law_moves.specs.State.{IsGroupUp, State, state_of}
 use Rattle.law_moves.proofs.Events.{FramedHistory, up_from}
 use Rattle.law_moves.proofs.Runs.{runs_move}
 use Rattle.law_moves.proofs.Members.{Members}
@@ -65,28 +65,28 @@ module _ (turns : List Turn) (s : Dimensions) (shaped : IsShape s) where
         d below (clear.2 d below),
   )
 
-  asks : (v w : State) (p : ProcessId) (name : CallName) (op : Asked) → IsProcess s p → IsUp s v → v.dead p ≡ false
-      → All (λ b. b < 256) (value_of op.act) → IssueKeeps (IsClean turns) s v p name op
+  asks : (v w : State) (p : ProcessId) (name : CallName) (op : Asked) → IsProcess s p → IsGroupUp s v → v.dead p ≡ false
+      → All (λ b. b < 256) (act_value op.act) → IssueKeeps (IsClean turns) s v p name op
       → IsClear turns s v → Acted s v w p (ask_process s name op (v.process p)).step → IsClear turns s w
   asks v w p name op pin up lives bytes issues clear acts =
       clear-after v w p (reaching.asks-both (IsClean turns) (clean-laws turns) s shaped v w p name op pin up lives bytes issues clear.0 clear.1 acts)
       ((keeps s shaped).treats v w p (ask_process s name op (v.process p)).step pin up lives (Asks name op bytes)
       clear.0 acts) pin (acts.dead p pin ∙ lives) clear
 
-  collects : (v w : State) (p : ProcessId) (caller call : ℕ) → IsProcess s p → IsUp s v → v.dead p ≡ false → IsClear turns s v
+  collects : (v w : State) (p : ProcessId) (caller call : ℕ) → IsProcess s p → IsGroupUp s v → v.dead p ≡ false → IsClear turns s v
       → Acted s v w p (collect_from caller call (v.process p) (range_with_len 0 s.k)).step → IsClear turns s w
   collects v w p caller call pin up lives clear acts =
       clear-after v w p (reaching.collects-both (IsClean turns) (clean-laws turns) s shaped v w p caller call pin up lives clear.0 clear.1 acts)
       ((keeps s shaped).treats v w p (collect_from caller call (v.process p) (range_with_len 0 s.k)).step pin up lives
       (Collects caller call) clear.0 acts) pin (acts.dead p pin ∙ lives) clear
 
-  flushes : (v w : State) (p : ProcessId) → IsProcess s p → IsUp s v → v.dead p ≡ false → IsClear turns s v
+  flushes : (v w : State) (p : ProcessId) → IsProcess s p → IsGroupUp s v → v.dead p ≡ false → IsClear turns s v
       → Acted s v w p (flush_process s (v.process p)).step → IsClear turns s w
   flushes v w p pin up lives clear acts =
       clear-after v w p (reaching.flushes-both (IsClean turns) (clean-laws turns) s shaped v w p pin up lives clear.0 clear.1 acts)
       ((keeps s shaped).treats v w p (flush_process s (v.process p)).step pin up lives Flushes clear.0 acts) pin (acts.dead p pin ∙ lives) clear
 
-  receives : (v u w : State) (x p : ProcessId) (m : Message) → IsProcess s x → IsProcess s p → x ≢ p → IsUp s v → v.dead p ≡ false → IsClear turns s v
+  receives : (v u w : State) (x p : ProcessId) (m : Message) → IsProcess s x → IsProcess s p → x ≢ p → IsGroupUp s v → v.dead p ≡ false → IsClear turns s v
       → Popped s v u x p m → Acted s u w p (receive s x m (v.process p)) → IsClear turns s w
   receives v u w x p m xin pin apart up lives clear pops acts =
       clear-after v w p (reaching.receives-both (IsClean turns) (clean-laws turns) s shaped v u w x p m xin pin apart up lives clear.0 clear.1 pops acts)
@@ -104,42 +104,42 @@ event-clear : (turns : List Turn) (h : History) (e : Event) → FramedHistory h 
     → TracesAsked h.world.shape.k h.world.asked turns → IsClear turns h.world.shape (state_of h) → IsClear turns h.world.shape (state_of (prolonged h e))
 event-clear turns h (Ask caller op p) framed shaped may were clear =
     by (call-comes h.world.shape h.world.nodes h.settled framed p
-    (ask_process h.world.shape (next_name h.world caller) op (node_of h.world p).process) may.1
-    (node_of h.world p).down (node_of h.world p).dead refl refl) where
+    (ask_process h.world.shape (next_name h.world caller) op (process_node h.world p).process) may.1
+    (process_node h.world p).down (process_node h.world p).dead refl refl) where
       by : {w : State} {answer : Answer}
-          → Answers h.world.shape (state_of h) w p (ask_process h.world.shape (next_name h.world caller) op (node_of h.world p).process) answer
+          → Answers h.world.shape (state_of h) w p (ask_process h.world.shape (next_name h.world caller) op (process_node h.world p).process) answer
           → IsClear turns h.world.shape w
       by (Idle same idle) = subst (IsClear turns h.world.shape) (sym same) clear
       by {w} (Acts up lives acts is) = asks turns h.world.shape shaped (state_of h) w p (next_name h.world caller) op may.1 up lives may.2
           (issue-clean turns h.world.shape shaped h.world.asked were (state_of h) clear.0 clear.1 p may.1 lives (next_name h.world caller) op refl) clear acts
 event-clear turns h (Collect caller call p) framed shaped may were clear =
     by (call-comes h.world.shape h.world.nodes h.settled framed p
-    (collect_from caller call (node_of h.world p).process (range_with_len 0 h.world.shape.k)) may.1
-    (node_of h.world p).down (node_of h.world p).dead refl refl) where
+    (collect_from caller call (process_node h.world p).process (range_with_len 0 h.world.shape.k)) may.1
+    (process_node h.world p).down (process_node h.world p).dead refl refl) where
       by : {w : State} {answer : Answer}
-          → Answers h.world.shape (state_of h) w p (collect_from caller call (node_of h.world p).process (range_with_len 0 h.world.shape.k)) answer
+          → Answers h.world.shape (state_of h) w p (collect_from caller call (process_node h.world p).process (range_with_len 0 h.world.shape.k)) answer
           → IsClear turns h.world.shape w
       by (Idle same idle) = subst (IsClear turns h.world.shape) (sym same) clear
       by {w} (Acts up lives acts is) = collects turns h.world.shape shaped (state_of h) w p caller call may.1 up lives clear acts
 event-clear turns h (Flush p) framed shaped may were clear =
     by (call-comes h.world.shape h.world.nodes h.settled framed p
-    (flush_process h.world.shape (node_of h.world p).process) may (node_of h.world p).down (node_of h.world p).dead
+    (flush_process h.world.shape (process_node h.world p).process) may (process_node h.world p).down (process_node h.world p).dead
     refl refl) where
       by : {w : State} {answer : Answer}
-          → Answers h.world.shape (state_of h) w p (flush_process h.world.shape (node_of h.world p).process) answer
+          → Answers h.world.shape (state_of h) w p (flush_process h.world.shape (process_node h.world p).process) answer
           → IsClear turns h.world.shape w
       by (Idle same idle) = subst (IsClear turns h.world.shape) (sym same) clear
       by {w} (Acts up lives acts is) = flushes turns h.world.shape shaped (state_of h) w p may up lives clear acts
 event-clear turns h (Trace caller call d p) framed shaped may were clear =
-    subst (IsClear turns h.world.shape) (sym (trace-stays h framed caller call d.0 p may.3 (node_of h.world p).down (node_of h.world p).dead).1) clear
+    subst (IsClear turns h.world.shape) (sym (trace-stays h framed caller call d.0 p may.3 (process_node h.world p).down (process_node h.world p).dead).1) clear
 event-clear turns h (Deliver from to) framed shaped may were clear =
-    by (message-comes h.world.shape h.world.nodes h.settled framed from to may.0 may.1 may.2 (node_of h.world to).down
-    (node_of h.world to).dead refl refl (at [] (node_of h.world from).links (index_of h.world.shape to)) refl) where
+    by (message-comes h.world.shape h.world.nodes h.settled framed from to may.0 may.1 may.2 (process_node h.world to).down
+    (process_node h.world to).dead refl refl (at [] (process_node h.world from).links (index_of h.world.shape to)) refl) where
       by : {w : State} → Delivers h.world.shape (state_of h) w from to → IsClear turns h.world.shape w
       by (Nothing same) = subst (IsClear turns h.world.shape) (sym same) clear
       by {w} (Takes u m up lives pops acts) = receives turns h.world.shape shaped (state_of h) u w from to m may.0 may.1 may.2 up lives clear pops acts
 event-clear turns h (Fail p keep) framed shaped may were clear =
-    by (failure-comes h.world.shape h.world.nodes h.settled framed p keep may (node_of h.world p).dead refl) where
+    by (failure-comes h.world.shape h.world.nodes h.settled framed p keep may (process_node h.world p).dead refl) where
       by : {w : State} → Fails h.world.shape (state_of h) w p keep → IsClear turns h.world.shape w
       by (Was same) = subst (IsClear turns h.world.shape) (sym same) clear
       by {w} (Dies died) = dies turns h.world.shape shaped (state_of h) w p keep may clear died
@@ -167,7 +167,7 @@ fate-adopted false false call (Some x) is = absurd (by (x.call == call) (nat_lt 
   by false false is = cc is
 
 -- a trace that tells a call to be gone: then the state is clear of that call too
-module _ (turns : List Turn) (s : Dimensions) (calls : List Call) (v : State) (clear : IsClear turns s v) (stands : Stands s calls v) (up : IsUp s v)
+module _ (turns : List Turn) (s : Dimensions) (calls : List AskedCall) (v : State) (clear : IsClear turns s v) (stands : Stands s calls v) (up : IsGroupUp s v)
     (caller call : ℕ) (d : Partition) (below : d.0 < s.k) (p : ProcessId) (pin : IsProcess s p)
     (lives : v.dead p ≡ false) (last : Turn) (event : last.event ≡ Trace caller call d p) where
   abbrev told-name : CallName
@@ -238,7 +238,7 @@ turn-clear b (Fail p keep) framed shaped may stands were clear =
     (λ name d traced. absurd traced) (event-clear b.turns b.history (Fail p keep) framed shaped may were clear)
 turn-clear b (Trace caller call d p) framed shaped may stands were clear =
     subst (IsClear (b.turns ++ last ∷ []) h.world.shape)
-    (sym (trace-stays h framed caller call d.0 p may.3 (node_of h.world p).down (node_of h.world p).dead).1)
+    (sym (trace-stays h framed caller call d.0 p may.3 (process_node h.world p).down (process_node h.world p).dead).1)
     (by (gone-or last.answer)) where
       h : History
       h = b.history
@@ -246,10 +246,10 @@ turn-clear b (Trace caller call d p) framed shaped may stands were clear =
       last : Turn
       last = (step h.world (Trace caller call d p)).turn
 
-      told : (down dead : Bool) → (node_of h.world p).down ≡ down → (node_of h.world p).dead ≡ dead
-          → (if_up down dead (node_of h.world p)
-          (unchanged (fate_of h.world.shape caller call d.0 (node_of h.world p).process
-          (head_at (node_of h.world p).process d.0)) (node_of h.world p))).answer ≡ says.Gone
+      told : (down dead : Bool) → (process_node h.world p).down ≡ down → (process_node h.world p).dead ≡ dead
+          → (if_up down dead (process_node h.world p)
+          (unchanged (fate_of h.world.shape caller call d.0 (process_node h.world p).process
+          (head_at (process_node h.world p).process d.0)) (process_node h.world p))).answer ≡ says.Gone
           → IsClear (b.turns ++ last ∷ []) h.world.shape (state_of h)
       told true dead isdown isdead is = absurd (cc is)
       told false true isdown isdead is = absurd (cc is)
@@ -257,10 +257,10 @@ turn-clear b (Trace caller call d p) framed shaped may stands were clear =
           told-head b.turns h.world.shape b.issued (state_of h) clear stands
           (up_from h.world.shape h.world.nodes h.settled framed p may.3 isdown) caller call d may.2 p may.3 isdead
           last refl
-          (head_at (node_of h.world p).process d.0) refl is
+          (head_at (process_node h.world p).process d.0) refl is
 
       by : (last.answer ≡ says.Gone) ⊎ (last.answer ≢ says.Gone) → IsClear (b.turns ++ last ∷ []) h.world.shape (state_of h)
-      by (inl is) = told (node_of h.world p).down (node_of h.world p).dead refl refl is
+      by (inl is) = told (process_node h.world p).down (process_node h.world p).dead refl refl is
       by (inr not) = clear-more b.turns last h.world.shape (state_of h) (λ name e traced. not) clear
 
 -- what was asked stays so

@@ -11,11 +11,11 @@ use Rattle.group_calls.specs.declared.event.Event.{Event}
 use Rattle.group_run.specs.Headline.{IsItem, IsLogged, IsRun, KeepsAll}
 use Rattle.group_run.specs.Meaning.{Logged, count_logged, run_on, table_at, updates_of}
 use Rattle.group_run.specs.Replica.{Items, Replica, items_after, slot_in}
-use Rattle.group_run.specs.World.{Call, World, after}
+use Rattle.group_run.specs.World.{AskedCall, World, after}
 use Rattle.group_run.specs.History.{history}
 use Rattle.law_updates.specs.Fine.{AreSteps}
 use Rattle.law_updates.proofs.Laws.{FineItems}
-use Rattle.law_updates.specs.Store.{Store, no_store, stored}
+use Rattle.law_updates.specs.Store.{Store, no_store, store_with_update}
 use Rattle.law_updates.proofs.Homes.{fine_histories_leave_items}
 use Rattle.law_log.specs.Book.{book_of}
 use Rattle.law_log.specs.Stands.{StandsAlways}
@@ -26,13 +26,14 @@ use Rattle.law_log.proofs.Values.{shown-long}
 use Rattle.law_log.proofs.Written.{shows}
 
 -- the numbers of right updates, by their places
-number-at : (s : Dimensions) (calls : List Call) (d n m : ℕ) (store : Store) (us : List Update) (u : Update)
+number-at : (s : Dimensions) (calls : List AskedCall) (d n m : ℕ) (store : Store) (us : List Update) (u : Update)
     → AreSteps s calls d n store us → slice_get us m ≡ Some u → u.number ≡ suc (n + m)
 number-at s calls d n m store [] u steps is = absurd (cc is)
 number-at s calls d n zero store (v ∷ vs) u steps is =
     let same : v.number ≡ u.number = ap (λ (o : Option Update). elim o as (λ _. ℕ) [ None ↦ v.number | Some x ↦ x.number ]) is in
     let own : v.number ≡ suc n = steps.0.right.number in omega arith
-number-at s calls d n (suc m) store (v ∷ vs) u steps is = let rest = number-at s calls d (suc n) m (stored s d v store) vs u steps.1 is in omega arith
+number-at s calls d n (suc m) store (v ∷ vs) u steps is = let rest =
+    number-at s calls d (suc n) m (store_with_update s d v store) vs u steps.1 is in omega arith
 
 -- the update that is shown at a place
 logged-at : (s : Dimensions) (d m : ℕ) (store : Store) (us : List Update) (ls : List Logged) (u : Update) (l : Logged) → AreShown s d store us ls
@@ -43,7 +44,7 @@ logged-at s d zero store (v ∷ vs) (x ∷ xs) u l shown is it =
     let one : v ≡ u = ap (λ (o : Option Update). elim o [ None ↦ v | Some y ↦ y ]) is in
     let two : x ≡ l = ap (λ (o : Option Logged). elim o [ None ↦ x | Some y ↦ y ]) it in
     subst (λ (y : Logged). IsLogged y u) two (subst (IsLogged x) one shown.0.logged)
-logged-at s d (suc m) store (v ∷ vs) (x ∷ xs) u l shown is it = logged-at s d m (stored s d v store) vs xs u l shown.1 is it
+logged-at s d (suc m) store (v ∷ vs) (x ∷ xs) u l shown is it = logged-at s d m (store_with_update s d v store) vs xs u l shown.1 is it
 
 -- a place behind others, and one among the first
 get-behind : (xs ys : List Update) (j : ℕ) → slice_get (xs ++ ys) (length xs + j) ≡ slice_get ys j

@@ -15,7 +15,7 @@ use Rattle.law_updates.specs.Fine.{Fine}
 use Rattle.law_log.proofs.CallWords.{IsNextCall}
 use Rattle.group_calls.specs.declared.event.Event.{Event}
 use Rattle.group_run.specs.Headline.{IsRun}
-use Rattle.group_run.specs.World.{Call, after}
+use Rattle.group_run.specs.World.{AskedCall, after}
 use Rattle.group_run.specs.History.{history}
 use Rattle.law_log.specs.Book.{book_of}
 use Rattle.law_log.specs.Stands.{HeadStands, StandsAlways}
@@ -32,7 +32,8 @@ LogIsTied = (s : Dimensions) → StandsAlways s → (es : List Event) → IsRun 
 
 -- a head that stands issues for the next call of a caller an update that prolongs its fine history
 abbrev pub HeadsIssueFine : Type 0
-HeadsIssueFine = (s : Dimensions) (calls : List Call) (settled : List Update) (d : ℕ) (p : Process) (h : Head) (c : Call) (body : Body) (outcome : Outcome)
+HeadsIssueFine = (s : Dimensions) (calls : List AskedCall) (settled : List Update) (d : ℕ) (p : Process) (h : Head) (c : AskedCall) (body : Body)
+    (outcome : Outcome)
     → HeadStands s calls settled d p h → IsNextCall calls c → home_of (key_of c.op.act) s.k ≡ d
     → decide (space_of s) h.inherited (replica_of p d) c.op (found_at s d p p.name) ≡ Issue body outcome
     → Fine s (calls ++ c ∷ []) d (replica_of p d).applied (history settled (replica_of p d) ++ update_of c.name c.op d body outcome p ∷ [])

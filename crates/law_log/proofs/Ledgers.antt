@@ -9,7 +9,7 @@ use Rattle.group_types.specs.declared.run.Run.{Run}
 use Rattle.group_types.proofs.Lists.{at-put, at-put-other, length-put, put-at, put-put}
 use Rattle.memc_table.specs.Asked.{Asked}
 use Rattle.group_message.specs.declared.update.Update.{Update}
-use Rattle.group_calls.specs.Turns.{entry_of}
+use Rattle.group_calls.specs.Turns.{call_entry}
 use Rattle.group_calls.specs.declared.entry.Entry.{Entry}
 use Rattle.group_run.specs.Applying.{Settlement}
 use Rattle.group_run.specs.Asking.{reply_from}
@@ -43,7 +43,7 @@ module _ (s : Dimensions) (tickets : List Ticket) (final : ℕ → List Update) 
     (law : (log : List Entry) (settled : List (List Update)) (d : ℕ) (u : Update) (rest : List Update) → d < s.k
     → length settled ≡ s.k → final d ≡ at [] settled d ++ u ∷ rest → Q log settled
     → (op : Asked) × (op_in (update_name u) tickets ≡ Some op)
-    × Q (log ++ entry_of (update_name u) op (reply_from u.outcome) ∷ [])
+    × Q (log ++ call_entry (update_name u) op (reply_from u.outcome) ∷ [])
     (put [] settled d (at [] settled d ++ u ∷ []))) where
   pub push-all : (us : List Update) (log : List Entry) (settled : List (List Update)) (d : ℕ) → d < s.k
       → length settled ≡ s.k → final d ≡ at [] settled d ++ us → Q log settled
@@ -54,7 +54,7 @@ module _ (s : Dimensions) (tickets : List Ticket) (final : ℕ → List Update) 
       subst (λ (es : List Entry). Q es (put [] settled d (at [] settled d ++ []))) (sym (append-nil log)) (subst (Q log) (sym same) holds)
   push-all (u ∷ us) log settled d low many is holds =
       let made = law log settled d u us low many is holds in
-      let entry : Entry = entry_of (update_name u) made.0 (reply_from u.outcome) in
+      let entry : Entry = call_entry (update_name u) made.0 (reply_from u.outcome) in
       let next : List (List Update) = put [] settled d (at [] settled d ++ u ∷ []) in
       let here : at [] next d ≡ at [] settled d ++ u ∷ [] = at-put [] [] settled d (at [] settled d ++ u ∷ []) in
       let both : (at [] settled d ++ u ∷ []) ++ us ≡ at [] settled d ++ u ∷ us = append_assoc (at [] settled d) (u ∷ []) us in

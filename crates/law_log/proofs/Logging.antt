@@ -13,7 +13,7 @@ use Rattle.memc_table.specs.Asked.{Asked}
 use Rattle.memc_table.specs.declared.reply.Reply.{Reply}
 use Rattle.memc_table.specs.declared.ruling.Ruling.TheVariants.{Refused}
 use Rattle.group_message.specs.declared.update.Update.{Update}
-use Rattle.group_calls.specs.Turns.{Turn, accepts, entry_of, log_of}
+use Rattle.group_calls.specs.Turns.{Turn, accepts, call_entry, log_of}
 use Rattle.group_calls.specs.declared.entry.Entry.{Entry}
 use Rattle.group_calls.specs.declared.event.Answer.{Answer}
 use Rattle.group_calls.specs.declared.event.Answer.TheVariants as says
@@ -26,7 +26,7 @@ use Rattle.group_run.specs.Asking.{ask_process}
 use Rattle.group_run.specs.Headline.{IsRun, MayCome}
 use Rattle.group_run.specs.History.{History}
 use Rattle.group_run.specs.Replica.{run_of}
-use Rattle.group_run.specs.World.{Call, World, after, call_of, group_step, next_name, node_of, step}
+use Rattle.group_run.specs.World.{AskedCall, World, after, call_of, group_step, next_name, process_node, step}
 use Rattle.law_updates.specs.Right.{ruling_in}
 use Rattle.law_updates.specs.Store.{store_after}
 use Rattle.law_log.specs.Book.{Book, book_of, booked, no_book}
@@ -65,17 +65,17 @@ module _ (b : Book) (framed : FramedHistory b.history) (stands : StandsIn b) (so
       → RefusesWell b.history.world.shape b.history.settled (Some (next_call b.history.world caller op)) (group_step b.history.world (Ask caller op p)).answer
   ask-refuses caller op p pin c reply is answered refused =
       let h : History = b.history in
-      subst (λ (x : Call). ruling_in (store_after h.world.shape (home_of (key_of x.op.act) h.world.shape.k)
+      subst (λ (x : AskedCall). ruling_in (store_after h.world.shape (home_of (key_of x.op.act) h.world.shape.k)
       (at [] h.settled (home_of (key_of x.op.act) h.world.shape.k)))
       (suc (length (at [] h.settled (home_of (key_of x.op.act) h.world.shape.k)))) x.op ≡ Refused reply) (some-same (next_call h.world caller op) c is)
       (by (call-comes h.world.shape h.world.nodes h.settled framed p
-      (ask_process h.world.shape (next_name h.world caller) op (node_of h.world p).process) pin
-      (node_of h.world p).down (node_of h.world p).dead refl refl) answered)
+      (ask_process h.world.shape (next_name h.world caller) op (process_node h.world p).process) pin
+      (process_node h.world p).down (process_node h.world p).dead refl refl) answered)
     where
       by : {w : State} {answer : Answer}
           → Answers b.history.world.shape (state_of b.history) w p
           (ask_process b.history.world.shape (next_name b.history.world caller) op
-          (node_of b.history.world p).process) answer
+          (process_node b.history.world p).process) answer
           → answer ≡ says.Reply reply
           → ruling_in (store_after b.history.world.shape (home_of (key_of op.act) b.history.world.shape.k)
           (at [] b.history.settled (home_of (key_of op.act) b.history.world.shape.k)))
@@ -83,7 +83,7 @@ module _ (b : Book) (framed : FramedHistory b.history) (stands : StandsIn b) (so
       by {w} {answer} (Idle same idle) said = absurd (idle-no-reply answer reply idle said)
       by {w} {answer} (Acts up lives acts its) said =
           ask-refused b.history.world.shape b.issued (at [] b.history.settled (home_of (key_of op.act) b.history.world.shape.k))
-          (next_call b.history.world caller op) (node_of b.history.world p).process
+          (next_call b.history.world caller op) (process_node b.history.world p).process
           (λ head heads. stands.heads up p (home_of (key_of op.act) b.history.world.shape.k) head pin lives
           (home-below (key_of op.act) b.history.world.shape.k some) heads)
           reply (sym its ∙ said) refused (suc (length (at [] b.history.settled (home_of (key_of op.act) b.history.world.shape.k))))
@@ -99,8 +99,8 @@ module _ (b : Book) (framed : FramedHistory b.history) (stands : StandsIn b) (so
 
   pub logs-event : (e : Event) → MayCome b.history.world e → StandsIn (booked b e) → AreAsked b.history.world.asked b.issued → LogsOf b
       → (E : List Entry → List (List Update) → Type 0) → E b.history.world.log b.history.settled → OfUpdates b.history.world.shape (booked b e).issued E
-      → ((c : Call) (reply : Reply) → call_of b.history.world e ≡ Some c → (group_step b.history.world e).answer ≡ says.Reply reply → accepts reply ≡ false
-      → E b.history.world.log b.history.settled → E (b.history.world.log ++ entry_of c.name c.op reply ∷ []) b.history.settled)
+      → ((c : AskedCall) (reply : Reply) → call_of b.history.world e ≡ Some c → (group_step b.history.world e).answer ≡ says.Reply reply → accepts reply ≡ false
+      → E b.history.world.log b.history.settled → E (b.history.world.log ++ call_entry c.name c.op reply ∷ []) b.history.settled)
       → LogsOf (booked b e) × E (booked b e).history.world.log (booked b e).history.settled
   logs-event e may later all logs E before of_update of_refusal =
       let w : World = b.history.world in

@@ -16,13 +16,13 @@ use Rattle.group_message.specs.declared.update.Outcome.{Outcome}
 use Rattle.group_message.specs.declared.update.Outcome.TheVariants as ends
 use Rattle.group_message.specs.declared.update.Update.{Update}
 use Rattle.memc_table.specs.Contents.{table_after}
-use Rattle.group_calls.specs.Turns.{accepts, entry_of, name_of}
+use Rattle.group_calls.specs.Turns.{accepts, call_entry, name_of}
 use Rattle.group_calls.specs.declared.entry.Entry.{Entry}
 use Rattle.group_calls.specs.declared.event.Event.{Event}
 use Rattle.group_run.specs.Asking.{reply_from}
 use Rattle.group_run.specs.Headline.{IsRun}
 use Rattle.group_run.specs.Meaning.{Logged, is_update_of, next_run, runs_left, updates_from}
-use Rattle.group_run.specs.World.{Call, front_if, update_name}
+use Rattle.group_run.specs.World.{AskedCall, front_if, update_name}
 use Rattle.law_log.specs.Book.{Book, book_of}
 use Rattle.law_log.specs.Stands.{StandsAlways}
 use Rattle.law_log.proofs.Books.{book-framed, book_always}
@@ -81,10 +81,10 @@ accepts-from (ends.Number n) = refl
 abbrev pub AllMatch : ℕ → List Entry → List (List Update) → Type 0
 AllMatch k log settled = (d : ℕ) → d < k → Matches (filter (is_update_of k d) log) (at [] settled d)
 
-match-update : (s : Dimensions) (calls : List Call) → OfUpdates s calls (AllMatch s.k)
+match-update : (s : Dimensions) (calls : List AskedCall) → OfUpdates s calls (AllMatch s.k)
 match-update s calls log settled d u low many stands fits step all e below = by (cases_eq e d) where
   entry : Entry
-  entry = entry_of (update_name u) step.call.op (reply_from u.outcome)
+  entry = call_entry (update_name u) step.call.op (reply_from u.outcome)
 
   test : is_update_of s.k e entry ≡ (home_of (key_of step.call.op.act) s.k == e)
   test = ap (λ (b : Bool). if b then home_of (key_of step.call.op.act) s.k == e else false) (accepts-from u.outcome)
@@ -103,11 +103,11 @@ match-update s calls log settled d u low many stands fits step all e below = by 
       (sym (filter-out (is_update_of s.k e) log entry (test ∙ ne_eqb _ _ (λ home. other (sym home ∙ step.fits.home)))))
       (subst (Matches (filter (is_update_of s.k e) log)) (sym (at-put-other [] settled d e (at [] settled d ++ u ∷ []) other)) (all e below))
 
-match-refusal : (k : ℕ) (log : List Entry) (settled : List (List Update)) (c : Call) (reply : Reply) → accepts reply ≡ false → AllMatch k log settled
-    → AllMatch k (log ++ entry_of c.name c.op reply ∷ []) settled
+match-refusal : (k : ℕ) (log : List Entry) (settled : List (List Update)) (c : AskedCall) (reply : Reply) → accepts reply ≡ false → AllMatch k log settled
+    → AllMatch k (log ++ call_entry c.name c.op reply ∷ []) settled
 match-refusal k log settled c reply refused all d below =
     subst (λ (es : List Entry). Matches es (at [] settled d))
-    (sym (filter-out (is_update_of k d) log (entry_of c.name c.op reply) (ap (λ (b : Bool). if b then home_of (key_of c.op.act) k == d else false) refused)))
+    (sym (filter-out (is_update_of k d) log (call_entry c.name c.op reply) (ap (λ (b : Bool). if b then home_of (key_of c.op.act) k == d else false) refused)))
     (all d below)
 
 abbrev pub MatchIn : Book → Type 0

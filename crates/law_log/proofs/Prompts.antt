@@ -12,7 +12,7 @@ use Rattle.memc_table.specs.Act.{key_of}
 use Rattle.memc_table.specs.Asked.{Asked}
 use Rattle.memc_table.specs.declared.reply.Reply.{Reply}
 use Rattle.group_message.specs.declared.update.Update.{Update}
-use Rattle.group_calls.specs.Turns.{accepts, entry_of, name_of}
+use Rattle.group_calls.specs.Turns.{accepts, call_entry, name_of}
 use Rattle.group_calls.specs.declared.entry.Entry.{Entry}
 use Rattle.group_calls.specs.declared.event.Answer.{Answer}
 use Rattle.group_calls.specs.declared.event.Answer.TheVariants as says
@@ -23,8 +23,8 @@ use Rattle.law_moves.specs.State.{State, state_of}
 use Rattle.group_run.specs.Applying.{Settlement}
 use Rattle.group_run.specs.Asking.{ask_process}
 use Rattle.group_run.specs.History.{History}
-use Rattle.group_run.specs.World.{Call, Ledger, Ticket, group_step, is_issued, ledger_after, ledger_with}
-use Rattle.group_run.specs.World.{logged_at_once, new_ones, next_name, node_of, refusal_logged, settled_in, step}
+use Rattle.group_run.specs.World.{AskedCall, Ledger, Ticket, group_step, is_issued, ledger_after, ledger_with}
+use Rattle.group_run.specs.World.{logged_at_once, new_ones, next_name, process_node, refusal_logged, settled_in, step}
 use Rattle.group_run.specs.World.{entries_for}
 use Rattle.law_log.specs.Book.{Book, booked, call_if}
 use Rattle.law_log.proofs.Ties.{EntryStands, HasEntry}
@@ -46,17 +46,17 @@ ledger-front tickets t (suc n) a ledger e there =
     (Contains-append_left ledger.logged (entries_for tickets news) e there))
 
 -- a refusal is logged at once
-refused-at-once : (c : Call) (answer : Answer) (reply : Reply) → answer ≡ says.Reply reply → accepts reply ≡ false
-    → Contains (logged_at_once (Some c) answer) (entry_of c.name c.op reply)
+refused-at-once : (c : AskedCall) (answer : Answer) (reply : Reply) → answer ≡ says.Reply reply → accepts reply ≡ false
+    → Contains (logged_at_once (Some c) answer) (call_entry c.name c.op reply)
 refused-at-once c answer reply is refused =
-    subst (λ (a : Answer). Contains (logged_at_once (Some c) a) (entry_of c.name c.op reply)) (sym is)
-    (subst (λ (b : Bool). Contains (refusal_logged b c reply) (entry_of c.name c.op reply)) (sym refused) (0, omega arith, refl))
+    subst (λ (a : Answer). Contains (logged_at_once (Some c) a) (call_entry c.name c.op reply)) (sym is)
+    (subst (λ (b : Bool). Contains (refusal_logged b c reply) (call_entry c.name c.op reply)) (sym refused) (0, omega arith, refl))
 
 module _ (b : Book) (framed : FramedHistory b.history) (stands : StandsIn b) (some : 1 ≤ b.history.world.shape.k)
     (caller : ℕ) (op : Asked) (p : ProcessId) (pin : IsProcess b.history.world.shape p)
     (logs : LogsOf b) (later : LogsOf (booked b (Ask caller op p))) (reply : Reply)
     (answered : (group_step b.history.world (Ask caller op p)).answer ≡ says.Reply reply) where
-  abbrev c : Call
+  abbrev c : AskedCall
   c = next_call b.history.world caller op
 
   abbrev d : ℕ
@@ -70,13 +70,13 @@ module _ (b : Book) (framed : FramedHistory b.history) (stands : StandsIn b) (so
   answered-by accepted =
       let h : History = b.history in
       by (call-comes h.world.shape h.world.nodes h.settled framed p
-      (ask_process h.world.shape (next_name h.world caller) op (node_of h.world p).process) pin
-      (node_of h.world p).down (node_of h.world p).dead refl refl) answered
+      (ask_process h.world.shape (next_name h.world caller) op (process_node h.world p).process) pin
+      (process_node h.world p).down (process_node h.world p).dead refl refl) answered
     where
       by : {w : State} {answer : Answer}
           → Answers b.history.world.shape (state_of b.history) w p
           (ask_process b.history.world.shape (next_name b.history.world caller) op
-          (node_of b.history.world p).process) answer
+          (process_node b.history.world p).process) answer
           → answer ≡ says.Reply reply → AnsweredBy (w.settled (home_of (key_of op.act) b.history.world.shape.k))
           (next_call b.history.world caller op).name reply
       by {w} {answer} (Idle same idle) said = absurd (idle-no-reply answer reply idle said)
@@ -86,7 +86,7 @@ module _ (b : Book) (framed : FramedHistory b.history) (stands : StandsIn b) (so
           (sym (acts.settled (home_of (key_of op.act) b.history.world.shape.k) low))
           (ask-answered b.history.world.shape b.issued
           (at [] b.history.settled (home_of (key_of op.act) b.history.world.shape.k))
-          (next_call b.history.world caller op) (node_of b.history.world p).process
+          (next_call b.history.world caller op) (process_node b.history.world p).process
           (λ head heads. stands.heads up p (home_of (key_of op.act) b.history.world.shape.k) head pin lives low heads)
           reply (sym its ∙ said) accepted)
 
@@ -96,7 +96,7 @@ module _ (b : Book) (framed : FramedHistory b.history) (stands : StandsIn b) (so
       let test : is_issued (group_step b.history.world (Ask caller op p)).answer ≡ true = ap is_issued answered ∙ accepted in
       subst (λ (t : Bool). Contains (b.issued ++ call_if t c) c) (sym test) (Contains-append_right b.issued (c ∷ []) c (0, omega arith, refl))
 
-  accepted-logged : accepts reply ≡ true → Contains turn_log (entry_of c.name op reply)
+  accepted-logged : accepts reply ≡ true → Contains turn_log (call_entry c.name op reply)
   accepted-logged accepted =
       let by : AnsweredBy (at [] (booked b (Ask caller op p)).history.settled d) c.name reply = answered-by accepted in
       let has : HasEntry (booked b (Ask caller op p)).history.world.log by.update
@@ -110,7 +110,7 @@ module _ (b : Book) (framed : FramedHistory b.history) (stands : StandsIn b) (so
       (each-contained (EntryStands b.history.world.shape (booked b (Ask caller op p)).issued
       (booked b (Ask caller op p)).history.settled) (booked b (Ask caller op p)).history.world.log has.entry
       later.stands.entries has.there) in
-      let is : has.entry ≡ entry_of c.name op reply = λ i. entry_of (named i) (op_is i) (replied i) in
+      let is : has.entry ≡ call_entry c.name op reply = λ i. call_entry (named i) (op_is i) (replied i) in
       subst (Contains turn_log) is (in-turn has.entry named (Contains-append_cases b.history.world.log turn_log has.entry whole))
     where
       in-turn : (e : Entry) → name_of e ≡ (next_call b.history.world caller op).name → Contains b.history.world.log e
@@ -124,15 +124,15 @@ module _ (b : Book) (framed : FramedHistory b.history) (stands : StandsIn b) (so
       same-op : (e : Entry) → name_of e ≡ (next_call b.history.world caller op).name → e.reply ≡ reply
           → EntryStands b.history.world.shape (booked b (Ask caller op p)).issued (booked b (Ask caller op p)).history.settled e → e.op ≡ op
       same-op e named replied (inl of) =
-          ap (λ (x : Call). x.op)
+          ap (λ (x : AskedCall). x.op)
           (same-issued (booked b (Ask caller op p)).issued (record { name = name_of e; op = e.op })
           (next_call b.history.world caller op) later.differ of.call (own-issued accepted) named)
       same-op e named replied (inr refused) = let no = refused.refused in let same = ap accepts replied in absurd (cc (no, same, accepted))
 
-  pub at-once : Contains turn_log (entry_of c.name op reply)
+  pub at-once : Contains turn_log (call_entry c.name op reply)
   at-once = by (accepts reply) refl where
     by : (t : Bool) → accepts reply ≡ t → Contains (step b.history.world (Ask caller op p)).turn.logged
-        (entry_of (next_call b.history.world caller op).name op reply)
+        (call_entry (next_call b.history.world caller op).name op reply)
     by true test = accepted-logged test
     by false test =
         ledger-front _ (group_step b.history.world (Ask caller op p)).settled b.history.world.shape.k 0
@@ -141,6 +141,6 @@ module _ (b : Book) (framed : FramedHistory b.history) (stands : StandsIn b) (so
               (group_step b.history.world (Ask caller op p)).answer;
           places = b.history.world.places;
         })
-        (entry_of (next_call b.history.world caller op).name op reply)
+        (call_entry (next_call b.history.world caller op).name op reply)
         (refused-at-once (next_call b.history.world caller op) (group_step b.history.world (Ask caller op p)).answer
         reply answered test)

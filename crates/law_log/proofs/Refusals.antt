@@ -22,14 +22,14 @@ use Rattle.group_run.specs.Applying.{replica_of}
 use Rattle.group_run.specs.Deciding.{is_get, waits_for}
 use Rattle.group_run.specs.Process.{Head, Process}
 use Rattle.group_run.specs.Replica.{Items, Replica, item_settled, items_after, number_on}
-use Rattle.group_run.specs.World.{Call}
+use Rattle.group_run.specs.World.{AskedCall}
 use Rattle.group_run.specs.History.{history}
 use Rattle.law_moves.proofs.Reading.{some-same}
 use Rattle.law_updates.specs.Decisions.{IsRefusal}
 use Rattle.law_updates.specs.Fine.{AreClear, AreSteps}
 use Rattle.law_updates.proofs.Fine.{IsReplicaOf}
 use Rattle.law_updates.specs.Right.{ruling_in}
-use Rattle.law_updates.specs.Store.{Store, held, no_store, store_after, stored}
+use Rattle.law_updates.specs.Store.{Store, held, no_store, store_after, store_with_update}
 use Rattle.law_updates.proofs.Clears.{number_on-none}
 use Rattle.law_updates.proofs.Histories.{history-fits, steps-behind, steps-keep-held, steps-take, store-append}
 use Rattle.law_updates.proofs.Keys.{key-ne}
@@ -66,11 +66,14 @@ only-number items (u ∷ us) key n clear is = by (number_on us key) refl (same_k
   by None none false test is later = absurd (cc is)
 
 -- the numbers of updates behind the first n
-numbers-below : (s : Dimensions) (calls : List Call) (d n m : ℕ) (store : Store) (us : List Update) → n + length us ≤ m
+numbers-below : (s : Dimensions) (calls : List AskedCall) (d n m : ℕ) (store : Store) (us : List Update) → n + length us ≤ m
     → AreSteps s calls d n store us → Each (λ v. v.number ≤ m) us
 numbers-below s calls d n m store [] within steps = tt
-numbers-below s calls d n m store (u ∷ us) within steps =
-    ((let is : u.number ≡ suc n = steps.0.right.number in omega arith), numbers-below s calls d (suc n) m (stored s d u store) us (omega arith) steps.1)
+numbers-below s calls d n m store (u ∷ us) within steps = (
+  (let is : u.number ≡ suc n = steps.0.right.number in omega arith),
+  numbers-below s calls d (suc n) m (store_with_update s d u store) us
+      (omega arith) steps.1,
+)
 
 -- what an op has to wait for
 waits-cases : (inherited : ℕ) (act : Act) (m : Option ℕ) → waits_for inherited act m ≡ None → (m ≡ None) ⊎ ((n : ℕ) × (m ≡ Some n) × (inherited < n))
@@ -81,7 +84,7 @@ waits-cases inherited act (Some n) free = inr (n, refl, by (is_get act) (nat_le 
   by true false test free = grind (arith, common_steps)
   by false b test free = absurd (cc free)
 
-module _ (s : Dimensions) (calls : List Call) (settled : List Update) (d : ℕ) (p : Process) (h : Head) (stands : HeadStands s calls settled d p h) where
+module _ (s : Dimensions) (calls : List AskedCall) (settled : List Update) (d : ℕ) (p : Process) (h : Head) (stands : HeadStands s calls settled d p h) where
   abbrev r : Replica
   r = replica_of p d
 

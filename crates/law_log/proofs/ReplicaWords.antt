@@ -7,14 +7,14 @@ use Rattle.group_message.specs.declared.update.Update.{Update}
 use Rattle.group_calls.specs.declared.event.Event.{Event}
 use Rattle.group_run.specs.Headline.{IsRun, KeepsAll}
 use Rattle.group_run.specs.Replica.{Replica, items_after, last_of}
-use Rattle.group_run.specs.World.{Call, after}
+use Rattle.group_run.specs.World.{AskedCall, after}
 use Rattle.group_run.specs.History.{history}
 use Rattle.law_updates.specs.Fine.{Fine}
 use Rattle.law_log.specs.Book.{book_of}
 use Rattle.law_log.specs.Stands.{StandsAlways}
 
 -- a replica has every settled update of its partition, in a fine history, and the items of what it has applied
-pub record ReplicaStands (s : Dimensions) (calls : List Call) (settled : List Update) (d : ℕ) (r : Replica) : Type 0 where
+pub record ReplicaStands (s : Dimensions) (calls : List AskedCall) (settled : List Update) (d : ℕ) (r : Replica) : Type 0 where
   pub within : r.applied ≤ length settled
   pub reached : length settled ≤ last_of r
   pub prolongs : take (length settled) (history settled r) ≡ settled

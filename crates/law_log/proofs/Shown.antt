@@ -10,19 +10,19 @@ use Rattle.group_run.specs.Headline.{IsItem, IsLogged, IsRun, ValuesWritten}
 use Rattle.group_run.specs.Meaning.{Logged, run_on, table_at, updates_of, values_after}
 use Rattle.group_run.specs.Replica.{items_after, slot_in}
 use Rattle.group_run.specs.World.{World, after}
-use Rattle.law_updates.specs.Store.{Store, held, no_store, store_after, stored}
+use Rattle.law_updates.specs.Store.{Store, held, no_store, store_after, store_with_update}
 use Rattle.law_log.specs.Book.{book_of}
 use Rattle.law_log.specs.Stands.{StandsAlways}
 
 -- an update that the log shows is this one, and its item is what the store holds after it
 pub record IsShown (s : Dimensions) (d : ℕ) (store : Store) (u : Update) (l : Logged) : Type 0 where
   pub logged : IsLogged l u
-  pub item : l.item ≡ held (stored s d u store) u.key
+  pub item : l.item ≡ held (store_with_update s d u store) u.key
 
 -- the log shows these updates, in order
 abbrev pub AreShown : Dimensions → ℕ → Store → List Update → List Logged → Type 0
 AreShown s d store [] [] = Unit {0}
-AreShown s d store (u ∷ us) (l ∷ ls) = IsShown s d store u l × AreShown s d (stored s d u store) us ls
+AreShown s d store (u ∷ us) (l ∷ ls) = IsShown s d store u l × AreShown s d (store_with_update s d u store) us ls
 AreShown s d store [] (l ∷ ls) = ⊥
 AreShown s d store (u ∷ us) [] = ⊥
 

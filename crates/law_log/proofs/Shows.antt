@@ -13,16 +13,16 @@ use Rattle.memc_table.specs.Act.{key_of}
 use Rattle.memc_table.specs.Contents.{Contents, empty_table, table_after}
 use Rattle.group_message.specs.declared.update.Update.{Update}
 use Rattle.group_calls.specs.Log.{table_of}
-use Rattle.group_calls.specs.Turns.{entry_of}
+use Rattle.group_calls.specs.Turns.{call_entry}
 use Rattle.group_calls.specs.declared.entry.Entry.{Entry}
 use Rattle.group_calls.specs.declared.event.Event.{Event}
 use Rattle.group_run.specs.Asking.{reply_from}
 use Rattle.group_run.specs.Headline.{IsRun}
 use Rattle.group_run.specs.Meaning.{Logged, cut_after, is_update_of, next_run, updates_from}
 use Rattle.group_run.specs.Replica.{run_of}
-use Rattle.group_run.specs.World.{Call, front_if, update_name}
+use Rattle.group_run.specs.World.{AskedCall, front_if, update_name}
 use Rattle.law_updates.specs.Fine.{IsStep}
-use Rattle.law_updates.specs.Store.{Store, StoreFits, held, no_store, store_after, store_from, stored}
+use Rattle.law_updates.specs.Store.{Store, StoreFits, held, no_store, store_after, store_from, store_with_update}
 use Rattle.law_updates.proofs.Histories.{store-append}
 use Rattle.law_log.specs.Book.{Book, book_of, booked, no_book}
 use Rattle.law_log.specs.Stands.{StandsAlways}
@@ -51,7 +51,7 @@ shown-push : (s : Dimensions) (d : ℕ) (store : Store) (us : List Update) (ls :
 shown-push s d store [] [] u l shown one = (one, tt)
 shown-push s d store [] (x ∷ xs) u l shown one = absurd shown
 shown-push s d store (v ∷ vs) [] u l shown one = absurd shown
-shown-push s d store (v ∷ vs) (x ∷ xs) u l shown one = (shown.0, shown-push s d (stored s d v store) vs xs u l shown.1 one)
+shown-push s d store (v ∷ vs) (x ∷ xs) u l shown one = (shown.0, shown-push s d (store_with_update s d v store) vs xs u l shown.1 one)
 
 module _ (s : Dimensions) where
   -- an entry that is no update of the partition
@@ -73,12 +73,12 @@ module _ (s : Dimensions) where
         ∙ shown.tables n low key home;
   }
 
-  module _ (some : 1 ≤ s.k) (calls : List Call) (log : List Entry) (settled : List (List Update)) (d : ℕ) (u : Update)
+  module _ (some : 1 ≤ s.k) (calls : List AskedCall) (log : List Entry) (settled : List (List Update)) (d : ℕ) (u : Update)
       (low : d < s.k) (stands : LogStands s calls log settled)
       (fits : StoreFits s (store_after s d (at [] settled d)))
       (step : IsStep s calls d (suc (length (at [] settled d))) (store_after s d (at [] settled d)) u) where
     abbrev entry : Entry
-    entry = entry_of (update_name u) step.call.op (reply_from u.outcome)
+    entry = call_entry (update_name u) step.call.op (reply_from u.outcome)
 
     abbrev us : List Update
     us = at [] settled d
@@ -200,6 +200,6 @@ module _ (s : Dimensions) (always : StandsAlways s) where
       (some-partition s always done now) (booked b e).issued log settled d u low stands fits step x (cases_eq x d)
       (said x below))
       (λ c reply is answered refused said x below. shown-other b.history.world.shape x b.history.world.log
-      (at [] b.history.settled x) (entry_of c.name c.op reply)
+      (at [] b.history.settled x) (call_entry c.name c.op reply)
       (ap (λ (t : Bool). if t then home_of (key_of c.op.act) b.history.world.shape.k == x else false) refused) (said x below)) in
       record { logs = next.0; shown = next.1 }) es run

@@ -15,7 +15,7 @@ use Rattle.group_calls.specs.Turns.{CallName, accepts, name_of}
 use Rattle.group_calls.specs.declared.entry.Entry.{Entry}
 use Rattle.group_run.specs.Asking.{reply_from}
 use Rattle.group_run.specs.Replica.{run_of}
-use Rattle.group_run.specs.World.{Call, Ticket, same_call, update_name}
+use Rattle.group_run.specs.World.{AskedCall, Ticket, same_call, update_name}
 use Rattle.law_updates.specs.Store.{held, store_after}
 
 -- the table has for each key what the settled store of its home holds, and counts the settled updates
@@ -25,7 +25,7 @@ pub record Ties (s : Dimensions) (settled : List (List Update)) (t : Contents) :
   pub items : (key : List ℕ) → t.items key ≡ held (store_after s (home_of key s.k) (at [] settled (home_of key s.k))) key
 
 -- the entry is that of a settled update of its partition, and has the op of its call
-pub record IsEntryOf (s : Dimensions) (issued : List Call) (settled : List (List Update)) (e : Entry) : Type 0 where
+pub record IsEntryOf (s : Dimensions) (issued : List AskedCall) (settled : List (List Update)) (e : Entry) : Type 0 where
   pub call : Contains issued (record { name = name_of e; op = e.op })
   pub update : Update
   pub there : Contains (at [] settled (home_of (key_of e.op.act) s.k)) update
@@ -33,12 +33,12 @@ pub record IsEntryOf (s : Dimensions) (issued : List Call) (settled : List (List
   pub accepted : accepts e.reply ≡ true
 
 -- or it is a refusal, of a call whose update was never issued
-pub record IsRefusalOf (issued : List Call) (e : Entry) : Type 0 where
+pub record IsRefusalOf (issued : List AskedCall) (e : Entry) : Type 0 where
   pub refused : accepts e.reply ≡ false
   pub other : Each (λ c. c.name ≢ name_of e) issued
 
 -- each entry is one or the other
-abbrev pub EntryStands : Dimensions → List Call → List (List Update) → Entry → Type 0
+abbrev pub EntryStands : Dimensions → List AskedCall → List (List Update) → Entry → Type 0
 EntryStands s issued settled e = IsEntryOf s issued settled e ⊎ IsRefusalOf issued e
 
 -- a settled update has its entry in the log
@@ -53,7 +53,7 @@ abbrev pub NamesDiffer : Entry → Entry → Type 0
 NamesDiffer a b = name_of a ≢ name_of b
 
 -- the log beside what is settled
-pub record LogStands (s : Dimensions) (issued : List Call) (log : List Entry) (settled : List (List Update)) : Type 0 where
+pub record LogStands (s : Dimensions) (issued : List AskedCall) (log : List Entry) (settled : List (List Update)) : Type 0 where
   pub legal : IsLegal s.k log
   pub ties : Ties s settled (table_of (empty_table s.k) log)
   pub entries : Each (EntryStands s issued settled) log
@@ -65,7 +65,7 @@ abbrev pub is_logged : List Entry → CallName → Bool
 is_logged log name = list_any (λ e. same_call (name_of e) name) log
 
 -- each issued call has a ticket, with its op until its entry is in the log
-abbrev pub AreTickets : List Entry → List Call → List Ticket → Type 0
+abbrev pub AreTickets : List Entry → List AskedCall → List Ticket → Type 0
 AreTickets log [] [] = Unit {0}
 AreTickets log (c ∷ cs) (t ∷ ts) = (t.name ≡ c.name) × ((t.op ≡ Some c.op) ⊎ (is_logged log c.name ≡ true)) × AreTickets log cs ts
 AreTickets log [] (t ∷ ts) = ⊥

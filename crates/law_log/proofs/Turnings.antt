@@ -12,7 +12,7 @@ use Rattle.group_types.proofs.Lists.{at-put, at-put-other, at-replicate}
 use Rattle.group_types.specs.Each.{Each, EachTwo}
 use Rattle.group_types.proofs.Eaches.{each-append, each-weaker}
 use Rattle.memc_table.specs.Asked.{Asked}
-use Rattle.group_calls.specs.Turns.{CallName, Turn, asks_in, asks_of, entry_of, name_of}
+use Rattle.group_calls.specs.Turns.{CallName, Turn, asks_in, asks_of, call_entry, name_of}
 use Rattle.group_calls.specs.Within.{IsAsk, IsTaken}
 use Rattle.group_calls.specs.declared.event.Answer.{Answer}
 use Rattle.group_calls.specs.declared.event.Answer.TheVariants as says
@@ -21,7 +21,7 @@ use Rattle.group_calls.specs.declared.event.Event.TheVariants.{Ask, Collect, Del
 use Rattle.group_run.specs.Asking.{reply_from}
 use Rattle.group_run.specs.Headline.{IsRun}
 use Rattle.group_run.specs.Replica.{callers}
-use Rattle.group_run.specs.World.{Call, World, asked_after, call_of, group_step, is_issued, step, turns_from, world_after, update_name}
+use Rattle.group_run.specs.World.{AskedCall, World, asked_after, call_of, group_step, is_issued, step, turns_from, world_after, update_name}
 use Rattle.law_log.specs.Book.{Book, book_of, booked, call_if, issued_by}
 use Rattle.law_log.specs.Stands.{StandsAlways}
 use Rattle.law_log.proofs.Books.{book-framed, book_always}
@@ -182,9 +182,10 @@ module _ (b : Book) (counted : (caller : ℕ) → asks_of caller b.turns ≡ at 
     place = ap (asks_of caller) (take_at b.turns ((step b.history.world (Ask caller op p)).turn ∷ []) (length b.turns) refl) ∙ counted caller;
   }
 
-  has-own : (e : Event) (c : Call) → call_of b.history.world e ≡ Some c → IsTaken (group_step b.history.world e).answer → HasAsk (booked b e).turns c.name c.op
+  has-own : (e : Event) (c : AskedCall) → call_of b.history.world e ≡ Some c → IsTaken (group_step b.history.world e).answer
+      → HasAsk (booked b e).turns c.name c.op
   has-own (Ask caller op p) c is taken =
-      subst (λ (x : Call). HasAsk (booked b (Ask caller op p)).turns x.name x.op) (ap (λ (o : Option Call). elim o [ None ↦ c | Some x ↦ x ]) is)
+      subst (λ (x : AskedCall). HasAsk (booked b (Ask caller op p)).turns x.name x.op) (ap (λ (o : Option AskedCall). elim o [ None ↦ c | Some x ↦ x ]) is)
       (record { place = length b.turns; turn = (step b.history.world (Ask caller op p)).turn; ask = own-ask caller op p; taken = taken })
   has-own (Collect caller call p) c is taken = absurd (cc is)
   has-own (Deliver from to) c is taken = absurd (cc is)
@@ -192,7 +193,7 @@ module _ (b : Book) (counted : (caller : ℕ) → asks_of caller b.turns ≡ at 
   has-own (Flush p) c is taken = absurd (cc is)
   has-own (Trace caller call d p) c is taken = absurd (cc is)
 
-  issued-own : (e : Event) (call : Option Call) (answer : Answer) → call_of b.history.world e ≡ call → (group_step b.history.world e).answer ≡ answer
+  issued-own : (e : Event) (call : Option AskedCall) (answer : Answer) → call_of b.history.world e ≡ call → (group_step b.history.world e).answer ≡ answer
       → Each (λ c. HasAsk (booked b e).turns c.name c.op) (issued_by call answer)
   issued-own e None answer is said = tt
   issued-own e (Some c) answer is said = by (is_issued answer) refl where
@@ -223,12 +224,12 @@ module _ (s : Dimensions) (always : StandsAlways s) where
       (each-weaker (λ x. HasAsk b.turns (name_of x) x.op) (λ x. HasAsk (booked b e).turns (name_of x) x.op)
       (λ x has. has-more b.turns turn (name_of x) x.op has) b.history.world.log holds.entries)
       (λ log settled d u low many stands fits step said. each-append (λ x. HasAsk (booked b e).turns (name_of x) x.op)
-      log (entry_of (update_name u) step.call.op (reply_from u.outcome) ∷ []) said (
+      log (call_entry (update_name u) step.call.op (reply_from u.outcome) ∷ []) said (
         subst (λ (n : CallName). HasAsk (booked b e).turns n step.call.op) (sym step.name)
             (each-contained (λ x. HasAsk (booked b e).turns x.name x.op) (booked b e).issued step.call calls step.asked),
         tt,
       ))
       (λ c reply is answered refused said. each-append (λ x. HasAsk (booked b e).turns (name_of x) x.op)
-      b.history.world.log (entry_of c.name c.op reply ∷ []) said
+      b.history.world.log (call_entry c.name c.op reply ∷ []) said
       (has-own b counted e c is (inl (reply, answered)), tt)) in
       record { logs = next.0; issued = calls; entries = next.1 }) es run

@@ -18,11 +18,11 @@ use Rattle.group_message.specs.declared.update.Body.TheVariants.{Put, Remove, To
 use Rattle.group_message.specs.declared.update.Update.{Update}
 use Rattle.group_run.specs.Applying.{space_added}
 use Rattle.group_run.specs.Fitting.{Writes}
-use Rattle.group_run.specs.Meaning.{Logged, run_after, run_on, run_unless, space_from, written}
+use Rattle.group_run.specs.Meaning.{Logged, item_run_after, run_on, run_unless, space_from, written}
 use Rattle.group_run.specs.Replica.{item_settled, items_after, run_in, run_of, slot_after, slot_in}
-use Rattle.group_run.specs.World.{Call}
+use Rattle.group_run.specs.World.{AskedCall}
 use Rattle.law_updates.specs.Fine.{AreSteps}
-use Rattle.law_updates.specs.Store.{Store, StoreFits, held, held_in, store_from, stored}
+use Rattle.law_updates.specs.Store.{Store, StoreFits, held, held_in, store_from, store_with_update}
 use Rattle.law_updates.proofs.Histories.{step-writes}
 use Rattle.law_updates.proofs.Keys.{key-eq, key-refl, slot_in-with}
 use Rattle.law_updates.proofs.Steps.{right_updates_leave}
@@ -35,18 +35,19 @@ shown-take s d zero store us ls shown = tt
 shown-take s d (suc n) store [] [] shown = tt
 shown-take s d (suc n) store [] (l ∷ ls) shown = absurd shown
 shown-take s d (suc n) store (u ∷ us) [] shown = absurd shown
-shown-take s d (suc n) store (u ∷ us) (l ∷ ls) shown = (shown.0, shown-take s d n (stored s d u store) us ls shown.1)
+shown-take s d (suc n) store (u ∷ us) (l ∷ ls) shown = (shown.0, shown-take s d n (store_with_update s d u store) us ls shown.1)
 
 -- as many as there are
 pub shown-long : (s : Dimensions) (d : ℕ) (store : Store) (us : List Update) (ls : List Logged) → AreShown s d store us ls → length ls ≡ length us
 shown-long s d store [] [] shown = refl
 shown-long s d store [] (l ∷ ls) shown = absurd shown
 shown-long s d store (u ∷ us) [] shown = absurd shown
-shown-long s d store (u ∷ us) (l ∷ ls) shown = ap suc (shown-long s d (stored s d u store) us ls shown.1)
+shown-long s d store (u ∷ us) (l ∷ ls) shown = ap suc (shown-long s d (store_with_update s d u store) us ls shown.1)
 
 -- what an update leaves on its own key
 own-held : (s : Dimensions) (d : ℕ) (store : Store) (u : Update)
-    → held (stored s d u store) u.key ≡ held_in (space_added s (DataNode d) d u.body store.space) (slot_after u.number u.body (slot_in store.items u.key))
+    → held (store_with_update s d u store) u.key ≡ held_in (space_added s (DataNode d) d u.body store.space)
+    (slot_after u.number u.body (slot_in store.items u.key))
 own-held s d store u =
     ap (held_in (space_added s (DataNode d) d u.body store.space))
     (slot_in-with u.key u.key (slot_after u.number u.body (slot_in store.items u.key)) store.items
@@ -54,7 +55,7 @@ own-held s d store u =
 
 -- the run of a key's item after an update on the key
 run-kept : (space : List ℕ) (n : ℕ) (body : Body) (slot : Option Slot)
-    → run_after (held_in space (slot_after n body slot)) (run_of body) (option_map run_in slot) ≡ option_map run_in (slot_after n body slot)
+    → item_run_after (held_in space (slot_after n body slot)) (run_of body) (option_map run_in slot) ≡ option_map run_in (slot_after n body slot)
 run-kept space n (Put flags until run delta) slot = refl
 run-kept space n Remove slot = refl
 run-kept space n (Touch until) None = refl
@@ -67,15 +68,16 @@ pub runs-are : (s : Dimensions) (d : ℕ) (key : List ℕ) (store : Store) (us :
 runs-are s d key store [] [] old shown is = is
 runs-are s d key store [] (l ∷ ls) old shown is = absurd shown
 runs-are s d key store (u ∷ us) [] old shown is = absurd shown
-runs-are s d key store (u ∷ us) (l ∷ ls) old shown is = runs-are s d key (stored s d u store) us ls
+runs-are s d key store (u ∷ us) (l ∷ ls) old shown is = runs-are s d key (store_with_update s d u store) us ls
     (run_unless (same_key (key_of l.entry.op.act) key) l old) shown.1 next where
       same : same_key (key_of l.entry.op.act) key ≡ same_key u.key key
       same = ap (λ (k : List ℕ). same_key k key) (sym shown.0.logged.key)
 
-      here : u.key ≡ key → run_after l.item l.run old ≡ option_map run_in (slot_after u.number u.body (slot_in store.items u.key))
+      here : u.key ≡ key → item_run_after l.item l.run old ≡ option_map run_in (slot_after u.number u.body (slot_in store.items u.key))
       here on =
-          ap₂ (λ (i : Option Holding) (r : Option Run). run_after i r old) (shown.0.item ∙ own-held s d store u) (sym shown.0.logged.run)
-          ∙ ap (run_after (held_in (space_added s (DataNode d) d u.body store.space) (slot_after u.number u.body (slot_in store.items u.key))) (run_of u.body))
+          ap₂ (λ (i : Option Holding) (r : Option Run). item_run_after i r old) (shown.0.item ∙ own-held s d store u) (sym shown.0.logged.run)
+          ∙ ap (item_run_after (held_in (space_added s (DataNode d) d u.body store.space) (slot_after u.number u.body (slot_in store.items u.key)))
+          (run_of u.body))
           (is ∙ ap (λ (k : List ℕ). option_map run_in (slot_in store.items k)) (sym on))
           ∙ run-kept (space_added s (DataNode d) d u.body store.space) u.number u.body (slot_in store.items u.key)
 
@@ -113,17 +115,17 @@ space-kept s d n Remove slot space long writes = refl
 space-kept s d n (Touch until) slot space long writes = refl
 
 -- the space that a log shows is the settled one
-pub values-are : (s : Dimensions) (calls : List Call) (d n : ℕ) (store : Store) (us : List Update) (ls : List Logged)
+pub values-are : (s : Dimensions) (calls : List AskedCall) (d n : ℕ) (store : Store) (us : List Update) (ls : List Logged)
     → StoreFits s store → AreSteps s calls d n store us → AreShown s d store us ls
     → space_from store.space ls ≡ (store_from s d store us).space
 values-are s calls d n store [] [] fits steps shown = refl
 values-are s calls d n store [] (l ∷ ls) fits steps shown = absurd shown
 values-are s calls d n store (u ∷ us) [] fits steps shown = absurd shown
 values-are s calls d n store (u ∷ us) (l ∷ ls) fits steps shown =
-    let here : written l.run l.item store.space ≡ (stored s d u store).space
+    let here : written l.run l.item store.space ≡ (store_with_update s d u store).space
     = ap₂ (λ (r : Option Run) (i : Option Holding). written r i store.space) (sym shown.0.logged.run) (shown.0.item ∙ own-held s d store u)
     ∙ space-kept s d u.number u.body (slot_in store.items u.key) store.space fits.long (step-writes s calls d (suc n) store u fits steps.0) in
     ap (λ (space : List ℕ). space_from space ls) here
-    ∙ values-are s calls d (suc n) (stored s d u store) us ls
+    ∙ values-are s calls d (suc n) (store_with_update s d u store) us ls
     ((right_updates_leave s d (suc n) store steps.0.call.op u fits steps.0.right).fits steps.0.fits.bytes) steps.1
     shown.1

@@ -13,7 +13,7 @@ use Rattle.group_types.specs.Each.{EachTwo}
 use Rattle.memc_table.specs.Act.{key_of}
 use Rattle.memc_table.specs.Asked.{Asked}
 use Rattle.memc_table.specs.declared.reply.Reply.{Reply}
-use Rattle.group_calls.specs.Turns.{CallName, Turn, accepts, asks_in, asks_of, entry_of, log_of, name_of}
+use Rattle.group_calls.specs.Turns.{CallName, Turn, accepts, asks_in, asks_of, call_entry, log_of, name_of}
 use Rattle.group_calls.specs.Within.{AnswersWithin, Fetches, IsAsk, IsLoggedSince, IsTaken, Traces}
 use Rattle.group_calls.specs.declared.entry.Entry.{Entry}
 use Rattle.group_calls.specs.declared.event.Answer.TheVariants as says
@@ -218,13 +218,13 @@ module _ (s : Dimensions) (always : StandsAlways s) (es : List Event) (run : IsR
 
   -- a reply to an ask
   at_once : (i : ℕ) (turn : Turn) (name : CallName) (op : Asked) (reply : Reply) → IsAsk turns i turn name op
-      → turn.answer ≡ says.Reply reply → Contains turn.logged (entry_of name op reply)
+      → turn.answer ≡ says.Reply reply → Contains turn.logged (call_entry name op reply)
   at_once i turn name op reply ask answered =
       by (e i turn ask.there) (sym (ap (λ (t : Turn). t.event) (turn-same i turn ask.there)) ∙ ask.event)
       (parts i turn ask.there).1 (turn-same i turn ask.there) (asked-through i turn ask.there) where
         by : (x : Event) → x ≡ Ask name.caller op ask.at → MayCome (after s (place i turn ask.there).before) x
             → turn ≡ (step (b i turn ask.there).history.world x).turn → AskedOf (booked (b i turn ask.there) x)
-            → Contains turn.logged (entry_of name op reply)
+            → Contains turn.logged (call_entry name op reply)
         by x is may same later =
             let before : List Event = (place i turn ask.there).before in
             let own : Book = b i turn ask.there in
@@ -237,8 +237,8 @@ module _ (s : Dimensions) (always : StandsAlways s) (es : List Event) (run : IsR
             let call : at 0 own.history.world.asked name.caller ≡ name.call
             = sym (asks_counted s before now name.caller) ∙ ap (asks_of name.caller) (turns-before i turn ask.there) ∙ ask.place in
             let named : next_name own.history.world name.caller ≡ name = λ k. record { caller = name.caller; call = call k } in
-            subst (λ (n : CallName). Contains turn.logged (entry_of n op reply)) named
-            (subst (λ (t : Turn). Contains t.logged (entry_of (next_name own.history.world name.caller) op reply)) (sym its_same)
+            subst (λ (n : CallName). Contains turn.logged (call_entry n op reply)) named
+            (subst (λ (t : Turn). Contains t.logged (call_entry (next_name own.history.world name.caller) op reply)) (sym its_same)
             (at-once own (book-framed s before now) (stands-in s always before now) (some-partition s always before now)
             name.caller op ask.at its_may.1 (asked-before i turn ask.there).logs its_later.logs reply said))
 
@@ -259,7 +259,7 @@ module _ (s : Dimensions) (always : StandsAlways s) (es : List Event) (run : IsR
       ((asked-before i turn there).logs.stands.entered out.partition) out.settles.there in
       let named : name_of has.entry ≡ name = has.named ∙ out.settles.named in
       let replied : has.entry.reply ≡ reply = has.replied ∙ ap reply_from out.settles.ended ∙ out.replied in
-      let is : has.entry ≡ entry_of name has.entry.op reply = λ k. entry_of (named k) has.entry.op (replied k) in
+      let is : has.entry ≡ call_entry name has.entry.op reply = λ k. call_entry (named k) has.entry.op (replied k) in
       let found = contained-get own.history.world.log has.entry has.there in
       let in_log : slice_get (log_of (take (i + 1) turns)) found.0 ≡ Some has.entry
       = ap (λ (log : List Entry). slice_get log found.0) (sym (log-through i turn there) ∙ log-grows i turn there)

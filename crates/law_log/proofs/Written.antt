@@ -19,10 +19,10 @@ use Rattle.group_run.specs.Deciding.{is_touch}
 use Rattle.group_run.specs.Headline.{AreApart, HasItsValue, IsItem, IsRun, HasClearRun}
 use Rattle.group_run.specs.Meaning.{Logged, count_logged, cut_after, run_on, space_from, table_at, updates_from, updates_of, values_after}
 use Rattle.group_run.specs.Replica.{Items, items_after, run_in, run_of, slot_in}
-use Rattle.group_run.specs.World.{Call, World, after}
+use Rattle.group_run.specs.World.{AskedCall, World, after}
 use Rattle.law_updates.specs.Fine.{AreSteps, IsStep}
 use Rattle.law_updates.specs.Right.{IsBodyOf, IsPut}
-use Rattle.law_updates.specs.Store.{Store, StoreFits, held, held_in, no_store, store_after, store_from, stored}
+use Rattle.law_updates.specs.Store.{Store, StoreFits, held, held_in, no_store, store_after, store_from, store_with_update}
 use Rattle.law_updates.proofs.Histories.{history-fits, steps-take, store-items}
 use Rattle.law_updates.proofs.Keys.{OfSlot, each-slot, key-refl}
 use Rattle.law_updates.proofs.Spaces.{length-bytes_at}
@@ -45,13 +45,13 @@ item-is size space (Some slot) h run long inside holds is =
     (is, refl, refl, refl, sym (length-bytes_at slot.at slot.len space (omega (arith, long, inside))))
 
 -- the update at a place, with the store before it
-pub record ShownAt (s : Dimensions) (calls : List Call) (d n m : ℕ) (store : Store) (us : List Update) (l : Logged) : Type 0 where
+pub record ShownAt (s : Dimensions) (calls : List AskedCall) (d n m : ℕ) (store : Store) (us : List Update) (l : Logged) : Type 0 where
   pub update : Update
   pub step : IsStep s calls d (suc (n + m)) (store_from s d store (take m us)) update
   pub shown : IsShown s d (store_from s d store (take m us)) update l
   pub fits : StoreFits s (store_from s d store (take m us))
 
-pub shown-at : (s : Dimensions) (calls : List Call) (d n m : ℕ) (store : Store) (us : List Update) (ls : List Logged) (l : Logged) → StoreFits s store
+pub shown-at : (s : Dimensions) (calls : List AskedCall) (d n m : ℕ) (store : Store) (us : List Update) (ls : List Logged) (l : Logged) → StoreFits s store
     → AreSteps s calls d n store us → AreShown s d store us ls → slice_get ls m ≡ Some l
     → ShownAt s calls d n m store us l
 shown-at s calls d n m store us [] l fits steps shown is = absurd (cc is)
@@ -65,14 +65,14 @@ shown-at s calls d n zero store (u ∷ us) (x ∷ xs) l fits steps shown is =
       shown = subst (IsShown s d store u) same shown.0;
     }
 shown-at s calls d n (suc m) store (u ∷ us) (x ∷ xs) l fits steps shown is =
-    let later = shown-at s calls d (suc n) m (stored s d u store) us xs l
+    let later = shown-at s calls d (suc n) m (store_with_update s d u store) us xs l
     ((right_updates_leave s d (suc n) store steps.0.call.op u fits steps.0.right).fits steps.0.fits.bytes) steps.1
     shown.1 is in
     record {
       update = later.update;
       fits = later.fits;
       shown = later.shown;
-      step = subst (λ (k : ℕ). IsStep s calls d k (store_from s d (stored s d u store) (take m us)) later.update) (omega arith) later.step;
+      step = subst (λ (k : ℕ). IsStep s calls d k (store_from s d (store_with_update s d u store) (take m us)) later.update) (omega arith) later.step;
     }
 
 -- the run of an update that puts a value
@@ -102,7 +102,7 @@ module _ (s : Dimensions) (always : StandsAlways s) (es : List Event) (run : IsR
   abbrev settled : List Update
   settled = at [] (book_of s es).history.settled d
 
-  abbrev calls : List Call
+  abbrev calls : List AskedCall
   calls = (book_of s es).issued
 
   shape-is : (after s es).shape ≡ s

@@ -5,21 +5,21 @@ use Rattle.group_calls.specs.Turns.{Turn}
 use Rattle.group_calls.specs.declared.event.Answer.{Answer}
 use Rattle.group_calls.specs.declared.event.Event.{Event}
 use Rattle.group_run.specs.History.{History, no_history, prolonged}
-use Rattle.group_run.specs.World.{Call, call_of, group_step, is_issued, step}
+use Rattle.group_run.specs.World.{AskedCall, call_of, group_step, is_issued, step}
 
 -- a history, the calls whose updates were issued, in order, and the turns
 pub record Book : Type 0 where
   pub history : History
-  pub issued : List Call
+  pub issued : List AskedCall
   pub turns : List Turn
 
 -- a call, if its update was issued
-abbrev pub call_if : Bool → Call → List Call
+abbrev pub call_if : Bool → AskedCall → List AskedCall
 call_if true c = c ∷ []
 call_if false c = []
 
 -- the call of an event, if the answer says that its update was issued
-abbrev pub issued_by : Option Call → Answer → List Call
+abbrev pub issued_by : Option AskedCall → Answer → List AskedCall
 issued_by None answer = []
 issued_by (Some c) answer = call_if (is_issued answer) c
 

@@ -15,9 +15,9 @@ use Rattle.group_run.specs.Asking.{found_at}
 use Rattle.group_run.specs.Headline.{IsRun}
 use Rattle.group_run.specs.Process.{Head, Held, Process}
 use Rattle.group_run.specs.Replica.{callers, items_after, kept_after, last_of}
-use Rattle.group_run.specs.World.{Call, update_name}
+use Rattle.group_run.specs.World.{AskedCall, update_name}
 use Rattle.group_run.specs.History.{history}
-use Rattle.law_moves.specs.State.{IsUp, State, state_of}
+use Rattle.law_moves.specs.State.{IsGroupUp, State, state_of}
 use Rattle.law_updates.specs.Decisions.{ReadsFrom}
 use Rattle.law_updates.specs.Fine.{Fine}
 use Rattle.law_updates.specs.Store.{store_after}
@@ -26,7 +26,7 @@ use Rattle.law_log.specs.Book.{book_of}
 -- a head has every settled update of its partition, in a fine history; its items are those of what it has
 -- applied, so are the outcomes that it keeps, and it finds in runs what the space has then. What it inherited
 -- is settled first, and once it is, the head has applied all that is settled
-pub record HeadStands (s : Dimensions) (calls : List Call) (settled : List Update) (d : ℕ) (p : Process) (h : Head) : Type 0 where
+pub record HeadStands (s : Dimensions) (calls : List AskedCall) (settled : List Update) (d : ℕ) (p : Process) (h : Head) : Type 0 where
   pub within : (replica_of p d).applied ≤ length settled
   pub reached : length settled ≤ last_of (replica_of p d)
   pub prolongs : take (length settled) (history settled (replica_of p d)) ≡ settled
@@ -46,11 +46,11 @@ pub record IsSettledAs (settled : List Update) (name : CallName) (outcome : Outc
 
 -- what stands in a state beside the issued calls: what is settled is fine; and while the group isn't down, each
 -- living head has it, and what is held of a call whose update is applied is that of a settled update
-pub record Stands (s : Dimensions) (calls : List Call) (v : State) : Type 0 where
+pub record Stands (s : Dimensions) (calls : List AskedCall) (v : State) : Type 0 where
   pub settled : (d : ℕ) → d < s.k → Fine s calls d (length (v.settled d)) (v.settled d)
-  pub heads : IsUp s v → (p : ProcessId) (d : ℕ) (h : Head) → IsProcess s p → v.dead p ≡ false → d < s.k → head_at (v.process p) d ≡ Some h
+  pub heads : IsGroupUp s v → (p : ProcessId) (d : ℕ) (h : Head) → IsProcess s p → v.dead p ≡ false → d < s.k → head_at (v.process p) d ≡ Some h
       → HeadStands s calls (v.settled d) d (v.process p) h
-  pub held : IsUp s v → (p : ProcessId) (d : ℕ) (x : Held) → IsProcess s p → v.dead p ≡ false → d < s.k → Contains (held_at (v.process p) d) x
+  pub held : IsGroupUp s v → (p : ProcessId) (d : ℕ) (x : Held) → IsProcess s p → v.dead p ≡ false → d < s.k → Contains (held_at (v.process p) d) x
       → x.number ≤ (replica_of (v.process p) d).applied → IsSettledAs (v.settled d) (record { caller = x.caller; call = x.call }) x.outcome
 
 -- so it is along every run

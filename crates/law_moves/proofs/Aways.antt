@@ -31,7 +31,7 @@ use Rattle.group_run.specs.Deciding.{decide}
 use Rattle.group_run.specs.History.{History, history_of, no_history}
 use Rattle.group_run.specs.Meaning.{IsDown, is_dead, link, process_of}
 use Rattle.group_run.specs.Process.{Head, Process}
-use Rattle.group_run.specs.World.{World, after, dead_nodes, if_up, next_name, node_of, step, treated}
+use Rattle.group_run.specs.World.{World, after, dead_nodes, if_up, next_name, process_node, step, treated}
 use Rattle.law_moves.specs.State.{state_of}
 use Rattle.law_moves.proofs.Events.{FramedHistory}
 use Rattle.law_moves.proofs.Runs.{framed-from, framed-opening, shape-from, world-from}
@@ -243,8 +243,9 @@ module _ (h : History) (framed : FramedHistory h) (members : Members h.world.sha
     not_moved : a ≡ says.Moved → ⊥
     not_moved e = subst Serves e serves
 
-  by_words : (down dead : Bool) → (node_of w p).down ≡ down → (node_of w p).dead ≡ dead
-      → (a : Answer) → a ≡ (if_up down dead (node_of w p) (treated w.shape (node_of w p) (ask_process w.shape (next_name w caller) op (process_of w p)))).answer
+  by_words : (down dead : Bool) → (process_node w p).down ≡ down → (process_node w p).dead ≡ dead
+      → (a : Answer) → a ≡
+      (if_up down dead (process_node w p) (treated w.shape (process_node w p) (ask_process w.shape (next_name w caller) op (process_of w p)))).answer
       → ((a ≡ says.Down) ↔ IsDown w) × ((a ≡ says.Lost) ↔ ((¬ (IsDown w)) × (is_dead w p ≡ true)))
       × ((a ≡ says.Moved) ↔ (IsUp w p × (¬ (IsReady w p (home_in w op)))))
   by_words true dead isdown isdead a is =
@@ -260,7 +261,7 @@ module _ (h : History) (framed : FramedHistory h) (members : Members h.world.sha
         (λ e. absurd (cc (e, is)), λ away. absurd (cc (away.0.process, isdead))),
       )
     where
-      not_down : (node_of w p).down ≡ false → ¬ (IsDown w)
+      not_down : (process_node w p).down ≡ false → ¬ (IsDown w)
       not_down none down =
           let told : nat_lt w.shape.m (dead_nodes w.nodes) ≡ false = sym (framed.down p pin) ∙ none in
           let few : dead_nodes w.nodes ≤ w.shape.m = grind (arith, common_steps) in
@@ -273,7 +274,7 @@ module _ (h : History) (framed : FramedHistory h) (members : Members h.world.sha
         absurd (omega (arith, few, down))
 
   pub away : SentAway h.world caller op p
-  away = let all = by_words (node_of w p).down (node_of w p).dead refl refl (step w (Ask caller op p)).turn.answer refl
+  away = let all = by_words (process_node w p).down (process_node w p).dead refl refl (step w (Ask caller op p)).turn.answer refl
       in record { down = all.0; lost = all.1; moved = all.2 }
 
 pub away_always : AwayAlways

@@ -7,7 +7,7 @@ use Rattle.group_types.specs.Dimensions.{Dimensions}
 use Rattle.group_types.specs.Lists.{at, put}
 use Rattle.group_types.specs.Names.{IsProcess, index_of}
 use Rattle.group_types.specs.declared.process.ProcessId.{ProcessId}
-use Rattle.membership.specs.Members.{count_dead}
+use Rattle.membership.specs.Members.{count_dead_words}
 use Rattle.group_message.specs.declared.update.Update.{Update}
 use Rattle.group_calls.specs.declared.event.Answer.TheVariants as says
 use Rattle.group_calls.specs.declared.event.Event.{Event}
@@ -19,9 +19,9 @@ use Rattle.group_run.specs.Headline.{IsRun, MayCome}
 use Rattle.group_run.specs.History.{History, history_of, no_history}
 use Rattle.group_run.specs.Meaning.{IsDown}
 use Rattle.group_run.specs.Process.{Node}
-use Rattle.group_run.specs.World.{Call, DeliveryStep, GroupStep, Ledger, NodeStep, Ticket, World, after, all_change}
+use Rattle.group_run.specs.World.{AskedCall, DeliveryStep, GroupStep, Ledger, NodeStep, Ticket, World, after, all_change}
 use Rattle.group_run.specs.World.{call_of, dead_nodes, deliver_nodes, delivered, flush_process, group_step, grown}
-use Rattle.group_run.specs.World.{if_up, ledger_after, logged_at_once, next_name, node_failed, node_in, node_of}
+use Rattle.group_run.specs.World.{if_up, ledger_after, logged_at_once, next_name, node_failed, node_in, process_node}
 use Rattle.group_run.specs.World.{nodes_told, opening_node, step, tickets_after, treated, unchanged, with_node}
 use Rattle.law_moves.specs.Down.{DownAlways, WordsAlways}
 use Rattle.law_moves.proofs.Events.{Framed, FramedHistory, told-lost}
@@ -45,22 +45,24 @@ quiet-ledger tickets [] ledger = refl
 quiet-ledger tickets (d ∷ ds) ledger = quiet-ledger tickets ds _
 
 -- whoever is put dead makes no fewer dead
-more-dead : (e : Node) (xs : List Node) (i : ℕ) (y : Node) → y.dead ≡ true → count_dead (map (λ (n : Node). n.dead) xs)
-    ≤ count_dead (map (λ (n : Node). n.dead) (put e xs i y))
+more-dead : (e : Node) (xs : List Node) (i : ℕ) (y : Node) → y.dead ≡ true → count_dead_words (map (λ (n : Node). n.dead) xs)
+    ≤ count_dead_words (map (λ (n : Node). n.dead) (put e xs i y))
 more-dead e [] i y dead = omega arith
 more-dead e (x ∷ xs) zero y dead = by x.dead where
-  by : (b : Bool) → (if b then 1 else 0) + count_dead (map (λ (n : Node). n.dead) xs) ≤ (if y.dead then 1 else 0) + count_dead (map (λ (n : Node). n.dead) xs)
+  by : (b : Bool) → (if b then 1 else 0) + count_dead_words (map (λ (n : Node). n.dead) xs) ≤ (if y.dead then 1 else 0) + count_dead_words
+      (map (λ (n : Node). n.dead) xs)
   by b = let one : ◌≡◌ {A = ℕ} (if y.dead then 1 else 0) 1 = ap (λ (c : Bool). if c then 1 else 0) dead in few b (omega (arith, one))
     where
-      few : (b : Bool) → 1 + count_dead (map (λ (n : Node). n.dead) xs) ≤ (if y.dead then 1 else 0) + count_dead (map (λ (n : Node). n.dead) xs)
-          → (if b then 1 else 0) + count_dead (map (λ (n : Node). n.dead) xs) ≤ (if y.dead then 1 else 0) + count_dead (map (λ (n : Node). n.dead) xs)
+      few : (b : Bool) → 1 + count_dead_words (map (λ (n : Node). n.dead) xs) ≤ (if y.dead then 1 else 0) + count_dead_words (map (λ (n : Node). n.dead) xs)
+          → (if b then 1 else 0) + count_dead_words (map (λ (n : Node). n.dead) xs) ≤ (if y.dead then 1 else 0) + count_dead_words
+          (map (λ (n : Node). n.dead) xs)
       few true most = most
       few false most = omega (arith, most)
 more-dead e (x ∷ xs) (suc i) y dead = let rest = more-dead e xs i y dead in omega (arith, rest)
 
 module _ (w : World) (settled : List (List Update)) (framed : Framed w.shape w.nodes settled) (isdown : IsDown w) where
   -- each node knows it
-  told : (p : ProcessId) → IsProcess w.shape p → (node_of w p).down ≡ true
+  told : (p : ProcessId) → IsProcess w.shape p → (process_node w p).down ≡ true
   told p pin = framed.down p pin ∙ (let above : w.shape.m < dead_nodes w.nodes = isdown in grind (arith, common_steps))
 
   -- an event after which all nodes are the same, that settles nothing and is answered so
@@ -78,7 +80,7 @@ module _ (w : World) (settled : List (List Update)) (framed : Framed w.shape w.n
       (record { logged = logged_at_once (call_of w e) (group_step w e).answer; places = w.places })).logged) quiet
       ∙ quiet-ledger tickets (range_with_len 0 w.shape.k) (record { logged = logged_at_once (call_of w e) (group_step w e).answer; places = w.places }) ∙ none)
 
-  none-at-once : (call : Option Call) → logged_at_once call says.Down ≡ []
+  none-at-once : (call : Option AskedCall) → logged_at_once call says.Down ≡ []
   none-at-once None = refl
   none-at-once (Some c) = refl
 
@@ -100,7 +102,7 @@ module _ (w : World) (settled : List (List Update)) (framed : Framed w.shape w.n
   answers-down node t false is = cc is
 
   one : (e : Event) (p : ProcessId) (t : NodeStep) → IsProcess w.shape p
-      → (group_step w e) ≡ record { nodes = with_node w.shape p t.node w.nodes; answer = t.answer; settled = t.settled } → AnswersDown (node_of w p) t
+      → (group_step w e) ≡ record { nodes = with_node w.shape p t.node w.nodes; answer = t.answer; settled = t.settled } → AnswersDown (process_node w p) t
       → Nothing e
   one e p t pin is answers = record {
     answer = ap (λ (g : GroupStep). g.answer) is ∙ answers.answer;
@@ -113,30 +115,30 @@ module _ (w : World) (settled : List (List Update)) (framed : Framed w.shape w.n
   stands (Ask caller op p) may =
       still (Ask caller op p)
       (one (Ask caller op p) p _ may.1 refl
-      (answers-down (node_of w p)
-      (treated w.shape (node_of w p) (ask_process w.shape (next_name w caller) op (node_of w p).process))
-      (node_of w p).down (told p may.1)))
+      (answers-down (process_node w p)
+      (treated w.shape (process_node w p) (ask_process w.shape (next_name w caller) op (process_node w p).process))
+      (process_node w p).down (told p may.1)))
   stands (Collect caller call p) may =
       still (Collect caller call p)
       (one (Collect caller call p) p _ may.1 refl
-      (answers-down (node_of w p)
-      (treated w.shape (node_of w p) (collect_from caller call (node_of w p).process (range_with_len 0 w.shape.k)))
-      (node_of w p).down (told p may.1)))
+      (answers-down (process_node w p)
+      (treated w.shape (process_node w p) (collect_from caller call (process_node w p).process (range_with_len 0 w.shape.k)))
+      (process_node w p).down (told p may.1)))
   stands (Flush p) may =
       still (Flush p)
       (one (Flush p) p _ may refl
-      (answers-down (node_of w p) (treated w.shape (node_of w p) (flush_process w.shape (node_of w p).process))
-      (node_of w p).down (told p may)))
+      (answers-down (process_node w p) (treated w.shape (process_node w p) (flush_process w.shape (process_node w p).process))
+      (process_node w p).down (told p may)))
   stands (Trace caller call d p) may =
       still (Trace caller call d p)
       (one (Trace caller call d p) p _ may.3 refl
-      (answers-down (node_of w p)
-      (unchanged (fate_of w.shape caller call d.0 (node_of w p).process (head_at (node_of w p).process d.0))
-      (node_of w p)) (node_of w p).down (told p may.3)))
-  stands (Deliver from to) may = still (Deliver from to) (by (node_of w to).down (told to may.1)) where
-    answers : (b : Bool) → b ≡ true → (t : DeliveryStep) → t ≡ delivered b (node_of w to).dead w.shape from to
-        (node_of w from) (node_of w to) (at [] (node_of w from).links (index_of w.shape to))
-        → (t.receiver.answer ≡ says.Down) × (t.receiver.settled ≡ []) × (t.sender ≡ node_of w from) × (t.receiver.node ≡ node_of w to)
+      (answers-down (process_node w p)
+      (unchanged (fate_of w.shape caller call d.0 (process_node w p).process (head_at (process_node w p).process d.0))
+      (process_node w p)) (process_node w p).down (told p may.3)))
+  stands (Deliver from to) may = still (Deliver from to) (by (process_node w to).down (told to may.1)) where
+    answers : (b : Bool) → b ≡ true → (t : DeliveryStep) → t ≡ delivered b (process_node w to).dead w.shape from to
+        (process_node w from) (process_node w to) (at [] (process_node w from).links (index_of w.shape to))
+        → (t.receiver.answer ≡ says.Down) × (t.receiver.settled ≡ []) × (t.sender ≡ process_node w from) × (t.receiver.node ≡ process_node w to)
     answers true is t same = (
       ap (λ (x : DeliveryStep). x.receiver.answer) same,
       ap (λ (x : DeliveryStep). x.receiver.settled) same,
@@ -147,17 +149,17 @@ module _ (w : World) (settled : List (List Update)) (framed : Framed w.shape w.n
 
     by : (b : Bool) → b ≡ true → Nothing (Deliver from to)
     by b is =
-        let got = answers (node_of w to).down (told to may.1) (deliver_nodes w.shape from to (node_of w from) (node_of w to)) refl in record {
+        let got = answers (process_node w to).down (told to may.1) (deliver_nodes w.shape from to (process_node w from) (process_node w to)) refl in record {
           answer = got.0;
           quiet = got.1;
           nodes = (λ i. with_node w.shape to (got.3 i) (with_node w.shape from (got.2 i) w.nodes))
-              ∙ ap (with_node w.shape to (node_of w to)) (node-back w.shape w.nodes from may.0 framed.nodes_many)
+              ∙ ap (with_node w.shape to (process_node w to)) (node-back w.shape w.nodes from may.0 framed.nodes_many)
               ∙ node-back w.shape w.nodes to may.1 framed.nodes_many;
         }
   stands (Fail p keep) may = record {
     down = λ no. absurd (no tt);
-    log = nothing-logged (Fail p keep) (quiet (node_of w p).dead) refl;
-    stays = stays (node_of w p).dead;
+    log = nothing-logged (Fail p keep) (quiet (process_node w p).dead) refl;
+    stays = stays (process_node w p).dead;
   } where
     quiet : (dead : Bool) → (all_change dead w.shape w.nodes p keep).settled ≡ []
     quiet true = refl
@@ -167,7 +169,7 @@ module _ (w : World) (settled : List (List Update)) (framed : Framed w.shape w.n
     stays true = isdown
     stays false =
         let cut : List Node = with_node w.shape p (node_failed w.shape p keep (node_in w.shape w.nodes p)) w.nodes in
-        let same : dead_nodes (nodes_told w.shape.m cut) ≡ dead_nodes cut = ap count_dead (told-lost cut (nat_lt w.shape.m (dead_nodes cut))) in
+        let same : dead_nodes (nodes_told w.shape.m cut) ≡ dead_nodes cut = ap count_dead_words (told-lost cut (nat_lt w.shape.m (dead_nodes cut))) in
         let more : dead_nodes w.nodes ≤ dead_nodes cut = more-dead (opening_node w.shape p) w.nodes (index_of w.shape p)
         (node_failed w.shape p keep (node_in w.shape w.nodes p)) refl in
         let above : w.shape.m < dead_nodes w.nodes = isdown in

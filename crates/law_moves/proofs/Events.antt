@@ -10,7 +10,7 @@ use Rattle.group_types.specs.Names.{IsProcess, index_of, process_at}
 use Rattle.group_types.specs.declared.process.ProcessId.{ProcessId}
 use Rattle.group_types.proofs.Lists.{at-any, at-map, map-indices, map-put}
 use Rattle.group_types.proofs.Names.{index-below, index-process_at, same-cases}
-use Rattle.membership.specs.Members.{count_dead}
+use Rattle.membership.specs.Members.{count_dead_words}
 use Rattle.group_message.specs.declared.message.Message.{Message}
 use Rattle.group_message.specs.declared.message.Message.TheVariants as tells
 use Rattle.group_message.specs.declared.update.Update.{Update}
@@ -23,10 +23,10 @@ use Rattle.group_run.specs.History.{History, prolonged, settled_after, settled_w
 use Rattle.group_run.specs.Process.{Node}
 use Rattle.group_run.specs.Receiving.{receive}
 use Rattle.group_run.specs.World.{NodeStep, DeliveryStep, all_change, treated, unchanged, delivered, if_up}
-use Rattle.group_run.specs.World.{flush_process, link_emptied, node_after, node_failed, node_in, node_of, nodes_told}
+use Rattle.group_run.specs.World.{flush_process, link_emptied, node_after, node_failed, node_in, nodes_told, process_node}
 use Rattle.group_run.specs.World.{dead_nodes, next_name, opening_node, with_down, with_link, with_node}
 use Rattle.law_moves.proofs.Moves.{Moves, Stays, Treated, Received, Failed, Treats, Asks, Collects, Flushes}
-use Rattle.law_moves.specs.State.{IsUp, lost_in, state_from}
+use Rattle.law_moves.specs.State.{IsGroupUp, lost_in, state_from}
 use Rattle.law_moves.proofs.Reading.{node-back, node-here, node-other, size-with_node}
 use Rattle.law_moves.proofs.Settled.{settled-at, settled-many, settled-quiet}
 use Rattle.law_moves.proofs.Steps.{NodeActs, acted, died, node_acts, node_receives, popped}
@@ -40,7 +40,7 @@ pub record Framed (s : Dimensions) (nodes : List Node) (settled : List (List Upd
 -- who of the nodes is dead, told by the state
 pub lost-nodes : (s : Dimensions) (nodes : List Node) (settled : List (List Update)) → length nodes ≡ s.k + s.m
     → lost_in s (state_from s nodes settled) ≡ dead_nodes nodes
-lost-nodes s nodes settled size = ap count_dead (sym words) where
+lost-nodes s nodes settled size = ap count_dead_words (sym words) where
   word : (i : ℕ) → i < length nodes → (at (opening_node s (process_at s 0)) nodes i).dead ≡ (node_in s nodes (process_at s (0 + i))).dead
   word i below =
       let start : 0 + i ≡ i = omega arith in
@@ -54,7 +54,7 @@ lost-nodes s nodes settled size = ap count_dead (sym words) where
 
 module _ (s : Dimensions) (nodes : List Node) (settled : List (List Update)) (framed : Framed s nodes settled) where
   -- a node that isn't told that the group is down is in a group that isn't
-  pub up_from : (p : ProcessId) → IsProcess s p → (node_in s nodes p).down ≡ false → IsUp s (state_from s nodes settled)
+  pub up_from : (p : ProcessId) → IsProcess s p → (node_in s nodes p).down ≡ false → IsGroupUp s (state_from s nodes settled)
   up_from p pin up =
       let told : nat_lt s.m (dead_nodes nodes) ≡ false = sym (framed.down p pin) ∙ up in
       let few : dead_nodes nodes ≤ s.m = grind (arith, common_steps) in
@@ -67,7 +67,7 @@ module _ (s : Dimensions) (nodes : List Node) (settled : List (List Update)) (fr
   framed-one new p node pin dead down many = record {
     nodes_many = size-with_node s nodes p node pin framed.nodes_many;
     settled_many = many ∙ framed.settled_many;
-    down = λ q qin. word q qin (same-cases q p) ∙ framed.down q qin ∙ ap (λ (n : ℕ). nat_lt s.m n) (sym (ap count_dead lost));
+    down = λ q qin. word q qin (same-cases q p) ∙ framed.down q qin ∙ ap (λ (n : ℕ). nat_lt s.m n) (sym (ap count_dead_words lost));
   } where
     lost : map (λ (n : Node). n.dead) (with_node s p node nodes) ≡ map (λ (n : Node). n.dead) nodes
     lost =
@@ -216,7 +216,7 @@ module _ (s : Dimensions) (nodes : List Node) (settled : List (List Update)) (fr
         frame = record {
           nodes_many = length-map cut (with_down down) ∙ size-with_node s nodes p failed pin framed.nodes_many;
           settled_many = framed.settled_many;
-          down = λ q qin. word q qin ∙ ap (λ (n : ℕ). nat_lt s.m n) (sym (ap count_dead (told-lost cut down)));
+          down = λ q qin. word q qin ∙ ap (λ (n : ℕ). nat_lt s.m n) (sym (ap count_dead_words (told-lost cut down)));
         };
         move = Failed p keep pin (died s nodes framed.nodes_many settled p keep pin isdead);
       })
@@ -242,27 +242,32 @@ FramedHistory h = Framed h.world.shape h.world.nodes h.settled
 pub event_comes : (h : History) (e : Event) (framed : FramedHistory h) → MayCome h.world e
     → Comes h.world.shape h.world.nodes h.settled framed (prolonged h e).world.nodes (prolonged h e).settled
 event_comes h (Ask caller op p) framed may =
-    comes_treated h.world.shape h.world.nodes h.settled framed p (ask_process h.world.shape (next_name h.world caller) op (node_of h.world p).process) may.1
-    (node_of h.world p).down (node_of h.world p).dead refl refl (Asks (next_name h.world caller) op may.2)
+    comes_treated h.world.shape h.world.nodes h.settled framed p
+    (ask_process h.world.shape (next_name h.world caller) op (process_node h.world p).process) may.1
+    (process_node h.world p).down (process_node h.world p).dead refl refl (Asks (next_name h.world caller) op may.2)
 event_comes h (Collect caller call p) framed may =
-    comes_treated h.world.shape h.world.nodes h.settled framed p (collect_from caller call (node_of h.world p).process (range_with_len 0 h.world.shape.k)) may.1
-    (node_of h.world p).down (node_of h.world p).dead refl refl (Collects caller call)
+    comes_treated h.world.shape h.world.nodes h.settled framed p
+    (collect_from caller call (process_node h.world p).process (range_with_len 0 h.world.shape.k)) may.1
+    (process_node h.world p).down (process_node h.world p).dead refl refl (Collects caller call)
 event_comes h (Flush p) framed may =
-    comes_treated h.world.shape h.world.nodes h.settled framed p (flush_process h.world.shape (node_of h.world p).process) may
-    (node_of h.world p).down (node_of h.world p).dead refl refl Flushes
+    comes_treated h.world.shape h.world.nodes h.settled framed p (flush_process h.world.shape (process_node h.world p).process) may
+    (process_node h.world p).down (process_node h.world p).dead refl refl Flushes
 event_comes h (Trace caller call d p) framed may =
-    comes_answered h.world.shape h.world.nodes h.settled framed p may.3 (if_up (node_of h.world p).down (node_of h.world p).dead (node_of h.world p) answer)
-    (traced (node_of h.world p).down (node_of h.world p).dead).0 (traced (node_of h.world p).down (node_of h.world p).dead).1
+    comes_answered h.world.shape h.world.nodes h.settled framed p may.3
+    (if_up (process_node h.world p).down (process_node h.world p).dead (process_node h.world p) answer)
+    (traced (process_node h.world p).down (process_node h.world p).dead).0 (traced (process_node h.world p).down (process_node h.world p).dead).1
   where
     answer : NodeStep
-    answer = unchanged (fate_of h.world.shape caller call d.0 (node_of h.world p).process (head_at (node_of h.world p).process d.0)) (node_of h.world p)
+    answer = unchanged (fate_of h.world.shape caller call d.0 (process_node h.world p).process (head_at (process_node h.world p).process d.0))
+        (process_node h.world p)
 
-    traced : (down dead : Bool) → ((if_up down dead (node_of h.world p) answer).node ≡ node_of h.world p)
-        × ((if_up down dead (node_of h.world p) answer).settled ≡ [])
+    traced : (down dead : Bool) → ((if_up down dead (process_node h.world p) answer).node ≡ process_node h.world p)
+        × ((if_up down dead (process_node h.world p) answer).settled ≡ [])
     traced true dead = (refl, refl)
     traced false true = (refl, refl)
     traced false false = (refl, refl)
 event_comes h (Deliver from to) framed may =
-    comes_delivered h.world.shape h.world.nodes h.settled framed from to may.0 may.1 may.2 (node_of h.world to).down (node_of h.world to).dead refl refl
-    (at [] (node_of h.world from).links (index_of h.world.shape to)) refl
-event_comes h (Fail p keep) framed may = comes_failed h.world.shape h.world.nodes h.settled framed p keep may (node_of h.world p).dead refl
+    comes_delivered h.world.shape h.world.nodes h.settled framed from to may.0 may.1 may.2 (process_node h.world to).down
+    (process_node h.world to).dead refl refl
+    (at [] (process_node h.world from).links (index_of h.world.shape to)) refl
+event_comes h (Fail p keep) framed may = comes_failed h.world.shape h.world.nodes h.settled framed p keep may (process_node h.world p).dead refl

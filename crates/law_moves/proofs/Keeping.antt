@@ -24,7 +24,7 @@ use Rattle.group_run.specs.Process.{Head, Process, opening_process, new_head}
 use Rattle.group_run.specs.Receiving.{receive}
 use Rattle.group_run.specs.World.{sent_to}
 use Rattle.law_moves.proofs.Moves.{Acted, Died, Keeps, Popped, Treats}
-use Rattle.law_moves.specs.State.{IsUp, State}
+use Rattle.law_moves.specs.State.{IsGroupUp, State}
 use Rattle.law_moves.proofs.State.{Opens}
 use Rattle.law_moves.proofs.Known.{knows-with_dead}
 use Rattle.law_moves.proofs.Runs.{holds_always}
@@ -426,7 +426,7 @@ module _ (s : Dimensions) (shaped : IsShape s) where
   known-dead v members p q pin qin other lives knows = known-is-dead q (v.dead q) (knows_dead (v.process p).known q)
       (v.link q p) (members.stands q p qin pin other lives) knows
 
-  treats : (v w : State) (p : ProcessId) (t : ProcessStep) → IsProcess s p → IsUp s v → v.dead p ≡ false
+  treats : (v w : State) (p : ProcessId) (t : ProcessStep) → IsProcess s p → IsGroupUp s v → v.dead p ≡ false
       → Treats s (v.process p) t → Members s v → Acted s v w p t → Members s w
   treats v w p t pin up lives treated members acts = changed s Owes v w p t pin lives members (record {
     process = acts.process;
@@ -667,7 +667,7 @@ module _ (s : Dimensions) (shaped : IsShape s) where
         subst (λ (z : ProcessId). Each (MayStand s v z p) (w.link z p)) (sym same)
         (subst (Each (MayStand s v x p)) (sym (link_here v u w x p (tells.Notice dead) t xin pin apart pops acts ∙ facts.3)) tt)
 
-  receives : (v u w : State) (x p : ProcessId) (m : Message) → IsProcess s x → IsProcess s p → x ≢ p → IsUp s v → v.dead p ≡ false → Members s v
+  receives : (v u w : State) (x p : ProcessId) (m : Message) → IsProcess s x → IsProcess s p → x ≢ p → IsGroupUp s v → v.dead p ≡ false → Members s v
       → Popped s v u x p m → Acted s u w p (receive s x m (v.process p)) → Members s w
   receives v u w x p (tells.Notice dead) xin pin apart up lives members pops acts = receives_notice v u w x p dead xin pin apart lives members pops acts
   receives v u w x p (tells.Update r d un stable) xin pin apart up lives members pops acts =

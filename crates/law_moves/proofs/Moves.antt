@@ -5,7 +5,7 @@ use Rattle.group_types.specs.Dimensions.{Dimensions}
 use Rattle.group_types.specs.Names.{IsProcess}
 use Rattle.group_types.specs.declared.process.ProcessId.{ProcessId}
 use Rattle.membership.specs.Members.{knows_dead}
-use Rattle.memc_table.specs.Act.{value_of}
+use Rattle.memc_table.specs.Act.{act_value}
 use Rattle.memc_table.specs.Asked.{Asked}
 use Rattle.group_message.specs.declared.message.Message.{Message}
 use Rattle.group_message.specs.declared.message.Message.TheVariants as tells
@@ -18,7 +18,7 @@ use Rattle.group_run.specs.History.{history_of, no_history, prolonged, settled_w
 use Rattle.group_run.specs.Process.{Process}
 use Rattle.group_run.specs.Receiving.{receive}
 use Rattle.group_run.specs.World.{after, flush_process, sent_to}
-use Rattle.law_moves.specs.State.{State, IsUp, state_of}
+use Rattle.law_moves.specs.State.{IsGroupUp, State, state_of}
 use Rattle.law_moves.proofs.State.{Opens}
 
 -- one process makes a step: what it sends stands behind its links to those that it doesn't know to be dead,
@@ -51,24 +51,24 @@ pub record Died (s : Dimensions) (v w : State) (p : ProcessId) (keep : ℕ) : Ty
 
 -- what a process makes of a call, of a collect, or of being told to tell how far it has settled
 pub data Treats (s : Dimensions) (p : Process) : ProcessStep → Type 0 where
-  Asks : (name : CallName) (op : Asked) → All (λ b. b < 256) (value_of op.act) → Treats s p (ask_process s name op p).step
+  Asks : (name : CallName) (op : Asked) → All (λ b. b < 256) (act_value op.act) → Treats s p (ask_process s name op p).step
   Collects : (caller call : ℕ) → Treats s p (collect_from caller call p (range_with_len 0 s.k)).step
   Flushes : Treats s p (flush_process s p).step
 
 -- a sentence that every move keeps
 pub record Keeps (s : Dimensions) (P : State → Type 0) : Type 0 where
   pub opens : (v : State) → Opens s v → P v
-  pub treats : (v w : State) (p : ProcessId) (t : ProcessStep) → IsProcess s p → IsUp s v → v.dead p ≡ false
+  pub treats : (v w : State) (p : ProcessId) (t : ProcessStep) → IsProcess s p → IsGroupUp s v → v.dead p ≡ false
       → Treats s (v.process p) t → P v → Acted s v w p t → P w
-  pub receives : (v u w : State) (x p : ProcessId) (m : Message) → IsProcess s x → IsProcess s p → x ≢ p → IsUp s v → v.dead p ≡ false
+  pub receives : (v u w : State) (x p : ProcessId) (m : Message) → IsProcess s x → IsProcess s p → x ≢ p → IsGroupUp s v → v.dead p ≡ false
       → P v → Popped s v u x p m → Acted s u w p (receive s x m (v.process p)) → P w
   pub dies : (v w : State) (p : ProcessId) (keep : ℕ) → IsProcess s p → P v → Died s v w p keep → P w
 
 -- an event makes one of the moves, or leaves the state as it is
 pub data Moves (s : Dimensions) (v w : State) : Type 0 where
   Stays : w ≡ v → Moves s v w
-  Treated : (p : ProcessId) (t : ProcessStep) → IsProcess s p → IsUp s v → v.dead p ≡ false → Treats s (v.process p) t → Acted s v w p t → Moves s v w
-  Received : (u : State) (x p : ProcessId) (m : Message) → IsProcess s x → IsProcess s p → x ≢ p → IsUp s v → v.dead p ≡ false
+  Treated : (p : ProcessId) (t : ProcessStep) → IsProcess s p → IsGroupUp s v → v.dead p ≡ false → Treats s (v.process p) t → Acted s v w p t → Moves s v w
+  Received : (u : State) (x p : ProcessId) (m : Message) → IsProcess s x → IsProcess s p → x ≢ p → IsGroupUp s v → v.dead p ≡ false
       → Popped s v u x p m → Acted s u w p (receive s x m (v.process p)) → Moves s v w
   Failed : (p : ProcessId) (keep : ℕ) → IsProcess s p → Died s v w p keep → Moves s v w
 

@@ -10,7 +10,7 @@ use Rattle.group_types.specs.Names.{IsProcess, index_of, process_at}
 use Rattle.group_types.specs.declared.process.ProcessId.{ProcessId}
 use Rattle.group_types.proofs.Lists.{at-replicate}
 use Rattle.group_types.proofs.Names.{process_at-index}
-use Rattle.membership.specs.Members.{count_dead}
+use Rattle.membership.specs.Members.{count_dead_words}
 use Rattle.group_calls.specs.declared.event.Event.{Event}
 use Rattle.group_run.specs.Headline.{IsRunFrom, MayCome}
 use Rattle.group_run.specs.History.{History, history_from, history_of, no_history, prolonged}
@@ -26,7 +26,7 @@ node-opening : (s : Dimensions) (p : ProcessId) → IsProcess s p
     → node_in s (map (λ x. opening_node s (process_at s x)) (range_with_len 0 (s.k + s.m))) p ≡ opening_node s p
 node-opening s p pin = at-indices s (opening_node s p) (λ x. opening_node s (process_at s x)) p pin ∙ ap (opening_node s) (process_at-index s p pin)
 
-none-dead : (s : Dimensions) (xs : List ℕ) → count_dead (map (λ (n : Node). n.dead) (map (λ x. opening_node s (process_at s x)) xs)) ≡ 0
+none-dead : (s : Dimensions) (xs : List ℕ) → count_dead_words (map (λ (n : Node). n.dead) (map (λ x. opening_node s (process_at s x)) xs)) ≡ 0
 none-dead s [] = refl
 none-dead s (x ∷ xs) = let rest = none-dead s xs in omega arith
 

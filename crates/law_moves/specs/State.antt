@@ -6,7 +6,7 @@ use Rattle.group_types.specs.Dimensions.{Dimensions}
 use Rattle.group_types.specs.Lists.{at}
 use Rattle.group_types.specs.Names.{index_of, process_at}
 use Rattle.group_types.specs.declared.process.ProcessId.{ProcessId}
-use Rattle.membership.specs.Members.{count_dead}
+use Rattle.membership.specs.Members.{count_dead_words}
 use Rattle.group_message.specs.declared.message.Message.{Message}
 use Rattle.group_message.specs.declared.update.Update.{Update}
 use Rattle.group_calls.specs.declared.event.Event.{Event}
@@ -37,11 +37,11 @@ state_of h = state_from h.world.shape h.world.nodes h.settled
 
 -- how many processes are dead
 abbrev pub lost_in : Dimensions → State → ℕ
-lost_in s v = count_dead (map (λ x. v.dead (process_at s x)) (range_with_len 0 (s.k + s.m)))
+lost_in s v = count_dead_words (map (λ x. v.dead (process_at s x)) (range_with_len 0 (s.k + s.m)))
 
 -- at most m processes are dead
-abbrev pub IsUp : Dimensions → State → Type 0
-IsUp s v = lost_in s v ≤ s.m
+abbrev pub IsGroupUp : Dimensions → State → Type 0
+IsGroupUp s v = lost_in s v ≤ s.m
 
 -- the sentence holds along every run
 abbrev pub HoldsAlways : Dimensions → (State → Type 0) → Type 0

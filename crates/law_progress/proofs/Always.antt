@@ -17,7 +17,7 @@ use Rattle.group_run.specs.History.{History, history_of, no_history}
 use Rattle.group_run.specs.Process.{Node}
 use Rattle.group_run.specs.Progress.{DeliveryLowers}
 use Rattle.group_run.specs.Receiving.{receive}
-use Rattle.group_run.specs.World.{DeliveryStep, World, delivered, link_emptied, node_after, node_in, node_of, opening}
+use Rattle.group_run.specs.World.{DeliveryStep, World, delivered, link_emptied, node_after, node_in, opening, process_node}
 use Rattle.group_run.specs.World.{sent_to, step, with_link, with_node, world_after}
 use Rattle.law_moves.proofs.Events.{emptied-dead}
 use Rattle.law_moves.specs.State.{state_from, state_of}
@@ -94,14 +94,14 @@ few-from s shaped x (tells.Notice dead) sound = tt
 group-lowers : (h : History) → IsShape h.world.shape → FramedHistory h → LinksSound h.world.shape (state_of h) → DeliveryLowers h.world
 group-lowers h shaped framed sound from to may done =
     let less = delivery-lowers h.world.shape shaped h.world.nodes framed.nodes_many from to may.0 may.1 may.2
-    (node_of h.world to).down (node_of h.world to).dead refl
-    (at [] (node_of h.world from).links (index_of h.world.shape to)) refl few done in
+    (process_node h.world to).down (process_node h.world to).dead refl
+    (at [] (process_node h.world from).links (index_of h.world.shape to)) refl few done in
     let before = load-is h.world in
     let after = load-is (step h.world (Deliver from to)).world in
     omega (arith, less, before, after)
   where
-    few : (m : Message) (rest : List Message) → (node_of h.world to).dead ≡ false
-        → at [] (node_of h.world from).links (index_of h.world.shape to) ≡ m ∷ rest → FewRows m
+    few : (m : Message) (rest : List Message) → (process_node h.world to).dead ≡ false
+        → at [] (process_node h.world from).links (index_of h.world.shape to) ≡ m ∷ rest → FewRows m
     few m rest lives first =
         few-from h.world.shape shaped from m
         (subst (Each (Sound h.world.shape from)) first (sound.links from to may.0 may.1 may.2 lives)).0

@@ -16,7 +16,7 @@ use Rattle.group_run.specs.History.{History, prolonged}
 use Rattle.group_run.specs.Process.{Node}
 use Rattle.group_run.specs.Progress.{IsNoFailure}
 use Rattle.group_run.specs.Receiving.{receive}
-use Rattle.group_run.specs.World.{DeliveryStep, delivered, flush_process, if_up, next_name, node_after, node_in, node_of, treated, unchanged, with_node}
+use Rattle.group_run.specs.World.{DeliveryStep, delivered, flush_process, if_up, next_name, node_after, node_in, process_node, treated, unchanged, with_node}
 use Rattle.std.specs.List.{range_with_len}
 use Rattle.law_moves.specs.State.{state_of}
 use Rattle.law_moves.proofs.Events.{FramedHistory, emptied-dead}
@@ -60,25 +60,26 @@ pub dead-same : (h : History) (e : Event) → FramedHistory h → MayCome h.worl
     → IsProcess h.world.shape q → (state_of (prolonged h e)).dead q ≡ (state_of h).dead q
 dead-same h (Fail p keep) framed may goes q qin = absurd goes
 dead-same h (Ask caller op p) framed may goes q qin = one-dead h.world.shape h.world.nodes p q _ framed.nodes_many may.1 qin
-    (treated-dead h.world.shape (node_of h.world p).down (node_of h.world p).dead (node_of h.world p)
-    (ask_process h.world.shape (next_name h.world caller) op (node_of h.world p).process))
+    (treated-dead h.world.shape (process_node h.world p).down (process_node h.world p).dead (process_node h.world p)
+    (ask_process h.world.shape (next_name h.world caller) op (process_node h.world p).process))
 dead-same h (Collect caller call p) framed may goes q qin = one-dead h.world.shape h.world.nodes p q _ framed.nodes_many may.1 qin
-    (treated-dead h.world.shape (node_of h.world p).down (node_of h.world p).dead (node_of h.world p)
-    (collect_from caller call (node_of h.world p).process (range_with_len 0 h.world.shape.k)))
+    (treated-dead h.world.shape (process_node h.world p).down (process_node h.world p).dead (process_node h.world p)
+    (collect_from caller call (process_node h.world p).process (range_with_len 0 h.world.shape.k)))
 dead-same h (Flush p) framed may goes q qin = one-dead h.world.shape h.world.nodes p q _ framed.nodes_many may qin
-    (treated-dead h.world.shape (node_of h.world p).down (node_of h.world p).dead (node_of h.world p) (flush_process h.world.shape (node_of h.world p).process))
+    (treated-dead h.world.shape (process_node h.world p).down (process_node h.world p).dead (process_node h.world p)
+    (flush_process h.world.shape (process_node h.world p).process))
 dead-same h (Trace caller call d p) framed may goes q qin = one-dead h.world.shape h.world.nodes p q _ framed.nodes_many may.3 qin
-    (unchanged-dead h.world.shape (node_of h.world p).down (node_of h.world p).dead (node_of h.world p)
-    (fate_of h.world.shape caller call d.0 (node_of h.world p).process (head_at (node_of h.world p).process d.0)))
+    (unchanged-dead h.world.shape (process_node h.world p).down (process_node h.world p).dead (process_node h.world p)
+    (fate_of h.world.shape caller call d.0 (process_node h.world p).process (head_at (process_node h.world p).process d.0)))
 dead-same h (Deliver from to) framed may goes q qin = by
-    (delivered (node_of h.world to).down (node_of h.world to).dead h.world.shape from to (node_of h.world from)
-    (node_of h.world to) (at [] (node_of h.world from).links (index_of h.world.shape to)))
-    (sender-dead h.world.shape (node_of h.world to).down (node_of h.world to).dead from to (node_of h.world from)
-    (node_of h.world to) (at [] (node_of h.world from).links (index_of h.world.shape to)))
-    (receiver-dead h.world.shape (node_of h.world to).down (node_of h.world to).dead from to (node_of h.world from)
-    (node_of h.world to) (at [] (node_of h.world from).links (index_of h.world.shape to)))
+    (delivered (process_node h.world to).down (process_node h.world to).dead h.world.shape from to (process_node h.world from)
+    (process_node h.world to) (at [] (process_node h.world from).links (index_of h.world.shape to)))
+    (sender-dead h.world.shape (process_node h.world to).down (process_node h.world to).dead from to (process_node h.world from)
+    (process_node h.world to) (at [] (process_node h.world from).links (index_of h.world.shape to)))
+    (receiver-dead h.world.shape (process_node h.world to).down (process_node h.world to).dead from to (process_node h.world from)
+    (process_node h.world to) (at [] (process_node h.world from).links (index_of h.world.shape to)))
   where
-    by : (t : DeliveryStep) → t.sender.dead ≡ (node_of h.world from).dead → t.receiver.node.dead ≡ (node_of h.world to).dead
+    by : (t : DeliveryStep) → t.sender.dead ≡ (process_node h.world from).dead → t.receiver.node.dead ≡ (process_node h.world to).dead
         → (node_in h.world.shape
         (with_node h.world.shape to t.receiver.node (with_node h.world.shape from t.sender h.world.nodes)) q).dead
         ≡ (node_in h.world.shape h.world.nodes q).dead

@@ -7,7 +7,7 @@ use Rattle.group_types.specs.Names.{IsProcess, index_of}
 use Rattle.group_types.specs.declared.process.ProcessId.{ProcessId}
 use Rattle.group_types.proofs.Lists.{map-put}
 use Rattle.group_types.proofs.Names.{index-below, same-cases}
-use Rattle.membership.specs.Members.{count_dead}
+use Rattle.membership.specs.Members.{count_dead_words}
 use Rattle.group_message.specs.declared.message.Message.{Message}
 use Rattle.group_calls.specs.declared.event.Answer.TheVariants as says
 use Rattle.group_calls.specs.declared.event.Event.{Event}
@@ -20,7 +20,7 @@ use Rattle.group_run.specs.Process.{Node}
 use Rattle.group_run.specs.Progress.{DeliveryLowers, load_of}
 use Rattle.group_run.specs.Receiving.{receive}
 use Rattle.group_run.specs.World.{DeliveryStep, World, after, dead_nodes, deliver_nodes, delivered, node_after, node_in}
-use Rattle.group_run.specs.World.{node_of, opening, opening_node, step, with_node, world_after}
+use Rattle.group_run.specs.World.{opening, opening_node, process_node, step, with_node, world_after}
 use Rattle.law_moves.proofs.Events.{emptied-dead}
 use Rattle.law_moves.proofs.Downs.{words_always}
 use Rattle.law_moves.proofs.Reading.{node-other, size-with_node}
@@ -53,10 +53,10 @@ pub message-comes : (w : World) → NodesKnowDown w → ¬ (IsDown w)
     → (from to : ProcessId) (m : Message) (rest : List Message) → Lives w to → link w from to ≡ m ∷ rest
     → (step w (Deliver from to)).turn.answer ≡ says.Done
 message-comes w words up from to m rest lives first =
-    ap (λ (b : Bool). (delivered b (node_of w to).dead w.shape from to (node_of w from) (node_of w to)
+    ap (λ (b : Bool). (delivered b (process_node w to).dead w.shape from to (process_node w from) (process_node w to)
     (link w from to)).receiver.answer) (words to lives.0 ∙ not_above)
-    ∙ ap (λ (b : Bool). (delivered false b w.shape from to (node_of w from) (node_of w to) (link w from to)).receiver.answer) lives.1
-    ∙ ap (λ (ms : List Message). (delivered false false w.shape from to (node_of w from) (node_of w to) ms).receiver.answer) first
+    ∙ ap (λ (b : Bool). (delivered false b w.shape from to (process_node w from) (process_node w to) (link w from to)).receiver.answer) lives.1
+    ∙ ap (λ (ms : List Message). (delivered false false w.shape from to (process_node w from) (process_node w to) ms).receiver.answer) first
   where
     few : dead_nodes w.nodes ≤ w.shape.m
     few = by (nat_lt w.shape.m (dead_nodes w.nodes)) refl where
@@ -127,7 +127,7 @@ deliveries_are_left s es run up = drained-or-delivers (after s es) (words_always
 module _ (s : Dimensions) (nodes : List Node) (size : length nodes ≡ s.k + s.m) where
   put-dead : (p : ProcessId) (node : Node) → IsProcess s p → node.dead ≡ (node_in s nodes p).dead → dead_nodes (with_node s p node nodes) ≡ dead_nodes nodes
   put-dead p node pin same =
-      ap count_dead (map-put (λ (n : Node). n.dead) (opening_node s p) (opening_node s p) nodes (index_of s p) node
+      ap count_dead_words (map-put (λ (n : Node). n.dead) (opening_node s p) (opening_node s p) nodes (index_of s p) node
       (let low = index-below s p pin in omega (arith, low, size)) same)
 
 two-dead : (s : Dimensions) (nodes : List Node) → length nodes ≡ s.k + s.m → (x p : ProcessId) → IsProcess s x → IsProcess s p → x ≢ p → (b : DeliveryStep)
@@ -149,8 +149,8 @@ words-stay s x p sender receiver false false (m ∷ rest) = (refl, emptied-dead 
 pub still-up : (w : World) → length w.nodes ≡ w.shape.k + w.shape.m → (from to : ProcessId)
     → MayCome w (Deliver from to) → ¬ (IsDown w) → ¬ (IsDown (step w (Deliver from to)).world)
 still-up w size from to may up down =
-    let same = two-dead w.shape w.nodes size from to may.0 may.1 may.2 (deliver_nodes w.shape from to (node_of w from) (node_of w to))
-    (words-stay w.shape from to (node_of w from) (node_of w to) (node_of w to).down (node_of w to).dead (link w from to)) in
+    let same = two-dead w.shape w.nodes size from to may.0 may.1 may.2 (deliver_nodes w.shape from to (process_node w from) (process_node w to))
+    (words-stay w.shape from to (process_node w from) (process_node w to) (process_node w to).down (process_node w to).dead (link w from to)) in
     let above : w.shape.m < dead_nodes (step w (Deliver from to)).world.nodes = down in
     up (omega (arith, same, above))
 

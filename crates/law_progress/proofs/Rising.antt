@@ -22,7 +22,7 @@ use Rattle.group_run.specs.History.{no_history}
 use Rattle.group_run.specs.Process.{Node}
 use Rattle.group_run.specs.Progress.{weight_of}
 use Rattle.group_run.specs.World.{DeliveryStep, World, after, all_change, delivered, flush_process, group_step, if_up, next_name}
-use Rattle.group_run.specs.World.{node_after, node_failed, node_in, node_of, nodes_told, sent_to, step, treated, unchanged, with_node}
+use Rattle.group_run.specs.World.{node_after, node_failed, node_in, nodes_told, process_node, sent_to, step, treated, unchanged, with_node}
 use Rattle.law_moves.proofs.Moves.{Died}
 use Rattle.law_moves.specs.State.{State, state_from}
 use Rattle.law_moves.proofs.Reading.{node-back}
@@ -157,22 +157,23 @@ module _ (w : World) (shaped : IsShape w.shape) (ready : Ready w) where
   nodes-rise : (e : Event) → MayCome w e → way_of w.shape (state_from w.shape (group_step w e).nodes [])
       ≤ way_of w.shape (state_from w.shape w.nodes []) + most_rise
   nodes-rise (Ask caller op p) may =
-      treated-rises w.shape shaped w.nodes ready.many p (ask_process w.shape (next_name w caller) op (node_of w p).process) may.1
-      ((sends_few w.shape (node_of w p).process shaped).asked (next_name w caller) op) (node_of w p).down (node_of w p).dead
+      treated-rises w.shape shaped w.nodes ready.many p (ask_process w.shape (next_name w caller) op (process_node w p).process) may.1
+      ((sends_few w.shape (process_node w p).process shaped).asked (next_name w caller) op) (process_node w p).down (process_node w p).dead
   nodes-rise (Collect caller call p) may =
-      treated-rises w.shape shaped w.nodes ready.many p (collect_from caller call (node_of w p).process (range_with_len 0 w.shape.k)) may.1
-      (subst (FewForEach w.shape) (sym ((sends_few w.shape (node_of w p).process shaped).collected caller call))
-      (λ q. omega arith)) (node_of w p).down (node_of w p).dead
+      treated-rises w.shape shaped w.nodes ready.many p (collect_from caller call (process_node w p).process (range_with_len 0 w.shape.k)) may.1
+      (subst (FewForEach w.shape) (sym ((sends_few w.shape (process_node w p).process shaped).collected caller call))
+      (λ q. omega arith)) (process_node w p).down (process_node w p).dead
   nodes-rise (Flush p) may =
-      treated-rises w.shape shaped w.nodes ready.many p (flush_process w.shape (node_of w p).process) may
-      (sends_few w.shape (node_of w p).process shaped).flushed (node_of w p).down (node_of w p).dead
+      treated-rises w.shape shaped w.nodes ready.many p (flush_process w.shape (process_node w p).process) may
+      (sends_few w.shape (process_node w p).process shaped).flushed (process_node w p).down (process_node w p).dead
   nodes-rise (Trace caller call d p) may =
-      answered-rises w.shape shaped w.nodes ready.many p (fate_of w.shape caller call d.0 (node_of w p).process (head_at (node_of w p).process d.0)) may.3
-      (node_of w p).down (node_of w p).dead
-  nodes-rise (Fail p keep) may = dying-rises w.shape shaped w.nodes ready.many p keep may (node_of w p).dead refl
+      answered-rises w.shape shaped w.nodes ready.many p
+      (fate_of w.shape caller call d.0 (process_node w p).process (head_at (process_node w p).process d.0)) may.3
+      (process_node w p).down (process_node w p).dead
+  nodes-rise (Fail p keep) may = dying-rises w.shape shaped w.nodes ready.many p keep may (process_node w p).dead refl
   nodes-rise (Deliver from to) may =
-      delivery-rises w.shape shaped w.nodes ready.many from to may.0 may.1 (node_of w to).down (node_of w to).dead
-      (at [] (node_of w from).links (index_of w.shape to)) lowers
+      delivery-rises w.shape shaped w.nodes ready.many from to may.0 may.1 (process_node w to).down (process_node w to).dead
+      (at [] (process_node w from).links (index_of w.shape to)) lowers
     where
       lowers : (step w (Deliver from to)).turn.answer ≡ says.Done
           → way_of w.shape (state_from w.shape (group_step w (Deliver from to)).nodes []) < way_of w.shape (state_from w.shape w.nodes [])

@@ -31,7 +31,7 @@ use Rattle.group_run.specs.Meaning.{IsDown, IsDrained}
 use Rattle.group_run.specs.Process.{Gathering, Head, Process}
 use Rattle.group_run.specs.Progress.{IsNoFailure, IsQuiet}
 use Rattle.group_run.specs.Receiving.{receive}
-use Rattle.group_run.specs.World.{World, after, if_up, next_name, node_of, step, treated}
+use Rattle.group_run.specs.World.{World, after, if_up, next_name, process_node, step, treated}
 use Rattle.law_moves.proofs.Moves.{Acted, Failed, Moves, Received, Stays, Treated}
 use Rattle.law_moves.specs.State.{State, state_of}
 use Rattle.law_moves.proofs.Events.{FramedHistory}
@@ -245,7 +245,7 @@ module _ (s : Dimensions) (es : List Event) (run : IsRun s es) where
         × (decide (space_of here.world.shape) h.inherited (replica_of ((state_of here).process p) home) op
         (found_at here.world.shape home ((state_of here).process p) ((state_of here).process p).name)
         ≡ decides.NeedBlock b)
-    decided = by (node_of here.world p).down (node_of here.world p).dead waits where
+    decided = by (process_node here.world p).down (process_node here.world p).dead waits where
       headed : (o : Option Head) → head_at ((state_of here).process p) home ≡ o
           → (ask_head here.world.shape (next_name here.world caller) op home ((state_of here).process p) o).answer ≡ says.Retry (cause.Block b)
           → (h : Head) × (head_at ((state_of here).process p) home ≡ Some h)
@@ -256,9 +256,9 @@ module _ (s : Dimensions) (es : List Event) (run : IsRun s es) where
       headed (Some h) heads is = (h, heads, act-block here.world.shape (next_name here.world caller) op home h ((state_of here).process p) b _ is)
 
       by : (down dead : Bool)
-          → (if_up down dead (node_of here.world p)
-          (treated here.world.shape (node_of here.world p)
-          (ask_process here.world.shape (next_name here.world caller) op (node_of here.world p).process))).answer
+          → (if_up down dead (process_node here.world p)
+          (treated here.world.shape (process_node here.world p)
+          (ask_process here.world.shape (next_name here.world caller) op (process_node here.world p).process))).answer
           ≡ says.Retry (cause.Block b)
           → (h : Head) × (head_at ((state_of here).process p) home ≡ Some h)
           × (decide (space_of here.world.shape) h.inherited (replica_of ((state_of here).process p) home) op

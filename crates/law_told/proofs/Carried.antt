@@ -20,7 +20,7 @@ use Rattle.law_log.proofs.Calls.{each-contained}
 use Rattle.law_log.proofs.Tables.{home-below}
 use Rattle.law_moves.proofs.Reading.{some-same}
 use Rattle.group_eras.specs.Eras.{Eras}
-use Rattle.group_eras.specs.Items.{Load, bytes_in, load_from, loads, loads_in, loads_of, settled_items}
+use Rattle.group_eras.specs.Items.{Load, bytes_in_partition, load_of_slot, loads, loads_in, loads_of, settled_items}
 use Rattle.group_eras.specs.Promise.{table_over}
 use Rattle.group_eras.specs.Refusal.{IsAtRest, IsFirstTooLong}
 use Rattle.group_eras.proofs.Carrying as carrying
@@ -35,7 +35,7 @@ use Rattle.group_eras.proofs.Readings.{IsLoad, are-loads, some-loads}
 use Rattle.group_eras.proofs.Resting.{Rests, table_after_run}
 use Rattle.group_eras.proofs.Shifts.{Alike, Gone, shift, shifted}
 use Rattle.group_eras.proofs.Standing.{NoKey, Stands, own_table}
-use Rattle.law_told.specs.Eras.{AreLiving, AreLivingIn, CarriesAreCounted, HasBytes, NoSpaceIsFirst, bytes_held}
+use Rattle.law_told.specs.Eras.{AreLiving, AreLivingIn, CarriesAreCounted, HasValueBytes, NoSpaceIsFirst, bytes_held}
 
 two-left : {X : Type 0} (R : X → X → Type 0) (xs ys : List X) → EachTwo R (xs ++ ys) → EachTwo R xs
 two-left R [] ys two = tt
@@ -158,7 +158,7 @@ module _ (e : Eras) (stands : Stands e) (rest : IsAtRest e.world) where
       let own : Own key h = to-own key h there live in
       let item = finding.in-items s es rests d (home-below key s.k some) key own.old refl (ap (λ (t : Contents). t.items key) (sym own-is) ∙ own.there) in
       let lives : is_live 0 item.0.until ≡ true = ap (λ (y : Holding). is_live 0 y.until) (sym item.2) ∙ ap (is_live 0) own.until ∙ live in
-      contains-map (λ x. x.key) (loads_in w d) (load_from d (key, item.0)) (live-load d (settled_items w d) (key, item.0) item.1 lives)
+      contains-map (λ x. x.key) (loads_in w d) (load_of_slot d (key, item.0)) (live-load d (settled_items w d) (key, item.0) item.1 lives)
 
   shape-is : w.shape ≡ s
   shape-is = shape-after (opening s) es
@@ -216,14 +216,14 @@ module _ (e : Eras) (stands : Stands e) (rest : IsAtRest e.world) where
       let right = sum_by-cons (λ (y : Load). y.slot.len) x xs in
       omega (arith, rest, one, left, right)
 
-  bytes-are : (d : ℕ) → d < s.k → HasBytes e d (bytes_in w d)
+  bytes-are : (d : ℕ) → d < s.k → HasValueBytes e d (bytes_in_partition w d)
   bytes-are d below = (keys_of (loads_in w d), living-in d below, sums (loads_in w d) (held-in d below))
 
   pub many-living : (keys : List (List ℕ)) × AreLiving (table_over e) keys × (length (loads e.world) ≡ length keys)
   many-living = (keys_of (loads w), living, ap (λ (v : World). length (loads v)) stands.era.stands ∙ sym (length-map (loads w) (λ (x : Load). x.key)))
 
-  pub has-bytes : (d : ℕ) → d < e.world.shape.k → HasBytes e d (bytes_in e.world d)
-  has-bytes d below = subst (λ (n : ℕ). HasBytes e d n) (ap (λ (v : World). bytes_in v d) (sym stands.era.stands)) (bytes-are d below)
+  pub has-bytes : (d : ℕ) → d < e.world.shape.k → HasValueBytes e d (bytes_in_partition e.world d)
+  has-bytes d below = subst (λ (n : ℕ). HasValueBytes e d n) (ap (λ (v : World). bytes_in_partition v d) (sym stands.era.stands)) (bytes-are d below)
 
 pub carries_are_counted : CarriesAreCounted
 carries_are_counted e led rest = many-living e (led-stands e led) rest
@@ -231,11 +231,11 @@ carries_are_counted e led rest = many-living e (led-stands e led) rest
 pub no_space_is_first : NoSpaceIsFirst
 no_space_is_first e s d led refused = record {
   partition = first.partition;
-  long = (bytes_in e.world d.0, has-bytes e stands refused.0 d.0 first.partition, first.long);
+  long = (bytes_in_partition e.world d.0, has-bytes e stands refused.0 d.0 first.partition, first.long);
   lower = λ f below.
       let fits = first.lowest f below in
       let inside = first.partition in
-      (bytes_in e.world f, has-bytes e stands refused.0 f (omega (arith, below, inside)), low f (first.lowest f below));
+      (bytes_in_partition e.world f, has-bytes e stands refused.0 f (omega (arith, below, inside)), low f (first.lowest f below));
 } where
   stands : Stands e
   stands = led-stands e led
@@ -243,8 +243,8 @@ no_space_is_first e s d led refused = record {
   first : IsFirstTooLong e.world s d.0
   first = refused.1
 
-  low : (f : ℕ) → ¬ (space_of s < bytes_in e.world f) → bytes_in e.world f ≤ space_of s
-  low f not = by (cases_lt (space_of s) (bytes_in e.world f)) where
-    by : (space_of s < bytes_in e.world f) ⊎ (bytes_in e.world f ≤ space_of s) → bytes_in e.world f ≤ space_of s
+  low : (f : ℕ) → ¬ (space_of s < bytes_in_partition e.world f) → bytes_in_partition e.world f ≤ space_of s
+  low f not = by (cases_lt (space_of s) (bytes_in_partition e.world f)) where
+    by : (space_of s < bytes_in_partition e.world f) ⊎ (bytes_in_partition e.world f ≤ space_of s) → bytes_in_partition e.world f ≤ space_of s
     by (inl long) = absurd (not long)
     by (inr fits) = fits

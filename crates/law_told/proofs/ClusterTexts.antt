@@ -11,13 +11,13 @@ use Rattle.group_calls.specs.declared.event.Event.TheVariants as happens
 use Rattle.group_run.specs.Meaning.{is_dead}
 use Rattle.group_run.specs.Shown.{held, is_down, stamp_of}
 use Rattle.group_run.specs.World.{World}
-use Rattle.scenario_text.specs.Meaning.{line_of}
+use Rattle.scenario_text.specs.Meaning.{line_meaning}
 use Rattle.scenario_text.specs.Texts.{shown_text}
-use Rattle.scenario_text.specs.Words.{words_of}
+use Rattle.scenario_text.specs.Words.{split_words}
 use Rattle.scenario_text.specs.declared.line.Line.{Line}
 use Rattle.scenario_text.specs.declared.line.Line.TheVariants.{Skipped, Group, Ask, Collect, Deliver, Fail, Flush, Trace, Drain, Show, Places, Time, Stop}
 use Rattle.scenario_text.specs.declared.line.LineFault.{LineFault}
-use Rattle.scenario_run.specs.Course.{Ends, Goes, Refused, fault_in, named_in, text_in, turns_in}
+use Rattle.scenario_run.specs.Course.{Ends, Goes, Refused, fault_in, named_in, text_in, turns_of_lines}
 use Rattle.scenario_run.specs.Lines.{lines_of}
 use Rattle.scenario_run.specs.Playing.{look}
 use Rattle.scenario_run.proofs.Following.{fault_after, named-line, text_after, turns_after}
@@ -30,15 +30,15 @@ use Rattle.group_layout.proofs.Moves.{log-moved}
 use Rattle.group_cluster.specs.Plan.{IsPlan, Plan}
 use Rattle.cluster_run.specs.Meaning.{failure_line, in_group}
 use Rattle.cluster_run.specs.Playing.{ClusterNext, ClusterPlay, ClusterTurn, all_deliveries, by_drain, by_event}
-use Rattle.cluster_run.specs.Playing.{by_line, by_trace, by_words, group_in, log_of, next_of, opening_of, then_by}
+use Rattle.cluster_run.specs.Playing.{by_line, by_trace, by_words, cluster_log_of, group_world, next_of, opening_of, then_by}
 use Rattle.cluster_run.specs.Playing.{then_in, turns_from}
 use Rattle.cluster_run.specs.Script.{plan_in}
 use Rattle.cluster_run.specs.Texts.{cluster_answer_text, cluster_entries_text, cluster_entry_text}
 use Rattle.cluster_run.specs.declared.fault.ClusterFault.TheVariants.{BadLine}
 use Rattle.cluster_run.proofs.Leading.{after-append, led-even, led-nodes, opened}
 use Rattle.cluster_run.proofs.Running.{Opens, line-opens, never-ends}
-use Rattle.law_told.specs.ClusterTexts.{ClusterLineTells, ClusterLinesTell, ClusterTranscriptsTell, answer_line, events_in}
-use Rattle.law_told.specs.Lines.{Tells, is_log_line, text_of}
+use Rattle.law_told.specs.ClusterTexts.{ClusterLineTells, ClusterLinesTell, ClusterTranscriptsTell, answer_line, cluster_events_in}
+use Rattle.law_told.specs.Lines.{TellsLines, is_log_line, text_of}
 use Rattle.law_told.proofs.Lines as lines
 use Rattle.law_told.proofs.Lines.{answer-other, tells-append, tells-none, tells-said}
 
@@ -74,15 +74,15 @@ answer-is AlreadyDead = refl
 
 -- a line that is said, and entries behind it or in front of it
 said-first : (line : List ℕ) (es : List ClusterEntry) → is_log_line line ≡ false
-    → Tells cluster_entry_text (line ++ 10 ∷ cluster_entries_text es) es (line ∷ [])
+    → TellsLines cluster_entry_text (line ++ 10 ∷ cluster_entries_text es) es (line ∷ [])
 said-first line es other =
-    subst (λ (t : List ℕ). Tells cluster_entry_text (line ++ 10 ∷ t) es (line ∷ [])) (sym (entries-lines es))
+    subst (λ (t : List ℕ). TellsLines cluster_entry_text (line ++ 10 ∷ t) es (line ∷ [])) (sym (entries-lines es))
     (lines.said-first cluster_entry_text entry-marked line es other)
 
 said-last : (line : List ℕ) (es : List ClusterEntry) → is_log_line line ≡ false
-    → Tells cluster_entry_text (cluster_entries_text es ++ (line ++ 10 ∷ [])) es (line ∷ [])
+    → TellsLines cluster_entry_text (cluster_entries_text es ++ (line ++ 10 ∷ [])) es (line ∷ [])
 said-last line es other =
-    subst (λ (t : List ℕ). Tells cluster_entry_text (t ++ (line ++ 10 ∷ [])) es (line ∷ [])) (sym (entries-lines es))
+    subst (λ (t : List ℕ). TellsLines cluster_entry_text (t ++ (line ++ 10 ∷ [])) es (line ∷ [])) (sym (entries-lines es))
     (lines.said-last cluster_entry_text entry-marked line es other)
 
 -- ---- the log
@@ -90,14 +90,14 @@ said-last line es other =
 step-logs : (c : Cluster) (e : ClusterEvent) → (cluster_step c e).cluster.groups.log ≡ c.groups.log ++ logged_in (cluster_step c e).turns
 step-logs c e = log-moved c.groups (moves_of c e)
 
-events-log : (c : Cluster) (es : List ClusterEvent) → (cluster_after c es).groups.log ≡ c.groups.log ++ log_of (turns_from c es)
+events-log : (c : Cluster) (es : List ClusterEvent) → (cluster_after c es).groups.log ≡ c.groups.log ++ cluster_log_of (turns_from c es)
 events-log c [] = sym (append-nil c.groups.log)
 events-log c (e ∷ es) =
     events-log (cluster_step c e).cluster es
-    ∙ ap (λ (log : List ClusterEntry). log ++ log_of (turns_from (cluster_step c e).cluster es)) (step-logs c e)
-    ∙ append_assoc c.groups.log (logged_in (cluster_step c e).turns) (log_of (turns_from (cluster_step c e).cluster es))
+    ∙ ap (λ (log : List ClusterEntry). log ++ cluster_log_of (turns_from (cluster_step c e).cluster es)) (step-logs c e)
+    ∙ append_assoc c.groups.log (logged_in (cluster_step c e).turns) (cluster_log_of (turns_from (cluster_step c e).cluster es))
 
-events-are : (c : Cluster) (es : List ClusterEvent) → events_in (turns_from c es) ≡ es
+events-are : (c : Cluster) (es : List ClusterEvent) → cluster_events_in (turns_from c es) ≡ es
 events-are c [] = refl
 events-are c (e ∷ es) = ap (λ (xs : List ClusterEvent). e ∷ xs) (events-are (cluster_step c e).cluster es)
 
@@ -106,7 +106,7 @@ record Comes (p : ClusterPlay) (line : List ℕ) (next : Option ClusterPlay) (tu
   pub tells : ClusterLineTells p line turns text
   pub play : ClusterPlay
   pub is : next ≡ Some play
-  pub to : play.cluster ≡ cluster_after p.cluster (events_in turns)
+  pub to : play.cluster ≡ cluster_after p.cluster (cluster_events_in turns)
 
 abbrev ComesTo : ClusterPlay → List ℕ → ClusterNext → Type 0
 ComesTo p line (Goes next turns text) = Comes p line next turns text
@@ -140,7 +140,7 @@ event-comes p line e =
         is_said = inr (inl (record { event = e; only = refl; answer = refl }));
         logged = logged;
         grows = step-logs p.cluster e;
-        tells = subst (λ (t : List ℕ). Tells cluster_entry_text (t ++ 10 ∷ cluster_entries_text logged) logged
+        tells = subst (λ (t : List ℕ). TellsLines cluster_entry_text (t ++ 10 ∷ cluster_entries_text logged) logged
             (answer_line answer ∷ [])) (sym (answer-is answer))
             (said-first (answer_line answer) logged (said-other answer));
       };
@@ -150,12 +150,12 @@ event-comes p line e =
     }
 
 trace-comes : (p : ClusterPlay) (line : List ℕ) (j caller call : ℕ) (e : Event) → ComesTo p line (by_trace p j caller call e)
-trace-comes p line j caller call e = by (nat_lt call (at 0 (group_in p j).asked caller)) where
+trace-comes p line j caller call e = by (nat_lt call (at 0 (group_world p j).asked caller)) where
   by : (b : Bool) → ComesTo p line (if b then by_event p (InGroup j e) else Refused BadLine)
   by true = event-comes p line (InGroup j e)
   by false = tt
 
-drain-comes : (p : ClusterPlay) (line : List ℕ) (es : List ClusterEvent) → line_of (Some p.cluster.groups.shape) line
+drain-comes : (p : ClusterPlay) (line : List ℕ) (es : List ClusterEvent) → line_meaning (Some p.cluster.groups.shape) line
     ≡ Ok Drain → ComesTo p line (by_drain p es)
 drain-comes p line es reads =
     let turns : List ClusterTurn = turns_from p.cluster es in
@@ -165,10 +165,10 @@ drain-comes p line es reads =
       tells = record {
         said = wrote ∷ [];
         is_said = inr (inr (record { drains = reads; many = refl }));
-        logged = log_of turns;
+        logged = cluster_log_of turns;
         grows = ap (λ (c : Cluster). c.groups.log) same ∙ events-log p.cluster es;
-        tells = subst (λ (t : List ℕ). Tells cluster_entry_text (cluster_entries_text (log_of turns) ++ t) (log_of turns) (wrote ∷ []))
-            (append_assoc (codes "drained ") (decimal (length turns)) (codes "\n")) (said-last wrote (log_of turns) refl);
+        tells = subst (λ (t : List ℕ). TellsLines cluster_entry_text (cluster_entries_text (cluster_log_of turns) ++ t) (cluster_log_of turns) (wrote ∷ []))
+            (append_assoc (codes "drained ") (decimal (length turns)) (codes "\n")) (said-last wrote (cluster_log_of turns) refl);
       };
       play = record { cluster = cluster_after p.cluster es; moment = p.moment };
       is = refl;
@@ -184,8 +184,8 @@ in-comes p line j (Collect caller call from) = event-comes p line (InGroup j (ha
 in-comes p line j (Deliver from to) = event-comes p line (InGroup j (happens.Deliver from to))
 in-comes p line j (Flush from) = event-comes p line (InGroup j (happens.Flush from))
 in-comes p line j (Trace caller call partition from) = trace-comes p line j caller call (happens.Trace caller call partition from)
-in-comes p line j (Show from run) = show-comes p line (look (group_in p j) from (held (group_in p j) from run))
-    (look-other (group_in p j) from (held (group_in p j) from run))
+in-comes p line j (Show from run) = show-comes p line (look (group_world p j) from (held (group_world p j) from run))
+    (look-other (group_world p j) from (held (group_world p j) from run))
 in-comes p line j Skipped = tt
 in-comes p line j (Group shape) = tt
 in-comes p line j (Fail from keep) = tt
@@ -194,7 +194,7 @@ in-comes p line j Places = tt
 in-comes p line j (Time moment) = tt
 in-comes p line j Stop = tt
 
-then-comes : (p : ClusterPlay) (line : List ℕ) (l : Line) → line_of (Some p.cluster.groups.shape) line ≡ Ok l → ComesTo p line (then_by p l)
+then-comes : (p : ClusterPlay) (line : List ℕ) (l : Line) → line_meaning (Some p.cluster.groups.shape) line ≡ Ok l → ComesTo p line (then_by p l)
 then-comes p line Skipped reads = idle p p line [] refl tt
 then-comes p line Drain reads = drain-comes p line (all_deliveries p.cluster) reads
 then-comes p line (Time moment) reads = idle p (record { cluster = p.cluster; moment = moment }) line [] refl tt
@@ -213,17 +213,17 @@ inside : (p : ClusterPlay) (line : List ℕ) (j : ℕ) (l : Result Line LineFaul
 inside p line j (Err fault) = tt
 inside p line j (Ok l) = in-comes p line j l
 
-outside : (p : ClusterPlay) (line : List ℕ) (l : Result Line LineFault) → line_of (Some p.cluster.groups.shape) line ≡ l
+outside : (p : ClusterPlay) (line : List ℕ) (l : Result Line LineFault) → line_meaning (Some p.cluster.groups.shape) line ≡ l
     → ComesTo p line (by_line (then_by p) l)
 outside p line (Err fault) reads = tt
 outside p line (Ok l) reads = then-comes p line l reads
 
 comes : (p : ClusterPlay) (line : List ℕ) → ComesTo p line (next_of (Some p) line)
-comes p line = by (in_group (length p.cluster.groups.worlds) line) (failure_line (length p.cluster.failed) (words_of line)) where
+comes p line = by (in_group (length p.cluster.groups.worlds) line) (failure_line (length p.cluster.failed) (split_words line)) where
   by : (named : Option (ℕ × List ℕ)) (failure : Option ClusterEvent) → ComesTo p line (by_words p line named failure)
-  by (Some named) failure = inside p line named.0 (line_of (Some p.cluster.groups.shape) named.1)
+  by (Some named) failure = inside p line named.0 (line_meaning (Some p.cluster.groups.shape) named.1)
   by None (Some failure) = event-comes p line failure
-  by None None = outside p line (line_of (Some p.cluster.groups.shape) line) refl
+  by None None = outside p line (line_meaning (Some p.cluster.groups.shape) line) refl
 
 pub cluster_lines_tell : ClusterLinesTell
 cluster_lines_tell p line next turns text is = let come : Comes p line next turns text = subst (ComesTo p line) is (comes p line) in come.tells
@@ -234,35 +234,37 @@ cluster_lines_tell p line next turns text is = let come : Comes p line next turn
 record Whole (c : Cluster) (turns : List ClusterTurn) (text : List ℕ) : Type 0 where
   pub said : List (List ℕ)
   pub logged : List ClusterEntry
-  pub grows : (cluster_after c (events_in turns)).groups.log ≡ c.groups.log ++ logged
-  pub tells : Tells cluster_entry_text text logged said
+  pub grows : (cluster_after c (cluster_events_in turns)).groups.log ≡ c.groups.log ++ logged
+  pub tells : TellsLines cluster_entry_text text logged said
 
 nothing : (c : Cluster) → Whole c [] []
 nothing c = record { said = []; logged = []; grows = sym (append-nil c.groups.log); tells = tells-none cluster_entry_text }
 
 -- events of turns, one after the other
-events-append : (ts us : List ClusterTurn) → events_in (ts ++ us) ≡ events_in ts ++ events_in us
+events-append : (ts us : List ClusterTurn) → cluster_events_in (ts ++ us) ≡ cluster_events_in ts ++ cluster_events_in us
 events-append [] us = refl
 events-append (t ∷ ts) us = ap (λ (es : List ClusterEvent). t.event ∷ es) (events-append ts us)
 
-whole : (p : ClusterPlay) (lines : List (List ℕ)) → Whole p.cluster (turns_in next_of (Some p) lines) (text_in next_of (Some p) lines)
+whole : (p : ClusterPlay) (lines : List (List ℕ)) → Whole p.cluster (turns_of_lines next_of (Some p) lines) (text_in next_of (Some p) lines)
 whole p [] = nothing p.cluster
 whole p (line ∷ lines) = by (next_of (Some p) line) (comes p line) (λ q. whole q lines) where
-  by : (next : ClusterNext) → ComesTo p line next → ((q : ClusterPlay) → Whole q.cluster (turns_in next_of (Some q) lines) (text_in next_of (Some q) lines))
+  by : (next : ClusterNext) → ComesTo p line next
+      → ((q : ClusterPlay) → Whole q.cluster (turns_of_lines next_of (Some q) lines) (text_in next_of (Some q) lines))
       → Whole p.cluster (turns_after next_of next lines) (text_after next_of next lines)
   by Ends come later = nothing p.cluster
   by (Refused fault) come later = nothing p.cluster
   by (Goes next turns text) come later =
       let one = come.tells in
-      let more : List ClusterTurn = turns_in next_of next lines in
+      let more : List ClusterTurn = turns_of_lines next_of next lines in
       let rest : Whole come.play.cluster more (text_in next_of next lines)
-      = subst (λ (q : Option ClusterPlay). Whole come.play.cluster (turns_in next_of q lines) (text_in next_of q lines)) (sym come.is) (later come.play) in
+      = subst (λ (q : Option ClusterPlay). Whole come.play.cluster (turns_of_lines next_of q lines) (text_in next_of q lines)) (sym come.is)
+      (later come.play) in
       record {
         said = one.said ++ rest.said;
         logged = one.logged ++ rest.logged;
         grows = ap (λ (es : List ClusterEvent). (cluster_after p.cluster es).groups.log) (events-append turns more)
-            ∙ ap (λ (c : Cluster). c.groups.log) (after-append p.cluster (events_in turns) (events_in more))
-            ∙ ap (λ (c : Cluster). (cluster_after c (events_in more)).groups.log) (sym come.to)
+            ∙ ap (λ (c : Cluster). c.groups.log) (after-append p.cluster (cluster_events_in turns) (cluster_events_in more))
+            ∙ ap (λ (c : Cluster). (cluster_after c (cluster_events_in more)).groups.log) (sym come.to)
             ∙ rest.grows
             ∙ ap (λ (c : Cluster). c.groups.log ++ rest.logged) come.to
             ∙ ap (λ (log : List ClusterEntry). log ++ rest.logged) one.grows
@@ -275,7 +277,8 @@ record Begun (lines : List (List ℕ)) : Type 0 where
   pub plan : Plan
   pub named : plan_in (named_in next_of None lines) ≡ Some plan
   pub said : List (List ℕ)
-  pub tells : Tells cluster_entry_text (text_in next_of None lines) (cluster_after (opening_of plan) (events_in (turns_in next_of None lines))).groups.log said
+  pub tells : TellsLines cluster_entry_text (text_in next_of None lines)
+      (cluster_after (opening_of plan) (cluster_events_in (turns_of_lines next_of None lines))).groups.log said
 
 begins : (n : ℕ) (lines : List (List ℕ)) → fault_in next_of BadLine n None lines ≡ None → Begun lines
 begins n [] ends = absurd (cc ends)
@@ -285,9 +288,10 @@ begins n (line ∷ lines) ends = by (next_of None line) refl ends (begins (n + 1
       ≡ None
       → (fault_in next_of BadLine (n + 1) None lines ≡ None → Begun lines) → Begun (line ∷ lines)
   begun next turns text is opens rest later = either opens.is where
-    turns_are : (q : Option ClusterPlay) → next ≡ q → turns_in next_of None (line ∷ lines) ≡ turns_in next_of q lines
-    turns_are q same = ap (λ (x : ClusterNext). turns_after next_of x lines) is ∙ ap (λ (ts : List ClusterTurn). ts ++ turns_in next_of next lines) opens.quiet
-        ∙ ap (λ (x : Option ClusterPlay). turns_in next_of x lines) same
+    turns_are : (q : Option ClusterPlay) → next ≡ q → turns_of_lines next_of None (line ∷ lines) ≡ turns_of_lines next_of q lines
+    turns_are q same = ap (λ (x : ClusterNext). turns_after next_of x lines) is ∙ ap
+        (λ (ts : List ClusterTurn). ts ++ turns_of_lines next_of next lines) opens.quiet
+        ∙ ap (λ (x : Option ClusterPlay). turns_of_lines next_of x lines) same
 
     text_is : (q : Option ClusterPlay) → next ≡ q → text_in next_of None (line ∷ lines) ≡ text_in next_of q lines
     text_is q same = ap (λ (x : ClusterNext). text_after next_of x lines) is
@@ -298,16 +302,16 @@ begins n (line ∷ lines) ends = by (next_of None line) refl ends (begins (n + 1
     plan_is q same = ap plan_in (named-line next_of line lines (Goes next turns text) is ∙ ap (λ (x : Option ClusterPlay). named_in next_of x lines) same)
 
     into : (plan : Plan) (said : List (List ℕ)) (q : Option ClusterPlay) → next ≡ q
-        → Tells cluster_entry_text (text_in next_of q lines)
-        (cluster_after (opening_of plan) (events_in (turns_in next_of q lines))).groups.log said
-        → Tells cluster_entry_text (text_in next_of None (line ∷ lines))
-        (cluster_after (opening_of plan) (events_in (turns_in next_of None (line ∷ lines)))).groups.log said
+        → TellsLines cluster_entry_text (text_in next_of q lines)
+        (cluster_after (opening_of plan) (cluster_events_in (turns_of_lines next_of q lines))).groups.log said
+        → TellsLines cluster_entry_text (text_in next_of None (line ∷ lines))
+        (cluster_after (opening_of plan) (cluster_events_in (turns_of_lines next_of None (line ∷ lines)))).groups.log said
     into plan said q same tells =
-        subst (λ (t : List ℕ). Tells cluster_entry_text t
-        (cluster_after (opening_of plan) (events_in (turns_in next_of None (line ∷ lines)))).groups.log said)
+        subst (λ (t : List ℕ). TellsLines cluster_entry_text t
+        (cluster_after (opening_of plan) (cluster_events_in (turns_of_lines next_of None (line ∷ lines)))).groups.log said)
         (sym (text_is q same))
-        (subst (λ (ts : List ClusterTurn). Tells cluster_entry_text (text_in next_of q lines)
-        (cluster_after (opening_of plan) (events_in ts)).groups.log said) (sym (turns_are q same)) tells)
+        (subst (λ (ts : List ClusterTurn). TellsLines cluster_entry_text (text_in next_of q lines)
+        (cluster_after (opening_of plan) (cluster_events_in ts)).groups.log said) (sym (turns_are q same)) tells)
 
     either : (next ≡ None) ⊎ ((plan : Plan) × IsPlan plan × (next ≡ Some (record { cluster = opening_of plan; moment = 0 }))) → Begun (line ∷ lines)
     either (inl nothing) =
@@ -330,7 +334,7 @@ begins n (line ∷ lines) ends = by (next_of None line) refl ends (begins (n + 1
               ∙ ap (λ (n : ℕ). Some (record { groups = plan.groups; nodes = n; shape = plan.shape })) nodes;
           said = all.said;
           tells = into plan all.said (Some p) some
-              (subst (λ (log : List ClusterEntry). Tells cluster_entry_text (text_in next_of (Some p) lines) log
+              (subst (λ (log : List ClusterEntry). TellsLines cluster_entry_text (text_in next_of (Some p) lines) log
               all.said) (sym all.grows) all.tells);
         }
 

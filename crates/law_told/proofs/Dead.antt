@@ -13,8 +13,9 @@ use Rattle.group_types.proofs.Lists.{at-put, at-put-other, at-replicate, length-
 use Rattle.group_types.proofs.Names.{index-process_at}
 use Rattle.group_calls.specs.declared.event.Event.TheVariants.{Fail}
 use Rattle.group_run.specs.Process.{Node}
-use Rattle.group_run.specs.World.{World, all_change, node_failed, node_of, opening, opening_node, step, with_down, with_node}
-use Rattle.group_layout.specs.Cluster.{Cluster, Groups, IsFailure, IsLayout, MayAllHappen, MayHappen, Move, all_moved}
+use Rattle.group_run.specs.World.{World, all_change, node_failed, opening, opening_node, process_node, step, with_down, with_node}
+use Rattle.group_run.specs.Causes.{IsFailure}
+use Rattle.group_layout.specs.Cluster.{Cluster, Groups, IsLayout, MayAllHappen, MayHappen, Move, all_moved}
 use Rattle.group_layout.specs.Cluster.{cluster_after, cluster_step, failure_of, failures, move_unless, moved, moves_of}
 use Rattle.group_layout.specs.Cluster.{node_failure, opening_cluster, other_group, world_in}
 use Rattle.group_layout.specs.Layout as layout
@@ -44,15 +45,16 @@ told-same down d (x ∷ xs) (suc i) = told-same down d xs i
 
 -- a process that fails is dead then
 fail-own : (w : World) (p : ProcessId) (keep : ℕ) → (at (opening_node w.shape p) (step w (Fail p keep)).world.nodes (index_of w.shape p)).dead ≡ true
-fail-own w p keep = by (node_of w p).dead refl where
+fail-own w p keep = by (process_node w p).dead refl where
   cut : List Node
-  cut = with_node w.shape p (node_failed w.shape p keep (node_of w p)) w.nodes
+  cut = with_node w.shape p (node_failed w.shape p keep (process_node w p)) w.nodes
 
-  by : (dead : Bool) → (node_of w p).dead ≡ dead → (at (opening_node w.shape p) (all_change dead w.shape w.nodes p keep).nodes (index_of w.shape p)).dead ≡ true
+  by : (dead : Bool) → (process_node w p).dead ≡ dead
+      → (at (opening_node w.shape p) (all_change dead w.shape w.nodes p keep).nodes (index_of w.shape p)).dead ≡ true
   by true is = is
   by false is = told-same _ (opening_node w.shape p) cut (index_of w.shape p)
       ∙ ap (λ (x : Node). x.dead) (at-put (opening_node w.shape p) (opening_node w.shape p) w.nodes (index_of w.shape p)
-      (node_failed w.shape p keep (node_of w p)))
+      (node_failed w.shape p keep (process_node w p)))
 
 -- which process of a group stands on a node
 on-none : (n node j a m : ℕ) → first_on n node j (range_with_len a m) ≡ None → (x : ℕ) → a ≤ x → x < a + m → (layout.node_of n j x == node) ≡ false

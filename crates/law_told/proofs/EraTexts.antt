@@ -17,17 +17,17 @@ use Rattle.group_run.specs.Draining.{next_delivery}
 use Rattle.group_run.specs.Meaning.{is_dead}
 use Rattle.group_run.specs.Shown.{held, is_down}
 use Rattle.group_run.specs.World.{World, opening}
-use Rattle.scenario_text.specs.Meaning.{line_of}
+use Rattle.scenario_text.specs.Meaning.{line_meaning}
 use Rattle.scenario_text.specs.Texts.{answer_text, place_text, places_text, shown_text}
-use Rattle.scenario_text.specs.Words.{words_of}
+use Rattle.scenario_text.specs.Words.{split_words}
 use Rattle.scenario_text.specs.declared.line.Line.{Line}
 use Rattle.scenario_text.specs.declared.line.Line.TheVariants.{Skipped, Group, Ask, Collect, Deliver, Fail, Flush, Trace, Drain, Show, Places, Time, Stop}
 use Rattle.scenario_text.specs.declared.line.LineFault.{LineFault}
 use Rattle.scenario_text.specs.declared.line.LineFault.TheVariants.{BadLine}
-use Rattle.scenario_run.specs.Course.{Ends, Goes, Refused, fault_in, named_in, text_in, turns_in}
+use Rattle.scenario_run.specs.Course.{Ends, Goes, Refused, fault_in, named_in, text_in, turns_of_lines}
 use Rattle.scenario_run.specs.Lines.{lines_of}
 use Rattle.scenario_run.specs.Placing.{many_runs, placed_text, runs_text}
-use Rattle.scenario_run.specs.Playing.{draining}
+use Rattle.scenario_run.specs.Playing.{draining_unless_down}
 use Rattle.scenario_run.proofs.Following.{fault_after, named-line, text_after, turns_after}
 use Rattle.group_eras.specs.Carry.{carried, many_carried}
 use Rattle.group_eras.specs.Eras.{EraEntry, Eras, carrier, era_step, eras_after, first_era, stamp_in}
@@ -41,7 +41,7 @@ use Rattle.regroup_run.specs.Texts.{era_entries_text, era_entry_text, era_mark}
 use Rattle.regroup_run.proofs.Leading.{done-append}
 use Rattle.regroup_run.proofs.Running.{Opens, line-opens, never-ends}
 use Rattle.law_told.specs.EraTexts.{EraLinesTell, EraTranscriptsTell, LineTells}
-use Rattle.law_told.specs.Lines.{Tells, is_log_line, text_of}
+use Rattle.law_told.specs.Lines.{TellsLines, is_log_line, text_of}
 use Rattle.law_told.proofs.Lines as lines
 use Rattle.law_told.proofs.Lines.{AreOthers, answer-other, others-append, tells-append, tells-none, tells-said, text-append}
 
@@ -68,14 +68,15 @@ entries-lines [] = refl
 entries-lines (e ∷ es) = ap (λ (t : List ℕ). era_entry_text e ++ 10 ∷ t) (entries-lines es)
 
 -- a line that is said, and entries behind it or in front of it
-said-first : (line : List ℕ) (es : List EraEntry) → is_log_line line ≡ false → Tells era_entry_text (line ++ 10 ∷ era_entries_text es) es (line ∷ [])
+said-first : (line : List ℕ) (es : List EraEntry) → is_log_line line ≡ false → TellsLines era_entry_text (line ++ 10 ∷ era_entries_text es) es (line ∷ [])
 said-first line es other =
-    subst (λ (t : List ℕ). Tells era_entry_text (line ++ 10 ∷ t) es (line ∷ [])) (sym (entries-lines es))
+    subst (λ (t : List ℕ). TellsLines era_entry_text (line ++ 10 ∷ t) es (line ∷ [])) (sym (entries-lines es))
     (lines.said-first era_entry_text entry-marked line es other)
 
-said-last : (line : List ℕ) (es : List EraEntry) → is_log_line line ≡ false → Tells era_entry_text (era_entries_text es ++ (line ++ 10 ∷ [])) es (line ∷ [])
+said-last : (line : List ℕ) (es : List EraEntry) → is_log_line line ≡ false
+    → TellsLines era_entry_text (era_entries_text es ++ (line ++ 10 ∷ [])) es (line ∷ [])
 said-last line es other =
-    subst (λ (t : List ℕ). Tells era_entry_text (t ++ (line ++ 10 ∷ [])) es (line ∷ [])) (sym (entries-lines es))
+    subst (λ (t : List ℕ). TellsLines era_entry_text (t ++ (line ++ 10 ∷ [])) es (line ∷ [])) (sym (entries-lines es))
     (lines.said-last era_entry_text entry-marked line es other)
 
 -- runs
@@ -153,7 +154,7 @@ idle p q line text same said = record {
     is_said = inl refl;
     logged = [];
     grows = sym (append-nil p.eras.log);
-    tells = subst (λ (t : List ℕ). Tells era_entry_text t [] said.lines) (sym said.is) (tells-said era_entry_text said.lines said.others);
+    tells = subst (λ (t : List ℕ). TellsLines era_entry_text t [] said.lines) (sym said.is) (tells-said era_entry_text said.lines said.others);
   };
   play = q;
   is = refl;
@@ -192,7 +193,7 @@ trace-comes p line caller call e = by (nat_lt call (at 0 p.eras.world.asked call
   by true = call-comes p line caller e
   by false = tt
 
-drain-comes : (p : EraPlay) (line : List ℕ) (es : List Event) → line_of (shape_in (Some p)) line ≡ Ok Drain → ComesTo p line (by_drain p es)
+drain-comes : (p : EraPlay) (line : List ℕ) (es : List Event) → line_meaning (shape_in (Some p)) line ≡ Ok Drain → ComesTo p line (by_drain p es)
 drain-comes p line es reads =
     let more = deeds-grow p.eras (map Makes es) in
     let grows : (eras_after p.eras es).log ≡ p.eras.log ++ more.0 = ap (λ (e : Eras). e.log) (sym (after-makes p.eras es)) ∙ more.1 in
@@ -205,14 +206,14 @@ drain-comes p line es reads =
         logged = more.0;
         grows = more.1;
         tells = subst
-            (λ (n : ℕ). Tells era_entry_text (era_entries_text (logged_since p.eras.log (eras_after p.eras es).log)
+            (λ (n : ℕ). TellsLines era_entry_text (era_entries_text (logged_since p.eras.log (eras_after p.eras es).log)
             ++ (codes "drained " ++ (decimal (length es) ++ codes "\n"))) more.0 ((codes "drained " ++ decimal n) ∷ []))
             long
-            (subst (λ (xs : List EraEntry). Tells era_entry_text
+            (subst (λ (xs : List EraEntry). TellsLines era_entry_text
             (era_entries_text xs ++ (codes "drained " ++ (decimal (length es) ++ codes "\n"))) more.0
             ((codes "drained " ++ decimal (length es)) ∷ []))
             (sym (more-is p.eras.log (eras_after p.eras es).log more.0 grows))
-            (subst (λ (t : List ℕ). Tells era_entry_text (era_entries_text more.0 ++ t) more.0 ((codes "drained " ++ decimal (length es)) ∷ []))
+            (subst (λ (t : List ℕ). TellsLines era_entry_text (era_entries_text more.0 ++ t) more.0 ((codes "drained " ++ decimal (length es)) ∷ []))
             (append_assoc (codes "drained ") (decimal (length es)) (codes "\n")) (said-last (codes "drained " ++ decimal (length es)) more.0 refl)));
       };
       play = record { eras = eras_after p.eras es; moment = p.moment };
@@ -235,11 +236,11 @@ carry-comes p line s =
         logged = more.0;
         grows = more.1;
         tells = subst
-            (λ (xs : List EraEntry). Tells era_entry_text
+            (λ (xs : List EraEntry). TellsLines era_entry_text
             (codes "regrouped " ++ (decimal n ++ 10 ∷ era_entries_text xs)) more.0
             ((codes "regrouped " ++ decimal n) ∷ []))
             (sym (more-is p.eras.log (carried p.eras s).log more.0 more.1))
-            (subst (λ (t : List ℕ). Tells era_entry_text t more.0 ((codes "regrouped " ++ decimal n) ∷ []))
+            (subst (λ (t : List ℕ). TellsLines era_entry_text t more.0 ((codes "regrouped " ++ decimal n) ∷ []))
             (append_assoc (codes "regrouped ") (decimal n) (10 ∷ era_entries_text more.0)) (said-first (codes "regrouped " ++ decimal n) more.0 refl));
       };
       play = record { eras = carried p.eras s; moment = p.moment };
@@ -258,7 +259,7 @@ regroup-comes p line s = by (is_down p.eras.world) (is_some (next_delivery p.era
   by false false true = carry-comes p line s
   by false false false = idle p p line (codes "no_space" ++ 10 ∷ []) refl (one-line (codes "no_space") refl)
 
-then-comes : (p : EraPlay) (line : List ℕ) (l : Line) → line_of (shape_in (Some p)) line ≡ Ok l → ComesTo p line (then_by p l)
+then-comes : (p : EraPlay) (line : List ℕ) (l : Line) → line_meaning (shape_in (Some p)) line ≡ Ok l → ComesTo p line (then_by p l)
 then-comes p line Skipped reads = idle p p line [] refl silent
 then-comes p line (Group shape) reads = tt
 then-comes p line (Ask caller from act) reads = call-comes p line caller (happens.Ask caller (record { moment = p.moment; act = act }) from)
@@ -267,7 +268,7 @@ then-comes p line (Deliver from to) reads = event-comes p line (happens.Deliver 
 then-comes p line (Fail from keep) reads = event-comes p line (happens.Fail from keep)
 then-comes p line (Flush from) reads = event-comes p line (happens.Flush from)
 then-comes p line (Trace caller call partition from) reads = trace-comes p line caller call (happens.Trace caller call partition from)
-then-comes p line Drain reads = drain-comes p line (draining p.eras.world) reads
+then-comes p line Drain reads = drain-comes p line (draining_unless_down p.eras.world) reads
 then-comes p line (Show from run) reads =
     idle p p line (look p.eras from (held p.eras.world from run) ++ 10 ∷ []) refl
     (one-line (look p.eras from (held p.eras.world from run)) (look-other p.eras from (held p.eras.world from run)))
@@ -275,7 +276,7 @@ then-comes p line Places reads = idle p p line (placed_text p.eras.bases p.eras.
 then-comes p line (Time moment) reads = idle p (record { eras = p.eras; moment = moment }) line [] refl silent
 then-comes p line Stop reads = tt
 
-read-comes : (p : EraPlay) (line : List ℕ) (l : Result Line LineFault) → line_of (shape_in (Some p)) line ≡ l → ComesTo p line (next_by (Some p) l)
+read-comes : (p : EraPlay) (line : List ℕ) (l : Result Line LineFault) → line_meaning (shape_in (Some p)) line ≡ l → ComesTo p line (next_by (Some p) l)
 read-comes p line (Err fault) reads = tt
 read-comes p line (Ok l) reads = then-comes p line l reads
 
@@ -286,10 +287,10 @@ regroup-line-comes p line (Ok s) = regroup-comes p line s
 comes : (p : EraPlay) (line : List ℕ) → ComesTo p line (next_of (Some p) line)
 comes p line = by (regroups line) where
   by : (b : Bool)
-      → ComesTo p line (if b then regroup_by p (regroup_line p.eras.world.shape.k (words_of line)) else next_by (Some p)
-      (line_of (shape_in (Some p)) line))
-  by true = regroup-line-comes p line (regroup_line p.eras.world.shape.k (words_of line))
-  by false = read-comes p line (line_of (shape_in (Some p)) line) refl
+      → ComesTo p line (if b then regroup_by p (regroup_line p.eras.world.shape.k (split_words line)) else next_by (Some p)
+      (line_meaning (shape_in (Some p)) line))
+  by true = regroup-line-comes p line (regroup_line p.eras.world.shape.k (split_words line))
+  by false = read-comes p line (line_meaning (shape_in (Some p)) line) refl
 
 pub era_lines_tell : EraLinesTell
 era_lines_tell p line next deeds text is = let come : Comes p line next deeds text = subst (ComesTo p line) is (comes p line) in come.tells
@@ -301,27 +302,27 @@ record Whole (e : Eras) (deeds : List Deed) (text : List ℕ) : Type 0 where
   pub said : List (List ℕ)
   pub logged : List EraEntry
   pub grows : (all_done e deeds).log ≡ e.log ++ logged
-  pub tells : Tells era_entry_text text logged said
+  pub tells : TellsLines era_entry_text text logged said
 
 nothing : (e : Eras) → Whole e [] []
 nothing e = record { said = []; logged = []; grows = sym (append-nil e.log); tells = tells-none era_entry_text }
 
-whole : (p : EraPlay) (lines : List (List ℕ)) → Whole p.eras (turns_in next_of (Some p) lines) (text_in next_of (Some p) lines)
+whole : (p : EraPlay) (lines : List (List ℕ)) → Whole p.eras (turns_of_lines next_of (Some p) lines) (text_in next_of (Some p) lines)
 whole p [] = nothing p.eras
 whole p (line ∷ lines) = by (next_of (Some p) line) (comes p line) (λ q. whole q lines) where
-  by : (next : EraNext) → ComesTo p line next → ((q : EraPlay) → Whole q.eras (turns_in next_of (Some q) lines) (text_in next_of (Some q) lines))
+  by : (next : EraNext) → ComesTo p line next → ((q : EraPlay) → Whole q.eras (turns_of_lines next_of (Some q) lines) (text_in next_of (Some q) lines))
       → Whole p.eras (turns_after next_of next lines) (text_after next_of next lines)
   by Ends come later = nothing p.eras
   by (Refused fault) come later = nothing p.eras
   by (Goes next deeds text) come later =
       let one = come.tells in
-      let rest : Whole come.play.eras (turns_in next_of next lines) (text_in next_of next lines)
-      = subst (λ (q : Option EraPlay). Whole come.play.eras (turns_in next_of q lines) (text_in next_of q lines)) (sym come.is) (later come.play) in
+      let rest : Whole come.play.eras (turns_of_lines next_of next lines) (text_in next_of next lines)
+      = subst (λ (q : Option EraPlay). Whole come.play.eras (turns_of_lines next_of q lines) (text_in next_of q lines)) (sym come.is) (later come.play) in
       record {
         said = one.said ++ rest.said;
         logged = one.logged ++ rest.logged;
-        grows = ap (λ (e : Eras). e.log) (done-append p.eras deeds (turns_in next_of next lines))
-            ∙ ap (λ (e : Eras). (all_done e (turns_in next_of next lines)).log) (sym come.to)
+        grows = ap (λ (e : Eras). e.log) (done-append p.eras deeds (turns_of_lines next_of next lines))
+            ∙ ap (λ (e : Eras). (all_done e (turns_of_lines next_of next lines)).log) (sym come.to)
             ∙ rest.grows
             ∙ ap (λ (e : Eras). e.log ++ rest.logged) come.to
             ∙ ap (λ (log : List EraEntry). log ++ rest.logged) one.grows
@@ -334,7 +335,7 @@ record Begun (lines : List (List ℕ)) : Type 0 where
   pub shape : Dimensions
   pub named : shape_in (named_in next_of None lines) ≡ Some shape
   pub said : List (List ℕ)
-  pub tells : Tells era_entry_text (text_in next_of None lines) (all_done (first_era (opening shape)) (turns_in next_of None lines)).log said
+  pub tells : TellsLines era_entry_text (text_in next_of None lines) (all_done (first_era (opening shape)) (turns_of_lines next_of None lines)).log said
 
 begins : (n : ℕ) (lines : List (List ℕ)) → fault_in next_of BadLine n None lines ≡ None → Begun lines
 begins n [] ends = absurd (cc ends)
@@ -343,10 +344,10 @@ begins n (line ∷ lines) ends = by (next_of None line) refl ends (begins (n + 1
       → Opens next deeds text → fault_in next_of BadLine (n + 1) next lines ≡ None
       → (fault_in next_of BadLine (n + 1) None lines ≡ None → Begun lines) → Begun (line ∷ lines)
   begun next deeds text is opens rest later = either opens.is where
-    deeds_are : (q : Option EraPlay) → next ≡ q → turns_in next_of None (line ∷ lines) ≡ turns_in next_of q lines
+    deeds_are : (q : Option EraPlay) → next ≡ q → turns_of_lines next_of None (line ∷ lines) ≡ turns_of_lines next_of q lines
     deeds_are q same = ap (λ (x : EraNext). turns_after next_of x lines) is
-        ∙ ap (λ (ts : List Deed). ts ++ turns_in next_of next lines) opens.quiet
-        ∙ ap (λ (x : Option EraPlay). turns_in next_of x lines) same
+        ∙ ap (λ (ts : List Deed). ts ++ turns_of_lines next_of next lines) opens.quiet
+        ∙ ap (λ (x : Option EraPlay). turns_of_lines next_of x lines) same
 
     text_is : (q : Option EraPlay) → next ≡ q → text_in next_of None (line ∷ lines) ≡ text_in next_of q lines
     text_is q same = ap (λ (x : EraNext). text_after next_of x lines) is
@@ -357,12 +358,14 @@ begins n (line ∷ lines) ends = by (next_of None line) refl ends (begins (n + 1
     shape_is q same = ap shape_in (named-line next_of line lines (Goes next deeds text) is ∙ ap (λ (x : Option EraPlay). named_in next_of x lines) same)
 
     into : (s : Dimensions) (said : List (List ℕ)) (q : Option EraPlay) → next ≡ q
-        → Tells era_entry_text (text_in next_of q lines)
-        (all_done (first_era (opening s)) (turns_in next_of q lines)).log said
-        → Tells era_entry_text (text_in next_of None (line ∷ lines)) (all_done (first_era (opening s)) (turns_in next_of None (line ∷ lines))).log said
+        → TellsLines era_entry_text (text_in next_of q lines)
+        (all_done (first_era (opening s)) (turns_of_lines next_of q lines)).log said
+        → TellsLines era_entry_text (text_in next_of None (line ∷ lines))
+        (all_done (first_era (opening s)) (turns_of_lines next_of None (line ∷ lines))).log said
     into s said q same tells =
-        subst (λ (t : List ℕ). Tells era_entry_text t (all_done (first_era (opening s)) (turns_in next_of None (line ∷ lines))).log said) (sym (text_is q same))
-        (subst (λ (ds : List Deed). Tells era_entry_text (text_in next_of q lines)
+        subst (λ (t : List ℕ). TellsLines era_entry_text t (all_done (first_era (opening s)) (turns_of_lines next_of None (line ∷ lines))).log said)
+        (sym (text_is q same))
+        (subst (λ (ds : List Deed). TellsLines era_entry_text (text_in next_of q lines)
         (all_done (first_era (opening s)) ds).log said) (sym (deeds_are q same)) tells)
 
     either : (next ≡ None) ⊎ ((s : Dimensions) × IsShape s × (next ≡ Some (record { eras = first_era (opening s); moment = 0 }))) → Begun (line ∷ lines)
@@ -382,7 +385,7 @@ begins n (line ∷ lines) ends = by (next_of None line) refl ends (begins (n + 1
           named = shape_is (Some p) some;
           said = all.said;
           tells = into s all.said (Some p) some
-              (subst (λ (log : List EraEntry). Tells era_entry_text (text_in next_of (Some p) lines) log all.said)
+              (subst (λ (log : List EraEntry). TellsLines era_entry_text (text_in next_of (Some p) lines) log all.said)
               (sym all.grows) all.tells);
         }
 

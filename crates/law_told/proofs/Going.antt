@@ -21,7 +21,7 @@ use Rattle.group_run.specs.World.{World, step}
 use Rattle.law_answers.proofs.Asks.{asks_always}
 use Rattle.law_log.proofs.Tables.{home-below}
 use Rattle.group_eras.specs.Eras.{turn_in}
-use Rattle.group_eras.specs.Told.{Bases, op_in, told_answer, told_stamp, with_base}
+use Rattle.group_eras.specs.Told.{Bases, op_for_era, told_answer, told_stamp, with_base}
 use Rattle.group_eras.proofs.Making.{may-in}
 use Rattle.group_eras.proofs.Promises.{led-stands}
 use Rattle.group_eras.proofs.Standing.{Stands}
@@ -49,7 +49,7 @@ pendings_go_on e caller op p d n led may is =
     stands = led-stands e led
 
     came : Asked
-    came = op_in e.bases e.world.shape.k op
+    came = op_for_era e.bases e.world.shape.k op
 
     causes : AskCause e.world (step e.world (Ask caller came p)).world p came (turn_in e (Ask caller op p)).answer
     causes = subst (λ (v : World). MayCome v (Ask caller came p) → AskCause v (step v (Ask caller came p)).world p came

@@ -6,7 +6,7 @@ use Rattle.group_calls.specs.declared.event.Answer.{Answer}
 use Rattle.group_calls.specs.declared.event.Answer.TheVariants as says
 use Rattle.group_calls.specs.declared.event.Cause.TheVariants.{Block, Pending}
 use Rattle.scenario_text.specs.Texts.{answer_text}
-use Rattle.law_told.specs.Lines.{Tells, is_log_line, text_of}
+use Rattle.law_told.specs.Lines.{TellsLines, is_log_line, text_of}
 
 abbrev pub is_other : List ℕ → Bool
 is_other line = not (is_log_line line)
@@ -66,12 +66,12 @@ answer-other says.Gone = refl
 
 module _ {E : Type 0} (entry_text : E → List ℕ) where
   -- nothing
-  pub tells-none : Tells entry_text [] [] []
+  pub tells-none : TellsLines entry_text [] [] []
   tells-none = record { lines = []; written = refl; log = refl; others = refl }
 
   -- one text behind another
-  pub tells-append : (t u : List ℕ) (es fs : List E) (said more : List (List ℕ)) → Tells entry_text t es said
-      → Tells entry_text u fs more → Tells entry_text (t ++ u) (es ++ fs) (said ++ more)
+  pub tells-append : (t u : List ℕ) (es fs : List E) (said more : List (List ℕ)) → TellsLines entry_text t es said
+      → TellsLines entry_text u fs more → TellsLines entry_text (t ++ u) (es ++ fs) (said ++ more)
   tells-append t u es fs said more first then = record {
     lines = first.lines ++ then.lines;
     written = ap₂ (λ (a b : List ℕ). a ++ b) first.written then.written ∙ sym (text-append first.lines then.lines);
@@ -80,12 +80,12 @@ module _ {E : Type 0} (entry_text : E → List ℕ) where
   }
 
   -- lines that say something
-  pub tells-said : (said : List (List ℕ)) → AreOthers said → Tells entry_text (text_of said) [] said
+  pub tells-said : (said : List (List ℕ)) → AreOthers said → TellsLines entry_text (text_of said) [] said
   tells-said said all = record { lines = said; written = refl; log = others-log said all; others = others-kept said all }
 
   -- entries, whose texts are lines of a log
   module _ (marked : (e : E) → is_log_line (entry_text e) ≡ true) where
-    pub tells-entries : (es : List E) → Tells entry_text (text_of (map entry_text es)) es []
+    pub tells-entries : (es : List E) → TellsLines entry_text (text_of (map entry_text es)) es []
     tells-entries [] = tells-none
     tells-entries (e ∷ es) = let rest = tells-entries es in record {
       lines = entry_text e ∷ rest.lines;
@@ -96,13 +96,13 @@ module _ {E : Type 0} (entry_text : E → List ℕ) where
     }
 
     -- a line that is said, and entries behind it or in front of it
-    pub said-first : (line : List ℕ) (es : List E) → is_log_line line ≡ false → Tells entry_text (line ++ 10 ∷ text_of (map entry_text es)) es (line ∷ [])
+    pub said-first : (line : List ℕ) (es : List E) → is_log_line line ≡ false → TellsLines entry_text (line ++ 10 ∷ text_of (map entry_text es)) es (line ∷ [])
     said-first line es other =
-        subst (λ (t : List ℕ). Tells entry_text t es (line ∷ [])) (append_assoc line (10 ∷ []) (text_of (map entry_text es)))
+        subst (λ (t : List ℕ). TellsLines entry_text t es (line ∷ [])) (append_assoc line (10 ∷ []) (text_of (map entry_text es)))
         (tells-append (line ++ 10 ∷ []) (text_of (map entry_text es)) [] es (line ∷ []) [] (tells-said (line ∷ []) (other, tt)) (tells-entries es))
 
     pub said-last : (line : List ℕ) (es : List E) → is_log_line line ≡ false
-        → Tells entry_text (text_of (map entry_text es) ++ (line ++ 10 ∷ [])) es (line ∷ [])
+        → TellsLines entry_text (text_of (map entry_text es) ++ (line ++ 10 ∷ [])) es (line ∷ [])
     said-last line es other =
-        subst (λ (xs : List E). Tells entry_text (text_of (map entry_text es) ++ (line ++ 10 ∷ [])) xs (line ∷ [])) (append-nil es)
+        subst (λ (xs : List E). TellsLines entry_text (text_of (map entry_text es) ++ (line ++ 10 ∷ [])) xs (line ∷ [])) (append-nil es)
         (tells-append (text_of (map entry_text es)) (line ++ 10 ∷ []) es [] [] (line ∷ []) (tells-entries es) (tells-said (line ∷ []) (other, tt)))

@@ -10,19 +10,19 @@ use Rattle.group_run.specs.Draining.{next_delivery}
 use Rattle.group_run.specs.Meaning.{IsDown}
 use Rattle.group_run.specs.Shown.{is_down}
 use Rattle.group_run.specs.World.{World}
-use Rattle.scenario_text.specs.Meaning.{line_of}
-use Rattle.scenario_text.specs.Words.{words_of}
+use Rattle.scenario_text.specs.Meaning.{line_meaning}
+use Rattle.scenario_text.specs.Words.{split_words}
 use Rattle.scenario_run.specs.Course.{Goes}
 use Rattle.scenario_run.proofs.Running.{parts}
 use Rattle.scenario_run.proofs.Truth.{up}
 use Rattle.group_eras.specs.Carry.{carried}
-use Rattle.group_eras.specs.Items.{bytes_in}
+use Rattle.group_eras.specs.Items.{bytes_in_partition}
 use Rattle.group_eras.specs.Promise.{Carries, Deed, IsLed}
 use Rattle.group_eras.specs.Refusal.{CanCarry}
 use Rattle.regroup_run.specs.Meaning.{regroup_line}
 use Rattle.regroup_run.specs.Playing.{EraPlay, by_carry, by_regroup, has_space, next_by, refuses, regroup_by, shape_in}
 use Rattle.regroup_run.proofs.Running.{all-fit, next-tells}
-use Rattle.law_told.specs.Regroups.{IsRefusal, RegroupTells, RegroupsTell}
+use Rattle.law_told.specs.Regroups.{IsNothingCarried, RegroupTells, RegroupsTell}
 
 is-down : (w : World) → is_down w ≡ true → IsDown w
 is-down w down = grind (arith, nat_tests)
@@ -46,12 +46,12 @@ at-most : (a b : ℕ) → a ≤ b → nat_le a b ≡ true
 at-most a b fits = grind (arith, nat_tests)
 
 has-space : (w : World) (s : Dimensions) → CanCarry w s → has_space w s ≡ true
-has-space w s can = all-pass (λ d. nat_le (bytes_in w d) (space_of s)) 0 w.shape.k
-    (λ d low high. at-most (bytes_in w d) (space_of s) (can.space d (omega (arith, high))))
+has-space w s can = all-pass (λ d. nat_le (bytes_in_partition w d) (space_of s)) 0 w.shape.k
+    (λ d low high. at-most (bytes_in_partition w d) (space_of s) (can.space d (omega (arith, high))))
 
 module _ (p : EraPlay) (s : Dimensions) (led : IsLed p.eras) (next : Option EraPlay) (deeds : List Deed) (text : List ℕ) where
   -- nothing is carried
-  refusal : (reason : List ℕ) → refuses p reason ≡ Goes next deeds text → IsRefusal deeds text (reason ++ 10 ∷ [])
+  refusal : (reason : List ℕ) → refuses p reason ≡ Goes next deeds text → IsNothingCarried deeds text (reason ++ 10 ∷ [])
   refusal reason is = let all = parts (Some p) next [] deeds (reason ++ 10 ∷ []) text is in record { nothing = all.1; written = all.2 }
 
   tells : (down waits space : Bool) → is_down p.eras.world ≡ down → is_some (next_delivery p.eras.world) ≡ waits → has_space p.eras.world s ≡ space
@@ -89,6 +89,6 @@ regroups_tell p line s next deeds text led names is = tells p s led next deeds t
     (is_some (next_delivery p.eras.world)) (has_space p.eras.world s) refl refl refl goes where
       goes : by_regroup p s ≡ Goes next deeds text
       goes = ap (regroup_by p) (sym names.shape)
-          ∙ sym (ap (λ (b : Bool). if b then regroup_by p (regroup_line p.eras.world.shape.k (words_of line)) else next_by
-          (Some p) (line_of (shape_in (Some p)) line)) names.word)
+          ∙ sym (ap (λ (b : Bool). if b then regroup_by p (regroup_line p.eras.world.shape.k (split_words line)) else next_by
+          (Some p) (line_meaning (shape_in (Some p)) line)) names.word)
           ∙ is

@@ -18,9 +18,9 @@ use Rattle.scenario_text.specs.Texts.{answer_text, place_text}
 use Rattle.scenario_text.specs.declared.line.LineFault.{LineFault}
 use Rattle.scenario_run.specs.Course.{Fault}
 use Rattle.scenario_run.specs.Lines.{lines_of, without_empty_last}
-use Rattle.run_verify.specs.Passing.{Account, Due, PassAll, Passes, PassesBy, PassesEntry, PassesPlace, PassesStep}
-use Rattle.run_verify.specs.Passing.{State, after_event, begins_entry, dues_from, first_state, is_taken}
-use Rattle.run_verify.specs.Sheet.{Sheet, before_separator, behind_separator, joined, separator, sheet_in}
+use Rattle.run_verify.specs.Passing.{Account, DuePlace, PassAll, Passes, PassesBy, PassesEntry, PassesPlace, PassesStep}
+use Rattle.run_verify.specs.Passing.{JudgingState, after_event, begins_entry, dues_from, first_state, takes_effect}
+use Rattle.run_verify.specs.Sheet.{Sheet, before_separator, behind_separator, separator, sheet_in, sheet_joined}
 use Rattle.run_verify.specs.Steps.{Script, script_in}
 use Rattle.run_verify.specs.Told.{drained_line, placed_line}
 use Rattle.run_verify.specs.declared.step.Step.{Step}
@@ -92,7 +92,7 @@ cut (line ∷ lines) transcript each =
       alone = first-line line (text_of lines) each.0.whole ∙ ap (λ (ls : List (List ℕ)). line ∷ ls) rest.alone;
     }
 
-into : (n : ℕ) (read : Result Script (Fault LineFault)) (transcript : List ℕ) → IsCutInto read transcript (joined n read (Some (lines_of transcript)))
+into : (n : ℕ) (read : Result Script (Fault LineFault)) (transcript : List ℕ) → IsCutInto read transcript (sheet_joined n read (Some (lines_of transcript)))
 into n (Ok script) transcript = refl
 into n (Err fault) transcript = refl
 
@@ -106,7 +106,7 @@ sheets_are_cut script transcript is =
     subst (λ (text : List ℕ). IsCutInto (script_in 1 None (lines_of text)) transcript
     (sheet_in (lines_of (text ++ (codes "====\n" ++ transcript))))) (sym is.is)
     (subst (IsCutInto read transcript)
-    (sym (ap₂ (λ (r : Result Script (Fault LineFault)) (o : Option (List (List ℕ))). joined (length both + 1) r o)
+    (sym (ap₂ (λ (r : Result Script (Fault LineFault)) (o : Option (List (List ℕ))). sheet_joined (length both + 1) r o)
     reads cuts.behind))
     (into (length both + 1) read transcript))
 
@@ -154,11 +154,11 @@ same-mark : (line : List ℕ) → is_log_line line ≡ begins_entry line
 same-mark [] = refl
 same-mark (b ∷ bs) = refl
 
-entry-adds : (sheet : Sheet) (s : State) (line : List ℕ) (next : State) → begins_entry line ≡ true
+entry-adds : (sheet : Sheet) (s : JudgingState) (line : List ℕ) (next : JudgingState) → begins_entry line ≡ true
     → PassesEntry sheet s line next → Adds line s.account next.account
 entry-adds sheet s line next log (may, e, run, tells, told, is) = record {
-  entries = plus-one s.account.entries next.account.entries (is_log_line line) (same-mark line ∙ log) (ap (λ (t : State). t.account.entries) is);
-  shown = plus-none s.account.shown next.account.shown (is_shown_line line) (log-silent line log) (ap (λ (t : State). t.account.shown) is);
+  entries = plus-one s.account.entries next.account.entries (is_log_line line) (same-mark line ∙ log) (ap (λ (t : JudgingState). t.account.entries) is);
+  shown = plus-none s.account.shown next.account.shown (is_shown_line line) (log-silent line log) (ap (λ (t : JudgingState). t.account.shown) is);
 }
 
 -- no entry is counted, nor any line that shows bytes
@@ -187,35 +187,36 @@ shown-stays a (happens.Fail p keep) taken = refl
 shown-stays a (happens.Flush p) taken = refl
 
 -- lines of the places
-place-adds : (sheet : Sheet) (a : Account) (steps : List Step) (dues : List Due) (line : List ℕ) (next : State)
+place-adds : (sheet : Sheet) (a : Account) (steps : List Step) (dues : List DuePlace) (line : List ℕ) (next : JudgingState)
     → begins_entry line ≡ false → PassesPlace sheet a steps dues line next → Adds line a next.account
 place-adds sheet a steps [] line next plain (text, is) =
-    none line (placed_line a.placed) a next.account plain text refl (ap (λ (t : State). t.account.entries) is) (ap (λ (t : State). t.account.shown) is)
+    none line (placed_line a.placed) a next.account plain text refl (ap (λ (t : JudgingState). t.account.entries) is)
+    (ap (λ (t : JudgingState). t.account.shown) is)
 place-adds sheet a steps (due ∷ dues) line next plain (tells, is) =
     none line (place_text due.partition due.number tells.run) a next.account plain tells.text refl
-    (ap (λ (t : State). t.account.entries) is) (ap (λ (t : State). t.account.shown) is)
+    (ap (λ (t : JudgingState). t.account.entries) is) (ap (λ (t : JudgingState). t.account.shown) is)
 
-step-adds : (sheet : Sheet) (a : Account) (steps : List Step) (line : List ℕ) (ahead : List (List ℕ)) (next : State)
+step-adds : (sheet : Sheet) (a : Account) (steps : List Step) (line : List ℕ) (ahead : List (List ℕ)) (next : JudgingState)
     → begins_entry line ≡ false → PassesStep sheet a steps line ahead next → Adds line a next.account
 step-adds sheet a [] line ahead next plain passes = absurd passes
 step-adds sheet a (Make event ∷ steps) line ahead next plain (answer, answers, is) =
     none line (answer_text answer) a next.account plain answers.text (answer-silent answer)
-    (ap (λ (t : State). t.account.entries) is ∙ entries-stay a event (is_taken answer))
-    (ap (λ (t : State). t.account.shown) is ∙ shown-stays a event (is_taken answer))
+    (ap (λ (t : JudgingState). t.account.entries) is ∙ entries-stay a event (takes_effect answer))
+    (ap (λ (t : JudgingState). t.account.shown) is ∙ shown-stays a event (takes_effect answer))
 step-adds sheet a (Deliveries ∷ steps) line ahead next plain (n, low, text, is) =
-    none line (drained_line n) a next.account plain text refl (ap (λ (t : State). t.account.entries) is) (ap (λ (t : State). t.account.shown) is)
+    none line (drained_line n) a next.account plain text refl (ap (λ (t : JudgingState). t.account.entries) is) (ap (λ (t : JudgingState). t.account.shown) is)
 step-adds sheet a (Look p run ∷ steps) line ahead next plain (inl (tells, is)) = record {
-  entries = plus-none a.entries next.account.entries (is_log_line line) (same-mark line ∙ plain) (ap (λ (t : State). t.account.entries) is);
-  shown = plus-one a.shown next.account.shown (is_shown_line line) (ap is_shown_line tells.text) (ap (λ (t : State). t.account.shown) is);
+  entries = plus-none a.entries next.account.entries (is_log_line line) (same-mark line ∙ plain) (ap (λ (t : JudgingState). t.account.entries) is);
+  shown = plus-one a.shown next.account.shown (is_shown_line line) (ap is_shown_line tells.text) (ap (λ (t : JudgingState). t.account.shown) is);
 }
 step-adds sheet a (Look p run ∷ steps) line ahead next plain (inr (inl text, is)) =
-    none line (codes "lost") a next.account plain text refl (ap (λ (t : State). t.account.entries) is) (ap (λ (t : State). t.account.shown) is)
+    none line (codes "lost") a next.account plain text refl (ap (λ (t : JudgingState). t.account.entries) is) (ap (λ (t : JudgingState). t.account.shown) is)
 step-adds sheet a (Look p run ∷ steps) line ahead next plain (inr (inr text, is)) =
-    none line (codes "down") a next.account plain text refl (ap (λ (t : State). t.account.entries) is) (ap (λ (t : State). t.account.shown) is)
+    none line (codes "down") a next.account plain text refl (ap (λ (t : JudgingState). t.account.entries) is) (ap (λ (t : JudgingState). t.account.shown) is)
 step-adds sheet a (Placing ∷ steps) line ahead next plain passes =
     place-adds sheet a steps (drop a.placed (dues_from a 0 sheet.script.shape.k)) line next plain passes
 
-line-adds : (sheet : Sheet) (s : State) (line : List ℕ) (ahead : List (List ℕ)) (next : State)
+line-adds : (sheet : Sheet) (s : JudgingState) (line : List ℕ) (ahead : List (List ℕ)) (next : JudgingState)
     → Passes sheet s line ahead next → Adds line s.account next.account
 line-adds sheet s line ahead next passes = by (begins_entry line) refl passes where
   by : (b : Bool) → begins_entry line ≡ b → PassesBy b sheet s line ahead next → Adds line s.account next.account
@@ -234,7 +235,7 @@ record Sums (lines : List (List ℕ)) (a b : Account) : Type 0 where
   pub entries : b.entries ≡ length (filter is_log_line lines) + a.entries
   pub shown : b.shown ≡ length (filter is_shown_line lines) + a.shown
 
-all-add : (sheet : Sheet) (s : State) (lines : List (List ℕ)) (account : Account) → PassAll sheet s lines account → Sums lines s.account account
+all-add : (sheet : Sheet) (s : JudgingState) (lines : List (List ℕ)) (account : Account) → PassAll sheet s lines account → Sums lines s.account account
 all-add sheet s [] account (over, same) =
     let entries = ap (λ (a : Account). a.entries) same in
     let shown = ap (λ (a : Account). a.shown) same in

@@ -4,7 +4,7 @@ use Rattle.std.specs.Fmt.{decimal}
 use Rattle.group_types.specs.Dimensions.{Dimensions}
 use Rattle.group_calls.specs.declared.event.Event.{Event}
 use Rattle.group_run.specs.World.{opening}
-use Rattle.scenario_text.specs.Meaning.{line_of}
+use Rattle.scenario_text.specs.Meaning.{line_meaning}
 use Rattle.scenario_text.specs.Texts.{answer_text}
 use Rattle.scenario_text.specs.declared.line.Line.TheVariants.{Drain}
 use Rattle.scenario_run.specs.Course.{Goes}
@@ -12,38 +12,38 @@ use Rattle.group_eras.specs.Carry.{many_carried}
 use Rattle.group_eras.specs.Eras.{EraEntry, era_step, first_era}
 use Rattle.group_eras.specs.Promise.{Carries, Deed, Makes, all_done}
 use Rattle.regroup_run.specs.Playing.{EraPlay, next_of, shape_in}
-use Rattle.regroup_run.specs.Script.{deeds_of, first_fault, shape_of, transcript}
+use Rattle.regroup_run.specs.Script.{deeds_of, era_script_shape, first_fault, transcript}
 use Rattle.regroup_run.specs.Texts.{era_entry_text}
-use Rattle.law_told.specs.Lines.{Tells}
+use Rattle.law_told.specs.Lines.{TellsLines}
 
 -- the one event of a line is answered
-pub record IsAnswered (p : EraPlay) (deeds : List Deed) (said : List (List ℕ)) : Type 0 where
+pub record IsEraAnswer (p : EraPlay) (deeds : List Deed) (said : List (List ℕ)) : Type 0 where
   pub event : Event
   pub only : deeds ≡ Makes event ∷ []
   pub answer : said ≡ answer_text (era_step p.eras event).answer ∷ []
 
 -- deliveries are counted
 pub record IsCounted (p : EraPlay) (line : List ℕ) (deeds : List Deed) (said : List (List ℕ)) : Type 0 where
-  pub drains : line_of (shape_in (Some p)) line ≡ Ok Drain
+  pub drains : line_meaning (shape_in (Some p)) line ≡ Ok Drain
   pub many : said ≡ (codes "drained " ++ decimal (length deeds)) ∷ []
 
 -- items that are carried are counted
-pub record IsCarried (p : EraPlay) (deeds : List Deed) (said : List (List ℕ)) : Type 0 where
+pub record IsCarryCounted (p : EraPlay) (deeds : List Deed) (said : List (List ℕ)) : Type 0 where
   pub shape : Dimensions
   pub only : deeds ≡ Carries shape ∷ []
   pub many : said ≡ (codes "regrouped " ++ decimal (many_carried p.eras)) ∷ []
 
 -- what a line says beside the log: anything where it does nothing
-abbrev pub IsSaid : EraPlay → List ℕ → List Deed → List (List ℕ) → Type 0
-IsSaid p line deeds said = (deeds ≡ []) ⊎ (IsAnswered p deeds said ⊎ (IsCounted p line deeds said ⊎ IsCarried p deeds said))
+abbrev pub IsSaidOfEras : EraPlay → List ℕ → List Deed → List (List ℕ) → Type 0
+IsSaidOfEras p line deeds said = (deeds ≡ []) ⊎ (IsEraAnswer p deeds said ⊎ (IsCounted p line deeds said ⊎ IsCarryCounted p deeds said))
 
 -- what a line writes is that, and the entries by which its deeds prolong the log
 pub record LineTells (p : EraPlay) (line : List ℕ) (deeds : List Deed) (text : List ℕ) : Type 0 where
   pub said : List (List ℕ)
-  pub is_said : IsSaid p line deeds said
+  pub is_said : IsSaidOfEras p line deeds said
   pub logged : List EraEntry
   pub grows : (all_done p.eras deeds).log ≡ p.eras.log ++ logged
-  pub tells : Tells era_entry_text text logged said
+  pub tells : TellsLines era_entry_text text logged said
 
 abbrev pub EraLinesTell : Type 0
 EraLinesTell = (p : EraPlay) (line : List ℕ) (next : Option EraPlay) (deeds : List Deed) (text : List ℕ) → next_of (Some p) line ≡ Goes next deeds text → LineTells p line deeds text
@@ -51,9 +51,9 @@ EraLinesTell = (p : EraPlay) (line : List ℕ) (next : Option EraPlay) (deeds : 
 -- the lines of a transcript that begin with `=` are the log at the end
 pub record HasEraLog (text : List ℕ) : Type 0 where
   pub shape : Dimensions
-  pub named : shape_of text ≡ Some shape
+  pub named : era_script_shape text ≡ Some shape
   pub said : List (List ℕ)
-  pub tells : Tells era_entry_text (transcript text) (all_done (first_era (opening shape)) (deeds_of text)).log said
+  pub tells : TellsLines era_entry_text (transcript text) (all_done (first_era (opening shape)) (deeds_of text)).log said
 
 abbrev pub EraTranscriptsTell : Type 0
 EraTranscriptsTell = (text : List ℕ) → first_fault text ≡ None → HasEraLog text

@@ -75,14 +75,14 @@ bytes_held None = 0
 bytes_held (Some h) = length h.item.value
 
 -- and the values of all living keys of partition d together
-abbrev pub HasBytes : Eras → ℕ → ℕ → Type 0
-HasBytes e d many = (keys : List (List ℕ)) × AreLivingIn e.world.shape.k d (table_over e) keys × (sum_by (λ key. bytes_held ((table_over e).items key)) keys ≡ many)
+abbrev pub HasValueBytes : Eras → ℕ → ℕ → Type 0
+HasValueBytes e d many = (keys : List (List ℕ)) × AreLivingIn e.world.shape.k d (table_over e) keys × (sum_by (λ key. bytes_held ((table_over e).items key)) keys ≡ many)
 
 -- the partition that has no space in the new group is the first whose living values are longer
 pub record IsFirstLonger (e : Eras) (space d : ℕ) : Type 0 where
   pub partition : d < e.world.shape.k
-  pub long : (many : ℕ) × HasBytes e d many × (space < many)
-  pub lower : (f : ℕ) → f < d → (many : ℕ) × HasBytes e f many × (many ≤ space)
+  pub long : (many : ℕ) × HasValueBytes e d many × (space < many)
+  pub lower : (f : ℕ) → f < d → (many : ℕ) × HasValueBytes e f many × (many ≤ space)
 
 abbrev pub NoSpaceIsFirst : Type 0
 NoSpaceIsFirst = (e : Eras) (s : Dimensions) (d : Partition) → IsLed e → IsRefused e.world s (NoSpace d) → IsFirstLonger e (space_of s) d.0

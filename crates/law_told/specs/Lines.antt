@@ -12,7 +12,7 @@ is_log_line [] = false
 is_log_line (b ∷ bs) = b == 61
 
 -- the text is that of lines, of which those that begin with `=` are these entries in order, and the others are what is said
-pub record Tells {E : Type 0} (entry_text : E → List ℕ) (text : List ℕ) (logged : List E) (said : List (List ℕ)) : Type 0 where
+pub record TellsLines {E : Type 0} (entry_text : E → List ℕ) (text : List ℕ) (logged : List E) (said : List (List ℕ)) : Type 0 where
   pub lines : List (List ℕ)
   pub written : text ≡ text_of lines
   pub log : filter is_log_line lines ≡ map entry_text logged

@@ -2,7 +2,7 @@
 use Rattle.std.specs.Prelude.{ℕ, ◌≡◌, List, [], ◌∷◌, codes, true, Option, Some, Ok}
 use Rattle.group_types.specs.Dimensions.{Dimensions}
 use Rattle.group_types.specs.declared.process.Partition.{Partition}
-use Rattle.scenario_text.specs.Words.{words_of}
+use Rattle.scenario_text.specs.Words.{split_words}
 use Rattle.scenario_run.specs.Course.{Goes}
 use Rattle.group_eras.specs.Promise.{Carries, Deed, IsLed}
 use Rattle.group_eras.specs.Refusal.{CanCarry, IsRefused}
@@ -13,18 +13,18 @@ use Rattle.regroup_run.specs.Playing.{EraPlay, next_of, regroups}
 -- a line `regroup` names this shape
 pub record NamesShape (p : EraPlay) (line : List ℕ) (s : Dimensions) : Type 0 where
   pub word : regroups line ≡ true
-  pub shape : regroup_line p.eras.world.shape.k (words_of line) ≡ Ok s
+  pub shape : regroup_line p.eras.world.shape.k (split_words line) ≡ Ok s
 
 -- nothing is carried, and this is written
-pub record IsRefusal (deeds : List Deed) (text reason : List ℕ) : Type 0 where
+pub record IsNothingCarried (deeds : List Deed) (text reason : List ℕ) : Type 0 where
   pub nothing : deeds ≡ []
   pub written : text ≡ reason
 
 -- each reason is told where it is true, and where there is none all is carried
 pub record RegroupTells (p : EraPlay) (s : Dimensions) (deeds : List Deed) (text : List ℕ) : Type 0 where
-  pub down : IsRefused p.eras.world s Down → IsRefusal deeds text (codes "down\n")
-  pub waits : IsRefused p.eras.world s NotDrained → IsRefusal deeds text (codes "not_drained\n")
-  pub long : (d : Partition) → IsRefused p.eras.world s (NoSpace d) → IsRefusal deeds text (codes "no_space\n")
+  pub down : IsRefused p.eras.world s Down → IsNothingCarried deeds text (codes "down\n")
+  pub waits : IsRefused p.eras.world s NotDrained → IsNothingCarried deeds text (codes "not_drained\n")
+  pub long : (d : Partition) → IsRefused p.eras.world s (NoSpace d) → IsNothingCarried deeds text (codes "no_space\n")
   pub carries : CanCarry p.eras.world s → deeds ≡ Carries s ∷ []
 
 abbrev pub RegroupsTell : Type 0

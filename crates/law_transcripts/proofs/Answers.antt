@@ -19,7 +19,7 @@ use Rattle.group_run.specs.Headline.{IsRun, MayCome}
 use Rattle.group_run.specs.World.{World, after, step}
 use Rattle.law_updates.proofs.Keys.{key-refl}
 use Rattle.law_answers.proofs.Answering.{answers_always}
-use Rattle.transcript_text.specs.Forms.{MayAnswer, kind_of, kind_of_act}
+use Rattle.transcript_text.specs.Forms.{MayAnswer, kind_of_act, kind_of_event}
 use Rattle.transcript_text.specs.declared.kind.Kind.TheVariants as kind
 
 -- no get is accepted
@@ -206,7 +206,8 @@ traced w p caller call d says.AlreadyDead cause = absurd cause.2
 traced w p caller call d says.Gone cause = refl
 traced w p caller call d (says.Stale x) cause = refl
 
-pub may-answer : (s : Dimensions) (es : List Event) (e : Event) → IsRun s es → MayCome (after s es) e → MayAnswer (kind_of e) (step (after s es) e).turn.answer
+pub may-answer : (s : Dimensions) (es : List Event) (e : Event) → IsRun s es → MayCome (after s es) e
+    → MayAnswer (kind_of_event e) (step (after s es) e).turn.answer
 may-answer s es (Ask caller op p) run may =
     asked (after s es) (step (after s es) (Ask caller op p)).world p op.moment op.act (step (after s es) (Ask caller op p)).turn.answer
     (answers_always s es run (Ask caller op p) may)

@@ -9,13 +9,13 @@ use Rattle.group_calls.specs.declared.event.Event.{Event}
 use Rattle.group_calls.specs.declared.event.Event.TheVariants as happens
 use Rattle.group_run.specs.World.{World, step, turns_from}
 use Rattle.scenario_text.proofs.Lines.{line_of-within}
-use Rattle.scenario_text.specs.Meaning.{line_of}
+use Rattle.scenario_text.specs.Meaning.{line_meaning}
 use Rattle.scenario_text.specs.declared.line.Line.{Line}
 use Rattle.scenario_text.specs.declared.line.Line.TheVariants.{Skipped, Group, Ask, Collect, Deliver, Fail, Flush, Trace, Drain, Show, Places, Time, Stop}
 use Rattle.scenario_text.specs.declared.line.LineFault.{LineFault}
 use Rattle.scenario_text.specs.declared.line.LineFault.TheVariants.{BadLine}
-use Rattle.scenario_run.specs.Course.{Ends, Goes, Refused, turns_in}
-use Rattle.scenario_run.specs.Playing.{Play, PlayNext, by_event, draining, first_by, next_by, next_of, shape_in, then_by}
+use Rattle.scenario_run.specs.Course.{Ends, Goes, Refused, turns_of_lines}
+use Rattle.scenario_run.specs.Playing.{Play, PlayNext, by_event, draining_unless_down, first_by, next_by, next_of, shape_in, then_by}
 use Rattle.scenario_run.proofs.Following.{turns_after}
 use Rattle.run_verify.proofs.ExactFits.{FitsAct}
 use Rattle.run_verify.proofs.ExactLimits.{act-fits, read-limits}
@@ -59,7 +59,7 @@ MakesFine (Refused cause) = ⊤
 one-fine : (p : Play) (e : Event) → IsFine e → MakesFine (by_event p e)
 one-fine p e fine = All-cons FineTurn (step p.world e).turn [] fine (All-nil FineTurn)
 
-then-fine : (p : Play) (line : List ℕ) (l : Line) → line_of (Some p.world.shape) line ≡ Ok l → MakesFine (then_by p l)
+then-fine : (p : Play) (line : List ℕ) (l : Line) → line_meaning (Some p.world.shape) line ≡ Ok l → MakesFine (then_by p l)
 then-fine p line Skipped is = All-nil FineTurn
 then-fine p line (Group shape) is = tt
 then-fine p line (Ask caller from a) is =
@@ -75,7 +75,7 @@ then-fine p line (Trace caller call d from) is = by (nat_lt call (at 0 p.world.a
     by : (b : Bool) → MakesFine (if b then by_event p (happens.Trace caller call d from) else Refused BadLine)
     by true = one-fine p (happens.Trace caller call d from) tt
     by false = tt
-then-fine p line Drain is = deliveries-fine p.world (draining p.world) (draining-delivers p.world)
+then-fine p line Drain is = deliveries-fine p.world (draining_unless_down p.world) (draining-delivers p.world)
 then-fine p line (Show from run) is = All-nil FineTurn
 then-fine p line Places is = All-nil FineTurn
 then-fine p line (Time moment) is = All-nil FineTurn
@@ -97,20 +97,21 @@ first-fine (Time moment) = tt
 first-fine Stop = tt
 
 line-fine : (p : Option Play) (line : List ℕ) → MakesFine (next_of p line)
-line-fine p line = by p (line_of (shape_in p) line) refl
+line-fine p line = by p (line_meaning (shape_in p) line) refl
   where
-    by : (q : Option Play) (r : Result Line LineFault) → line_of (shape_in q) line ≡ r → MakesFine (next_by q r)
+    by : (q : Option Play) (r : Result Line LineFault) → line_meaning (shape_in q) line ≡ r → MakesFine (next_by q r)
     by None (Err fault) is = tt
     by (Some q) (Err fault) is = tt
     by None (Ok l) is = first-fine l
     by (Some q) (Ok l) is = then-fine q line l is
 
 -- what a script asks is fine
-pub turns-fine : (p : Option Play) (lines : List (List ℕ)) → All FineTurn (turns_in next_of p lines)
+pub turns-fine : (p : Option Play) (lines : List (List ℕ)) → All FineTurn (turns_of_lines next_of p lines)
 turns-fine p [] = All-nil FineTurn
 turns-fine p (line ∷ lines) = by (next_of p line) (line-fine p line) (λ q. turns-fine q lines)
   where
-    by : (next : PlayNext) → MakesFine next → ((q : Option Play) → All FineTurn (turns_in next_of q lines)) → All FineTurn (turns_after next_of next lines)
+    by : (next : PlayNext) → MakesFine next → ((q : Option Play) → All FineTurn (turns_of_lines next_of q lines))
+        → All FineTurn (turns_after next_of next lines)
     by Ends fine later = All-nil FineTurn
     by (Refused cause) fine later = All-nil FineTurn
-    by (Goes q turns text) fine later = All-append FineTurn turns (turns_in next_of q lines) fine (later q)
+    by (Goes q turns text) fine later = All-append FineTurn turns (turns_of_lines next_of q lines) fine (later q)

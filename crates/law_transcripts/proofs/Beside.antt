@@ -12,13 +12,13 @@ use Rattle.group_calls.specs.declared.event.Event.{Event}
 use Rattle.group_calls.specs.declared.event.Event.TheVariants as happens
 use Rattle.group_run.specs.World.{World, step, world_after}
 use Rattle.scenario_text.proofs.Lines.{line_of-within}
-use Rattle.scenario_text.specs.Meaning.{IsLineOf, line_of}
+use Rattle.scenario_text.specs.Meaning.{IsLineOf, line_meaning}
 use Rattle.scenario_text.specs.declared.line.Line.{Line}
 use Rattle.scenario_text.specs.declared.line.Line.TheVariants.{Skipped, Group, Ask, Collect, Deliver, Fail, Flush, Trace, Drain, Show, Places, Time, Stop}
 use Rattle.scenario_text.specs.declared.line.LineFault.{LineFault}
 use Rattle.scenario_text.specs.declared.line.LineFault.TheVariants.{BadLine}
 use Rattle.scenario_run.specs.Course.{Ends, Goes, Refused}
-use Rattle.scenario_run.specs.Playing.{Play, PlayNext, by_event, draining, next_by, next_of, shape_in, then_by}
+use Rattle.scenario_run.specs.Playing.{Play, PlayNext, by_event, draining_unless_down, next_by, next_of, shape_in, then_by}
 use Rattle.scenario_run.proofs.Leading.{keeps-shape}
 use Rattle.run_verify.specs.Steps as verify
 use Rattle.run_verify.specs.Steps.{Setting, StepNext}
@@ -102,7 +102,7 @@ traced s p e false true is same = cc is
 
 -- a line behind the group line
 then-beside : (s : Setting) (p : Play) (l : Line) → IsLineOf (Some p.world.shape) l → SameSetting s p
-    → SameNext (Some p) (verify.then_by s l) (then_by p l) (steps_by p l)
+    → SameNext (Some p) (verify.later_steps s l) (then_by p l) (steps_by p l)
 then-beside s p Skipped within same = (same, refl, refl)
 then-beside s p (Group shape) within same = tt
 then-beside s p (Ask caller from act) within same = (
@@ -129,16 +129,16 @@ then-beside s p (Trace caller call partition from) within same =
     (ap (nat_lt call) (same-place s p caller same))
     (still s p (step p.world (happens.Trace caller call partition from)).world same refl refl)
 then-beside s p Drain within same =
-    let after : World = world_after p.world (draining p.world) in
-    let shape = keeps-shape p.world (draining p.world) in
-    (still s p after same shape (deliveries-ask p.world (draining p.world) (draining-delivers p.world)), refl, shape)
+    let after : World = world_after p.world (draining_unless_down p.world) in
+    let shape = keeps-shape p.world (draining_unless_down p.world) in
+    (still s p after same shape (deliveries-ask p.world (draining_unless_down p.world) (draining-delivers p.world)), refl, shape)
 then-beside s p (Show from run) within same = (same, refl, refl)
 then-beside s p Places within same = (same, refl, refl)
 then-beside s p (Time moment) within same = (record { shape = same.shape; moment = refl; asked = same.asked; many = same.many }, refl, refl)
 then-beside s p Stop within same = tt
 
 -- a line before the group line, or that line
-first-beside : (r : Result Line LineFault) → SameNext None (verify.next_by None r) (next_by None r) (steps_on None r)
+first-beside : (r : Result Line LineFault) → SameNext None (verify.steps_by_meaning None r) (next_by None r) (steps_on None r)
 first-beside (Err fault) = tt
 first-beside (Ok Skipped) = (tt, refl, tt)
 first-beside (Ok (Group shape)) = (record { shape = refl; moment = refl; asked = refl; many = length-replicate {A = ℕ} callers 0 }, refl, tt)
@@ -155,16 +155,16 @@ first-beside (Ok (Time moment)) = tt
 first-beside (Ok Stop) = tt
 
 pub line-beside : (s : Option Setting) (p : Option Play) (line : List ℕ) → Beside s p
-    → SameNext p (verify.next_of s line) (next_of p line) (steps_on p (line_of (shape_in p) line))
-line-beside None None line same = first-beside (line_of None line)
+    → SameNext p (verify.steps_of_line s line) (next_of p line) (steps_on p (line_meaning (shape_in p) line))
+line-beside None None line same = first-beside (line_meaning None line)
 line-beside None (Some p) line same = absurd same
 line-beside (Some s) None line same = absurd same
 line-beside (Some s) (Some p) line same =
-    subst (λ (d : Dimensions). SameNext (Some p) (verify.next_by (Some s) (line_of (Some d) line)) (next_of (Some p) line)
-    (steps_on (Some p) (line_of (Some p.world.shape) line))) (sym same.shape)
-    (by (line_of (Some p.world.shape) line) refl)
+    subst (λ (d : Dimensions). SameNext (Some p) (verify.steps_by_meaning (Some s) (line_meaning (Some d) line)) (next_of (Some p) line)
+    (steps_on (Some p) (line_meaning (Some p.world.shape) line))) (sym same.shape)
+    (by (line_meaning (Some p.world.shape) line) refl)
   where
-    by : (r : Result Line LineFault) → line_of (Some p.world.shape) line ≡ r
-        → SameNext (Some p) (verify.next_by (Some s) r) (next_by (Some p) r) (steps_on (Some p) r)
+    by : (r : Result Line LineFault) → line_meaning (Some p.world.shape) line ≡ r
+        → SameNext (Some p) (verify.steps_by_meaning (Some s) r) (next_by (Some p) r) (steps_on (Some p) r)
     by (Err fault) is = tt
     by (Ok l) is = then-beside s p l (line_of-within (Some p.world.shape) line l is) same

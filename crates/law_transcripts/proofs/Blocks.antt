@@ -21,7 +21,7 @@ use Rattle.group_run.specs.Causes.{IsReady, IsUp, NeedsBlock, NeedsItem, NeedsPl
 use Rattle.group_run.specs.Deciding.{reads_bytes, run_needed}
 use Rattle.group_run.specs.Headline.{IsItem, IsRun, KeepsAll}
 use Rattle.group_run.specs.Leaders.{blocks_met, rebuilt_block}
-use Rattle.group_run.specs.Meaning.{IsDown, Lives, Logged, process_of, run_after, run_on, run_unless, table_at, updates_of}
+use Rattle.group_run.specs.Meaning.{IsDown, Lives, Logged, item_run_after, process_of, run_on, run_unless, table_at, updates_of}
 use Rattle.group_run.specs.Replica.{Replica, run_in, slot_in}
 use Rattle.group_run.specs.World.{after}
 use Rattle.law_headline.proofs.Headlines.{headline_always}
@@ -60,7 +60,7 @@ run-from : (key : List ℕ) (us : List Logged) (old : Option Run) (run : Run) �
 run-from key [] old run is = inl is
 run-from key (u ∷ us) old run is = by (run-from key us (run_unless (same_key (key_of u.entry.op.act) key) u old) run is)
   where
-    own : (item : Option Holding) (r : Option Run) → u.run ≡ r → run_after item r old ≡ Some run → (old ≡ Some run) ⊎ (u.run ≡ Some run)
+    own : (item : Option Holding) (r : Option Run) → u.run ≡ r → item_run_after item r old ≡ Some run → (old ≡ Some run) ⊎ (u.run ≡ Some run)
     own None r has here = absurd (cc here)
     own (Some h) None has here = inl here
     own (Some h) (Some r) has here = inr (has ∙ here)

@@ -7,8 +7,8 @@ use Rattle.scenario_run.specs.Course.{Fault}
 use Rattle.scenario_run.specs.Lines.{lines_of}
 use Rattle.scenario_run.specs.Script.{first_fault, transcript}
 use Rattle.scenario_run.proofs.Promises.{scripts_keep_promises}
-use Rattle.scenario_play.specs.Language.{group_scripts, told_in}
-use Rattle.scenario_play.specs.Status.{longest_script, told_at, told_of, verdict}
+use Rattle.scenario_play.specs.Language.{group_scripts, status_told}
+use Rattle.scenario_play.specs.Status.{longest_script, status_of_lines, told_at, verdict}
 use Rattle.scenario_play.specs.declared.status.Status.TheVariants.{Done, TooLong}
 use Rattle.run_verify.specs.Checked.{AreWellShown}
 use Rattle.run_verify.specs.Plain.{EndsPlacing}
@@ -24,7 +24,7 @@ use Rattle.law_transcripts.proofs.ShownTrue.{IsTold, told-true}
 use Rattle.law_transcripts.proofs.Telling.{steps_along, told_along}
 
 -- a script that is played to its end is within the limit
-short-enough : (text : List ℕ) → told_in group_scripts text ≡ Done → (length text ≤ longest_script) × (verdict text ≡ Done)
+short-enough : (text : List ℕ) → status_told group_scripts text ≡ Done → (length text ≤ longest_script) × (verdict text ≡ Done)
 short-enough text done = by (nat_lt longest_script (length text)) refl done where
   by : (b : Bool) → nat_lt longest_script (length text) ≡ b → (if b then TooLong else verdict text) ≡ Done
       → (length text ≤ longest_script) × (verdict text ≡ Done)
@@ -39,7 +39,7 @@ no-fault text done = by (first_fault text) done where
   never n (line.BadShape field) is = cc is
   never n line.Want is = cc is
 
-  by : (fault : Option (Fault LineFault)) → told_of told_at fault ≡ Done → fault ≡ None
+  by : (fault : Option (Fault LineFault)) → status_of_lines told_at fault ≡ Done → fault ≡ None
   by None done = refl
   by (Some fault) done = absurd (never fault.number fault.cause done)
 

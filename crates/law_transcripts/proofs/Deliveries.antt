@@ -10,7 +10,7 @@ use Rattle.group_run.specs.Draining.{drain_events, event_or, next_among, next_de
 use Rattle.group_run.specs.Progress.{load_of}
 use Rattle.group_run.specs.Shown.{is_down}
 use Rattle.group_run.specs.World.{World, step}
-use Rattle.scenario_run.specs.Playing.{draining}
+use Rattle.scenario_run.specs.Playing.{draining_unless_down}
 use Rattle.run_verify.specs.Told.{IsDelivery}
 
 from-delivers : (w : World) (x : ℕ) (o : Option ℕ) (e : Event) → next_from w x o ≡ Some e → IsDelivery e
@@ -39,7 +39,7 @@ drain-delivers (suc n) w = by (next_delivery w) refl (λ v. drain-delivers n v)
     by (Some e) some later = All-cons IsDelivery e (drain_events n (step w e).world) (among-delivers w (range_with_len 0 (w.shape.k + w.shape.m)) e some)
         (later (step w e).world)
 
-pub draining-delivers : (w : World) → All IsDelivery (draining w)
+pub draining-delivers : (w : World) → All IsDelivery (draining_unless_down w)
 draining-delivers w = by (is_down w)
   where
     by : (b : Bool) → All IsDelivery (if b then [] else drain_events (load_of w) w)

@@ -5,7 +5,7 @@ use Rattle.group_types.specs.Dimensions.{Dimensions}
 use Rattle.group_types.specs.Shape.{IsShape}
 use Rattle.group_calls.specs.Turns.{Turn}
 use Rattle.group_run.specs.World.{World, opening}
-use Rattle.scenario_run.specs.Course.{Ends, Goes, Refused, turns_in}
+use Rattle.scenario_run.specs.Course.{Ends, Goes, Refused, turns_of_lines}
 use Rattle.scenario_run.specs.Playing.{Play, PlayNext, next_of}
 use Rattle.scenario_run.proofs.Draining.{burden, line_burden, load-opening}
 use Rattle.scenario_run.proofs.Following.{turns_after}
@@ -20,7 +20,7 @@ leads-long w v turns leads =
     omega (arith, many, long)
 
 abbrev Goal : Dimensions → List (List ℕ) → Type 0
-Goal s lines = (q : Play) → IsLedTo s q.world → q.world.events + length (turns_in next_of (Some q) lines) ≤ burden q.world + length lines * line_burden
+Goal s lines = (q : Play) → IsLedTo s q.world → q.world.events + length (turns_of_lines next_of (Some q) lines) ≤ burden q.world + length lines * line_burden
 
 named-few : (s : Dimensions) (lines : List (List ℕ)) → Goal s lines
 named-few s [] p led = omega arith
@@ -35,26 +35,26 @@ named-few s (line ∷ lines) p led = by (next_of (Some p) line) refl (named-few 
         let light = on.light in
         let many = leads-long p.world on.play.world turns on.leads in
         let rest = later on.play (led-on s p.world on.play.world turns led on.leads) in
-        let same = ap (λ (q : Option Play). length (turns_in next_of q lines)) on.is in
-        let both = length-append turns (turns_in next_of next lines) in
+        let same = ap (λ (q : Option Play). length (turns_of_lines next_of q lines)) on.is in
+        let both = length-append turns (turns_of_lines next_of next lines) in
         omega (arith, light, many, rest, same, both)
 
-pub turns-few : (lines : List (List ℕ)) → length (turns_in next_of None lines) ≤ length lines * line_burden
+pub turns-few : (lines : List (List ℕ)) → length (turns_of_lines next_of None lines) ≤ length lines * line_burden
 turns-few [] = omega arith
 turns-few (line ∷ lines) = by (next_of None line) refl (turns-few lines)
   where
-    named : (s : Dimensions) → IsShape s → length (turns_in next_of (Some (record { world = opening s; moment = 0 })) lines) ≤ length lines * line_burden
+    named : (s : Dimensions) → IsShape s → length (turns_of_lines next_of (Some (record { world = opening s; moment = 0 })) lines) ≤ length lines * line_burden
     named s limits = let all = named-few s lines (record { world = opening s; moment = 0 }) (opened s limits) in let none = load-opening s in omega
         (arith, all, none)
 
     either : (next : Option Play) → (next ≡ None) ⊎ ((s : Dimensions) × IsShape s × (next ≡ Some (record { world = opening s; moment = 0 })))
-        → length (turns_in next_of None lines) ≤ length lines * line_burden
-        → length (turns_in next_of next lines) ≤ length lines * line_burden
-    either next (inl none) later = subst (λ (q : Option Play). length (turns_in next_of q lines) ≤ length lines * line_burden) (sym none) later
-    either next (inr (s, limits, some)) later = subst (λ (q : Option Play). length (turns_in next_of q lines) ≤ length lines * line_burden) (sym some)
+        → length (turns_of_lines next_of None lines) ≤ length lines * line_burden
+        → length (turns_of_lines next_of next lines) ≤ length lines * line_burden
+    either next (inl none) later = subst (λ (q : Option Play). length (turns_of_lines next_of q lines) ≤ length lines * line_burden) (sym none) later
+    either next (inr (s, limits, some)) later = subst (λ (q : Option Play). length (turns_of_lines next_of q lines) ≤ length lines * line_burden) (sym some)
         (named s limits)
 
-    by : (next : PlayNext) → next_of None line ≡ next → length (turns_in next_of None lines) ≤ length lines * line_burden
+    by : (next : PlayNext) → next_of None line ≡ next → length (turns_of_lines next_of None lines) ≤ length lines * line_burden
         → length (turns_after next_of next lines) ≤ suc (length lines) * line_burden
     by Ends is later = omega arith
     by (Refused cause) is later = omega arith
@@ -62,5 +62,5 @@ turns-few (line ∷ lines) = by (next_of None line) refl (turns-few lines)
         let opens = line-opens line next turns text is in
         let rest = either next opens.is later in
         let quiet = ap length opens.quiet in
-        let both = length-append turns (turns_in next_of next lines) in
+        let both = length-append turns (turns_of_lines next_of next lines) in
         omega (arith, rest, quiet, both)

@@ -5,7 +5,7 @@ use Rattle.std.specs.Prelude.{All}
 use Rattle.group_calls.specs.Turns.{log_of}
 use Rattle.scenario_run.specs.Lines.{lines_of}
 use Rattle.scenario_run.specs.Promises.{KeepsPromises}
-use Rattle.scenario_run.specs.Script.{first_fault, shape_of, transcript, turns_of}
+use Rattle.scenario_run.specs.Script.{first_fault, script_shape, script_turns, transcript}
 use Rattle.scenario_run.proofs.Promises.{scripts_keep_promises}
 use Rattle.scenario_play.specs.Status.{longest_script}
 use Rattle.run_verify.proofs.Judged.{lines-few}
@@ -23,7 +23,7 @@ use Rattle.law_transcripts.proofs.Tells.{script-tells}
 
 pub record IsToldBy (text : List ℕ) (script : Script) : Type 0 where
   pub steps : script.steps ≡ steps_along None (lines_of text)
-  pub shape : shape_of text ≡ Some script.shape
+  pub shape : script_shape text ≡ Some script.shape
   pub lines : lines_of (transcript text) ≡ lines_told (told_along None (lines_of text))
   pub tells : TellAll script.steps (told_along None (lines_of text))
 
@@ -32,7 +32,7 @@ pub told-by : (text : List ℕ) (script : Script) → length text ≤ longest_sc
 told-by text script short whole ok = record {
   steps = (script-is text script ok).0;
   shape = (script-is text script ok).1;
-  lines = lines-told None (lines_of text) (All-weaker FineEntry PlainKey (λ e fine. fine.1) (log_of (turns_of text)) ops);
+  lines = lines-told None (lines_of text) (All-weaker FineEntry PlainKey (λ e fine. fine.1) (log_of (script_turns text)) ops);
   tells = subst (λ (steps : List Step). TellAll steps (told_along None (lines_of text))) (sym (script-is text script ok).0)
       (script-tells (lines_of text) (omega (arith, few, short)) fits);
 } where
@@ -42,15 +42,15 @@ told-by text script short whole ok = record {
   few : length (lines_of text) ≤ length text + 1
   few = lines-few text
 
-  ops : All FineEntry (log_of (turns_of text))
-  ops = ops-fine promises.shape.k (turns_of text) promises.within (turns-fine None (lines_of text))
+  ops : All FineEntry (log_of (script_turns text))
+  ops = ops-fine promises.shape.k (script_turns text) promises.within (turns-fine None (lines_of text))
 
-  replies : All FitsLogged (log_of (turns_of text))
+  replies : All FitsLogged (log_of (script_turns text))
   replies =
       let many = turns-few (lines_of text) in
-      let log = log-short promises.shape.k (turns_of text) promises.within in
+      let log = log-short promises.shape.k (script_turns text) promises.within in
       let lines = few in
-      replies-fit promises.shape.k (log_of (turns_of text)) (omega (arith, many, log, lines, short)) promises.legal ops
+      replies-fit promises.shape.k (log_of (script_turns text)) (omega (arith, many, log, lines, short)) promises.legal ops
 
-  fits : All FitsIfReply (turns_of text)
-  fits = turns-fit promises.shape.k (turns_of text) promises.within replies
+  fits : All FitsIfReply (script_turns text)
+  fits = turns-fit promises.shape.k (script_turns text) promises.within replies

@@ -12,7 +12,7 @@ use Rattle.memc_table.specs.declared.act.Act.{Act}
 use Rattle.scenario_text.proofs.ActWords.{key-words}
 use Rattle.scenario_text.proofs.LineWords.{ReadsLine, line_of-words}
 use Rattle.scenario_text.proofs.Read.{passed}
-use Rattle.scenario_text.specs.Meaning.{line_of}
+use Rattle.scenario_text.specs.Meaning.{line_meaning}
 use Rattle.scenario_text.specs.Words.{key_of_word}
 use Rattle.scenario_text.specs.declared.line.Line.{Line}
 use Rattle.scenario_text.specs.declared.line.Line.TheVariants.{Ask}
@@ -50,5 +50,5 @@ line-key : (s : Dimensions) (l : Line) → ReadsLine s l → KeyIn l
 line-key s (Ask caller p a) read = let word = key-words a read.2 in key-plain word.0 (key_of a) word.1
 line-key s l read = tt
 
-pub read-key : (s : Dimensions) (line : List ℕ) (l : Line) → line_of (Some s) line ≡ Ok l → KeyIn l
+pub read-key : (s : Dimensions) (line : List ℕ) (l : Line) → line_meaning (Some s) line ≡ Ok l → KeyIn l
 read-key s line l is = line-key s l (line_of-words s line l is)

@@ -15,15 +15,15 @@ use Rattle.group_calls.specs.declared.event.Event.TheVariants as happens
 use Rattle.group_run.specs.Meaning.{is_dead}
 use Rattle.group_run.specs.Shown.{held, is_down, stamp_of}
 use Rattle.group_run.specs.World.{World, step, turns_from}
-use Rattle.scenario_text.specs.Meaning.{line_of}
+use Rattle.scenario_text.specs.Meaning.{line_meaning}
 use Rattle.scenario_text.specs.Texts.{answer_text, entry_text, place_text, shown_text}
 use Rattle.scenario_text.specs.declared.line.Line.{Line}
 use Rattle.scenario_text.specs.declared.line.Line.TheVariants.{Skipped, Group, Ask, Collect, Deliver, Fail, Flush, Trace, Drain, Show, Places, Time, Stop}
 use Rattle.scenario_text.specs.declared.line.LineFault.{LineFault}
 use Rattle.scenario_text.specs.declared.line.LineFault.TheVariants.{BadLine}
-use Rattle.scenario_run.specs.Course.{Ends, Goes, Refused, text_in, turns_in}
+use Rattle.scenario_run.specs.Course.{Ends, Goes, Refused, text_in, turns_of_lines}
 use Rattle.scenario_run.specs.Lines.{lines_of}
-use Rattle.scenario_run.specs.Playing.{Play, PlayNext, by_event, draining, first_by, next_by, next_of, shape_in, then_by}
+use Rattle.scenario_run.specs.Playing.{Play, PlayNext, by_event, draining_unless_down, first_by, next_by, next_of, shape_in, then_by}
 use Rattle.scenario_run.proofs.Following.{turns_after}
 use Rattle.run_verify.specs.Told.{Down, Drained, Lost, Made, Placed, Shown, Told, count_placed, drained_line}
 use Rattle.run_verify.specs.Told.{lines_told, place_lines, placed_line, run_lines, told_lines}
@@ -97,7 +97,7 @@ then-plain p (Trace caller call d from) = by (nat_lt call (at 0 p.world.asked ca
     by : (b : Bool) → TellsPlainly (if b then by_event p (happens.Trace caller call d from) else Refused BadLine) (told_by p (Trace caller call d from))
     by true = made-plain (step p.world (happens.Trace caller call d from)).turn
     by false = tt
-then-plain p Drain = λ keys. drained-plain (turns_from p.world (draining p.world)) keys
+then-plain p Drain = λ keys. drained-plain (turns_from p.world (draining_unless_down p.world)) keys
 then-plain p (Show from run) = λ keys. looked-plain p.world from run
 then-plain p Places = λ keys. placed-plain (places_of p.world)
 then-plain p (Time moment) = λ keys. All-nil Plain
@@ -114,23 +114,26 @@ line-plain None (Ok l) = by (first_by l)
     by Ends = tt
     by (Refused cause) = tt
 
-pub told-plain : (p : Option Play) (lines : List (List ℕ)) → All PlainKey (log_of (turns_in next_of p lines)) → All Plain (lines_told (told_along p lines))
+pub told-plain : (p : Option Play) (lines : List (List ℕ)) → All PlainKey (log_of (turns_of_lines next_of p lines))
+    → All Plain (lines_told (told_along p lines))
 told-plain p [] keys = All-nil Plain
-told-plain p (line ∷ lines) keys = by (next_of p line) (line-plain p (line_of (shape_in p) line)) (λ q. told-plain q lines) keys
+told-plain p (line ∷ lines) keys = by (next_of p line) (line-plain p (line_meaning (shape_in p) line)) (λ q. told-plain q lines) keys
   where
-    by : (next : PlayNext) → TellsPlainly next (told_on p (line_of (shape_in p) line))
-        → ((q : Option Play) → All PlainKey (log_of (turns_in next_of q lines)) → All Plain (lines_told (told_along q lines)))
+    by : (next : PlayNext) → TellsPlainly next (told_on p (line_meaning (shape_in p) line))
+        → ((q : Option Play) → All PlainKey (log_of (turns_of_lines next_of q lines)) → All Plain (lines_told (told_along q lines)))
         → All PlainKey (log_of (turns_after next_of next lines)) → All Plain (lines_told (told_from p line lines next))
     by Ends own later keys = All-nil Plain
     by (Refused cause) own later keys = All-nil Plain
     by (Goes q turns text) own later keys =
-        let told : List Told = told_on p (line_of (shape_in p) line) in
-        let both : All PlainKey (log_of turns ++ log_of (turns_in next_of q lines)) = subst (All PlainKey) (log-append turns (turns_in next_of q lines)) keys in
+        let told : List Told = told_on p (line_meaning (shape_in p) line) in
+        let both : All PlainKey (log_of turns ++ log_of (turns_of_lines next_of q lines)) =
+        subst (All PlainKey) (log-append turns (turns_of_lines next_of q lines)) keys in
         subst (All Plain) (sym (lines-append told (told_along q lines)))
-        (All-append Plain (lines_told told) (lines_told (told_along q lines)) (own (front-all PlainKey (log_of turns) (log_of (turns_in next_of q lines)) both))
-        (later q (back-all PlainKey (log_of turns) (log_of (turns_in next_of q lines)) both)))
+        (All-append Plain (lines_told told) (lines_told (told_along q lines))
+        (own (front-all PlainKey (log_of turns) (log_of (turns_of_lines next_of q lines)) both))
+        (later q (back-all PlainKey (log_of turns) (log_of (turns_of_lines next_of q lines)) both)))
 
 -- the transcript is cut into the lines that are told
-pub lines-told : (p : Option Play) (lines : List (List ℕ)) → All PlainKey (log_of (turns_in next_of p lines))
+pub lines-told : (p : Option Play) (lines : List (List ℕ)) → All PlainKey (log_of (turns_of_lines next_of p lines))
     → lines_of (text_in next_of p lines) ≡ lines_told (told_along p lines)
 lines-told p lines keys = ap lines_of (text-joined p lines) ∙ lines-joined (lines_told (told_along p lines)) (told-plain p lines keys)

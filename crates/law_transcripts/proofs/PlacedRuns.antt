@@ -19,7 +19,7 @@ use Rattle.group_run.specs.Headline.{IsRun, ValuesWritten}
 use Rattle.group_run.specs.Meaning.{Logged, is_update_of, next_run, runs_left, updates_from, updates_of}
 use Rattle.group_run.specs.Replica.{run_of}
 use Rattle.group_run.specs.World.{World, after, front_if}
-use Rattle.law_updates.specs.Store.{Store, no_store, stored}
+use Rattle.law_updates.specs.Store.{Store, no_store, store_with_update}
 use Rattle.law_log.specs.Book.{book_of}
 use Rattle.law_log.specs.Stands.{StandsAlways}
 use Rattle.law_log.proofs.Cuts.{count_in, one_if, updates-runs}
@@ -45,7 +45,7 @@ runs-shown s d store [] [] shown = refl
 runs-shown s d store [] (l ∷ ls) shown = absurd shown
 runs-shown s d store (u ∷ us) [] shown = absurd shown
 runs-shown s d store (u ∷ us) (l ∷ ls) shown =
-    ap₂ (λ (r : Option Run) (rs : List (Option Run)). r ∷ rs) (sym shown.0.logged.run) (runs-shown s d (stored s d u store) us ls shown.1)
+    ap₂ (λ (r : Option Run) (rs : List (Option Run)). r ∷ rs) (sym shown.0.logged.run) (runs-shown s d (store_with_update s d u store) us ls shown.1)
 
 numbers-after : (s : Dimensions) (es : List Event) → IsRun s es → (d : ℕ) → d < s.k
     → map (λ l. l.run) (updates_of (after s es) d) ≡ at [] (after s es).places d

@@ -7,7 +7,7 @@ use Rattle.group_types.specs.declared.run.Run.{Run}
 use Rattle.group_calls.specs.Turns.{Turn, log_of}
 use Rattle.group_calls.specs.declared.entry.Entry.{Entry}
 use Rattle.group_run.specs.World.{World}
-use Rattle.scenario_text.specs.Meaning.{IsLineOf, line_of}
+use Rattle.scenario_text.specs.Meaning.{IsLineOf, line_meaning}
 use Rattle.scenario_text.specs.declared.line.Line.{Line}
 use Rattle.scenario_text.specs.declared.line.Line.TheVariants.{Show, Places}
 use Rattle.scenario_text.specs.declared.line.LineFault.{LineFault}
@@ -40,7 +40,7 @@ pub record Course (s : Dimensions) (w : World) (turns : List Turn) (steps : List
 
 -- for a line that is read so, and for those behind it
 abbrev FromLine : Dimensions → Play → List Turn → Option Play → List (List ℕ) → Result Line LineFault → Type 0
-FromLine s p turns next lines l = Course s p.world (turns ++ course.turns_in next_of next lines) (steps_on (Some p) l ++ steps_along next lines)
+FromLine s p turns next lines l = Course s p.world (turns ++ course.turns_of_lines next_of next lines) (steps_on (Some p) l ++ steps_along next lines)
     (told_on (Some p) l ++ told_along next lines)
 
 -- a line that asks for the places is the last that asks something
@@ -64,8 +64,8 @@ last-line s p l next turns text lines is goes ends = subst (FromLine s p turns n
     quiet = let both = parts (Some p) next [] turns (placed_text [] p.world) text
         (subst (λ (x : Result Line LineFault). next_by (Some p) x ≡ Goes next turns text) is goes) in both.1
 
-    all : turns ++ course.turns_in next_of next lines ≡ []
-    all = ap (λ (ts : List Turn). ts ++ course.turns_in next_of next lines) quiet ∙ sym (turns-along next lines) ∙ ap turns_told silent
+    all : turns ++ course.turns_of_lines next_of next lines ≡ []
+    all = ap (λ (ts : List Turn). ts ++ course.turns_of_lines next_of next lines) quiet ∙ sym (turns-along next lines) ∙ ap turns_told silent
 
 -- a look on the way to a group is well shown with the runs of that group
 look-on : (s : Dimensions) (p : Play) (l : Result Line LineFault) (v : World) (turns : List Turn) → IsLedTo s p.world
@@ -97,28 +97,29 @@ other-line s p l v turns more steps told led leads within told_is other rest = r
 
 module _ (s : Dimensions) where
   pub along : (p : Play) (lines : List (List ℕ)) → IsLedTo s p.world → EndsPlacing (steps_along (Some p) lines)
-      → Course s p.world (course.turns_in next_of (Some p) lines) (steps_along (Some p) lines) (told_along (Some p) lines)
+      → Course s p.world (course.turns_of_lines next_of (Some p) lines) (steps_along (Some p) lines) (told_along (Some p) lines)
   along p [] led ends = absurd ends
   along p (line ∷ lines) led ends = by (next_of (Some p) line) refl ends (λ q. along q lines) where
-    within : (l : Line) → line_of (Some p.world.shape) line ≡ Ok l → IsLineOf (Some p.world.shape) l
+    within : (l : Line) → line_meaning (Some p.world.shape) line ≡ Ok l → IsLineOf (Some p.world.shape) l
     within l reads = line_of-within (Some p.world.shape) line l reads
 
     by : (next : PlayNext) → next_of (Some p) line ≡ next → EndsPlacing (steps_after (Some p) line next lines)
         → ((q : Play) → IsLedTo s q.world → EndsPlacing (steps_along (Some q) lines)
-        → Course s q.world (course.turns_in next_of (Some q) lines) (steps_along (Some q) lines) (told_along (Some q) lines))
+        → Course s q.world (course.turns_of_lines next_of (Some q) lines) (steps_along (Some q) lines) (told_along (Some q) lines))
         → Course s p.world (turns_after next_of next lines) (steps_after (Some p) line next lines) (told_after (Some p) line next lines)
     by Ends is ends later = absurd ends
     by (Refused cause) is ends later = absurd ends
-    by (Goes next turns text) is ends later = either (places-or-other p (line_of (Some p.world.shape) line)) where
+    by (Goes next turns text) is ends later = either (places-or-other p (line_meaning (Some p.world.shape) line)) where
       on : GoesOn p.world next turns
       on = line-leads s p line next turns text led is
 
-      either : (line_of (Some p.world.shape) line ≡ Ok Places) ⊎ IsOther p (line_of (Some p.world.shape) line)
-          → FromLine s p turns next lines (line_of (Some p.world.shape) line)
-      either (inl places) = last-line s p (line_of (Some p.world.shape) line) next turns text lines places is ends
+      either : (line_meaning (Some p.world.shape) line ≡ Ok Places) ⊎ IsOther p (line_meaning (Some p.world.shape) line)
+          → FromLine s p turns next lines (line_meaning (Some p.world.shape) line)
+      either (inl places) = last-line s p (line_meaning (Some p.world.shape) line) next turns text lines places is ends
       either (inr other) =
           let rest = later on.play (led-on s p.world on.play.world turns led on.leads)
           (subst (λ (q : Option Play). EndsPlacing (steps_along q lines)) on.is (other.ends (steps_along next lines) ends)) in
-          other-line s p (line_of (Some p.world.shape) line) on.play.world turns (course.turns_in next_of next lines)
+          other-line s p (line_meaning (Some p.world.shape) line) on.play.world turns (course.turns_of_lines next_of next lines)
           (steps_along next lines) (told_along next lines) led on.leads within (turns-line-told (Some p) line next turns text is) other
-          (subst (λ (q : Option Play). Course s on.play.world (course.turns_in next_of q lines) (steps_along q lines) (told_along q lines)) (sym on.is) rest)
+          (subst (λ (q : Option Play). Course s on.play.world (course.turns_of_lines next_of q lines) (steps_along q lines) (told_along q lines))
+          (sym on.is) rest)

@@ -14,15 +14,15 @@ use Rattle.group_calls.specs.declared.event.Event.TheVariants as happens
 use Rattle.group_run.specs.Meaning.{is_dead}
 use Rattle.group_run.specs.Shown.{held, is_down, stamp_of}
 use Rattle.group_run.specs.World.{step, turns_from}
-use Rattle.scenario_text.specs.Meaning.{line_of}
+use Rattle.scenario_text.specs.Meaning.{line_meaning}
 use Rattle.scenario_text.specs.declared.line.Line.{Line}
 use Rattle.scenario_text.specs.declared.line.Line.TheVariants.{Skipped, Group, Ask, Collect, Deliver, Fail, Flush, Trace, Drain, Show, Places, Time, Stop}
 use Rattle.scenario_text.specs.declared.line.LineFault.{LineFault}
 use Rattle.scenario_run.specs.Course.{Ends, Goes, Refused}
-use Rattle.scenario_run.specs.Playing.{Play, PlayNext, draining, next_of, shape_in}
+use Rattle.scenario_run.specs.Playing.{Play, PlayNext, draining_unless_down, next_of, shape_in}
 use Rattle.run_verify.specs.Checked.{AreWellShown, IsWellShown}
 use Rattle.run_verify.specs.Plain.{EndsPlacing}
-use Rattle.run_verify.specs.Told.{Told, Made, Drained, Shown, Lost, Down, Placed, runs_in, runs_told, turns_in, turns_told}
+use Rattle.run_verify.specs.Told.{Told, Made, Drained, Shown, Lost, Down, Placed, runs_told_in, runs_told, turns_told_in, turns_told}
 use Rattle.run_verify.specs.declared.step.Step.{Step}
 use Rattle.run_verify.specs.declared.step.Step.TheVariants.{Make, Deliveries, Look, Placing}
 use Rattle.law_transcripts.proofs.Telling.{looked, places_of, steps_along, steps_by, steps_on, told_along, told_by, told_on}
@@ -53,7 +53,7 @@ lengths-on (Some p) (Ok l) = lengths-by p l
 -- the steps of a line that does this, and of those behind it
 abbrev pub steps_after : Option Play → List ℕ → PlayNext → List (List ℕ) → List Step
 steps_after play line next lines = elim next
-    [ Goes state turns text ↦ steps_on play (line_of (shape_in play) line) ++ steps_along state lines | Ends ↦ [] | Refused cause ↦ [] ]
+    [ Goes state turns text ↦ steps_on play (line_meaning (shape_in play) line) ++ steps_along state lines | Ends ↦ [] | Refused cause ↦ [] ]
 
 as-many : (play : Option Play) (lines : List (List ℕ)) → length (steps_along play lines) ≡ length (told_along play lines)
 as-many play [] = refl
@@ -63,9 +63,9 @@ as-many play (line ∷ lines) = by (next_of play line) (λ q. as-many q lines) w
   by Ends later = refl
   by (Refused cause) later = refl
   by (Goes next turns text) later =
-      length-append (steps_on play (line_of (shape_in play) line)) (steps_along next lines)
-      ∙ ap₂ (λ (m n : ℕ). m + n) (lengths-on play (line_of (shape_in play) line)) (later next)
-      ∙ sym (length-append (told_on play (line_of (shape_in play) line)) (told_along next lines))
+      length-append (steps_on play (line_meaning (shape_in play) line)) (steps_along next lines)
+      ∙ ap₂ (λ (m n : ℕ). m + n) (lengths-on play (line_meaning (shape_in play) line)) (later next)
+      ∙ sym (length-append (told_on play (line_meaning (shape_in play) line)) (told_along next lines))
 
 empty : (told : List Told) → length told ≡ 0 → told ≡ []
 empty [] is = refl
@@ -77,9 +77,9 @@ none-told play lines none = empty (told_along play lines) (sym (as-many play lin
 
 -- ---- runs
 
-runs-looked : (p : Play) (from : ProcessId) (run : Run) → runs_in (looked p.world from run) ≡ []
+runs-looked : (p : Play) (from : ProcessId) (run : Run) → runs_told_in (looked p.world from run) ≡ []
 runs-looked p from run = by (is_down p.world) (is_dead p.world from) where
-  by : (down dead : Bool) → runs_in (if down then Down else (if dead then Lost else Shown (stamp_of p.world from) (held p.world from run))) ≡ []
+  by : (down dead : Bool) → runs_told_in (if down then Down else (if dead then Lost else Shown (stamp_of p.world from) (held p.world from run))) ≡ []
   by true dead = refl
   by false true = refl
   by false false = refl
@@ -101,15 +101,15 @@ places-or-other p (Ok (Flush from)) = inr (record { runs = refl; ends = λ steps
 places-or-other p (Ok (Trace caller call d from)) = inr (record { runs = refl; ends = λ steps ends. ends })
 places-or-other p (Ok Drain) = inr (record { runs = refl; ends = λ steps ends. ends })
 places-or-other p (Ok (Show from run)) = inr
-    (record { runs = append-nil (runs_in (looked p.world from run)) ∙ runs-looked p from run; ends = λ steps ends. ends })
+    (record { runs = append-nil (runs_told_in (looked p.world from run)) ∙ runs-looked p from run; ends = λ steps ends. ends })
 places-or-other p (Ok Places) = inl refl
 places-or-other p (Ok (Time moment)) = inr (record { runs = refl; ends = λ steps ends. ends })
 places-or-other p (Ok Stop) = inr (record { runs = refl; ends = λ steps ends. ends })
 
 pub runs-append : (xs ys : List Told) → runs_told (xs ++ ys) ≡ runs_told xs ++ runs_told ys
 runs-append [] ys = refl
-runs-append (x ∷ xs) ys = ap (λ (rs : List (List (Option Run))). runs_in x ++ rs) (runs-append xs ys)
-    ∙ sym (append_assoc (runs_in x) (runs_told xs) (runs_told ys))
+runs-append (x ∷ xs) ys = ap (λ (rs : List (List (Option Run))). runs_told_in x ++ rs) (runs-append xs ys)
+    ∙ sym (append_assoc (runs_told_in x) (runs_told xs) (runs_told ys))
 
 -- ---- bytes
 
@@ -119,7 +119,7 @@ module _ (s : Dimensions) (runs : List (List (Option Run))) (log : List Entry) (
 
   one-shown : (step : Step) (told : Told) → IsWellShown s runs log step told
       → AreWellShown s runs (log ++ log_of (turns_told (told ∷ []))) steps more → AreWellShown s runs log (step ∷ steps) (told ∷ more)
-  one-shown step told is rest = (is, subst (λ (ts : List Turn). AreWellShown s runs (log ++ log_of ts) steps more) (append-nil (turns_in told)) rest)
+  one-shown step told is rest = (is, subst (λ (ts : List Turn). AreWellShown s runs (log ++ log_of ts) steps more) (append-nil (turns_told_in told)) rest)
 
   -- what is told for a line is well shown, where a look is, and so is what is told behind it
   pub line-shown : (p : Play) (l : Result Line LineFault)
@@ -138,7 +138,8 @@ module _ (s : Dimensions) (runs : List (List (Option Run))) (log : List Entry) (
   line-shown p (Ok (Flush from)) look rest = let e : Event = happens.Flush from in one-shown (Make e) (Made (step p.world e).turn) tt rest
   line-shown p (Ok (Trace caller call d from)) look rest = let e : Event = happens.Trace caller call d from in
       one-shown (Make e) (Made (step p.world e).turn) tt rest
-  line-shown p (Ok Drain) look rest = let ts : List Turn = turns_from p.world (draining p.world) in one-shown Deliveries (Drained ts (length ts)) tt rest
+  line-shown p (Ok Drain) look rest = let ts : List Turn =
+      turns_from p.world (draining_unless_down p.world) in one-shown Deliveries (Drained ts (length ts)) tt rest
   line-shown p (Ok (Show from run)) look rest = one-shown (Look from run) (looked p.world from run) (look from run refl) rest
   line-shown p (Ok Places) look rest = one-shown Placing (Placed (places_of p.world)) tt rest
   line-shown p (Ok (Time moment)) look rest = none-shown rest

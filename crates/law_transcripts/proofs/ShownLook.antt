@@ -23,7 +23,7 @@ use Rattle.scenario_run.proofs.Leading.{IsLedTo, led-shape}
 use Rattle.scenario_run.proofs.Truth.{up}
 use Rattle.run_verify.specs.Checked.{IsWellShown}
 use Rattle.run_verify.specs.Told.{Shown, Lost, Down}
-use Rattle.run_verify.specs.Updates.{IsStampOf, space_after, space_at, spaces_by, updates_by}
+use Rattle.run_verify.specs.Updates.{IsStampOf, space_after_updates, space_at, spaces_by, updates_by}
 use Rattle.run_verify.specs.declared.step.Step.TheVariants.{Look}
 use Rattle.law_transcripts.proofs.PlacedGrow.{Begins}
 use Rattle.law_transcripts.proofs.PlacedRuns.{updates-stay}
@@ -35,7 +35,7 @@ module _ (w : World) (runs : List (List (Option Run))) (same : (d : ℕ) → d <
   counts d = length (updates_by w.shape runs w.log d)
 
   abbrev spaces : ℕ → ℕ → List ℕ
-  spaces d n = space_after w.shape (updates_by w.shape runs w.log d) n
+  spaces d n = space_after_updates w.shape (updates_by w.shape runs w.log d) n
 
   -- ---- the stamp
 

@@ -9,7 +9,7 @@ use Rattle.scenario_run.specs.Lines.{lines_of}
 use Rattle.scenario_run.specs.Playing.{next_of}
 use Rattle.scenario_run.specs.Course.{named_in}
 use Rattle.scenario_run.specs.Promises.{KeepsPromises}
-use Rattle.scenario_run.specs.Script.{shape_of}
+use Rattle.scenario_run.specs.Script.{script_shape}
 use Rattle.run_verify.specs.Checked.{ArePlaced, AreWellShown, RepliesWithin}
 use Rattle.run_verify.specs.Plain.{EndsPlacing}
 use Rattle.run_verify.specs.Told.{Told, runs_told, turns_told}
@@ -25,7 +25,7 @@ pub record IsTold (s : Dimensions) (steps : List Step) (told : List Told) : Type
   pub placed : ArePlaced s (log_of (turns_told told)) (runs_told told)
   pub shown : AreWellShown s (runs_told told) [] steps told
 
-pub told-true : (text : List ℕ) (s : Dimensions) → KeepsPromises text → shape_of text ≡ Some s → EndsPlacing (steps_along None (lines_of text))
+pub told-true : (text : List ℕ) (s : Dimensions) → KeepsPromises text → script_shape text ≡ Some s → EndsPlacing (steps_along None (lines_of text))
     → IsTold s (steps_along None (lines_of text)) (told_along None (lines_of text))
 told-true text s keeps named ends = record {
   legal = subst (λ (t : Dimensions). IsLegal t.k (log_of (turns_told told))) (some-same keeps.shape s (sym keeps.named ∙ named)) (legal-told text keeps);

@@ -48,14 +48,14 @@ opened-whole s lines limits ends = record {
     told : List Told
     told = told_along (Some p) lines
 
-    on : Course s (opening s) (course.turns_in next_of (Some p) lines) (steps_along (Some p) lines) told
+    on : Course s (opening s) (course.turns_of_lines next_of (Some p) lines) (steps_along (Some p) lines) told
     on = along s p lines (opened s limits) ends
 
     led : IsLedTo s on.last
-    led = led-on s (opening s) on.last (course.turns_in next_of (Some p) lines) (opened s limits) on.leads
+    led = led-on s (opening s) on.last (course.turns_of_lines next_of (Some p) lines) (opened s limits) on.leads
 
     log_is : on.last.log ≡ log_of (turns_told told)
-    log_is = leads-log (opening s) on.last (course.turns_in next_of (Some p) lines) on.leads ∙ ap log_of (sym (turns-along (Some p) lines))
+    log_is = leads-log (opening s) on.last (course.turns_of_lines next_of (Some p) lines) on.leads ∙ ap log_of (sym (turns-along (Some p) lines))
 
 -- before it
 pub whole : (lines : List (List ℕ)) → EndsPlacing (steps_along None lines)

@@ -1,15 +1,15 @@
 -- The steps of a script that is read are those that its course asks, and its shape is that of the group.
 use Rattle.std.proofs.Common.{◌≡◌, ◌+◌, ℕ, Bool, true, false, List, [], ◌∷◌, ◌++◌, ◌∙◌, Option, Some, None, Result, Ok, Err, refl, sym, ap}
 use Rattle.group_types.specs.Dimensions.{Dimensions}
-use Rattle.scenario_text.specs.Meaning.{is_skipped, line_of}
+use Rattle.scenario_text.specs.Meaning.{is_skipped, line_meaning}
 use Rattle.scenario_text.specs.declared.line.LineFault.{LineFault}
 use Rattle.scenario_run.specs.Course.{Ends, Fault, Goes, Refused, named_in}
 use Rattle.scenario_run.specs.Lines.{lines_of}
 use Rattle.scenario_run.specs.Playing.{Play, PlayNext, next_of, shape_in}
-use Rattle.scenario_run.specs.Script.{shape_of}
+use Rattle.scenario_run.specs.Script.{script_shape}
 use Rattle.scenario_run.proofs.Following.{named-line}
 use Rattle.run_verify.specs.Steps as verify
-use Rattle.run_verify.specs.Steps.{Script, Setting, StepNext, behind, ended, from_line, script_in, stands_well}
+use Rattle.run_verify.specs.Steps.{Script, Setting, StepNext, behind, ended, script_from_line, script_in, stands_well}
 use Rattle.run_verify.specs.declared.step.Step.{Step}
 use Rattle.run_verify.proofs.PlainScript.{skips}
 use Rattle.law_transcripts.proofs.Beside.{Beside, SameNext, Stays, line-beside}
@@ -24,7 +24,8 @@ IsScript p lines script = (script.steps ≡ steps_along p lines) × (shape_in (n
 
 -- the steps from a line on, by what it does
 abbrev pub steps_from : Option Play → List ℕ → List (List ℕ) → PlayNext → List Step
-steps_from p line lines next = elim next [ Goes q turns text ↦ steps_on p (line_of (shape_in p) line) ++ steps_along q lines | Ends ↦ [] | Refused cause ↦ [] ]
+steps_from p line lines next =
+    elim next [ Goes q turns text ↦ steps_on p (line_meaning (shape_in p) line) ++ steps_along q lines | Ends ↦ [] | Refused cause ↦ [] ]
 
 abbrev Goal : List (List ℕ) → Type 0
 Goal lines = (n : ℕ) (s : Option Setting) (p : Option Play) (script : Script) → Beside s p → script_in n s lines ≡ Ok script → IsScript p lines script
@@ -52,8 +53,8 @@ ends n (Some s) (Some p) lines script same is =
 
 from-next : (line : List ℕ) (lines : List (List ℕ)) → Goal lines → (n : ℕ) (s : Option Setting) (p : Option Play) (script : Script) → Beside s p
     → (a : StepNext) (b : PlayNext) → next_of p line ≡ b
-    → SameNext p a b (steps_on p (line_of (shape_in p) line)) → (skipped well : Bool) → (skipped ≡ true → a ≡ Goes s [] [])
-    → from_line skipped well n s a (λ next. script_in (n + 1) next lines) ≡ Ok script
+    → SameNext p a b (steps_on p (line_meaning (shape_in p) line)) → (skipped well : Bool) → (skipped ≡ true → a ≡ Goes s [] [])
+    → script_from_line skipped well n s a (λ next. script_in (n + 1) next lines) ≡ Ok script
     → (script.steps ≡ steps_from p line lines b) × (shape_in (named_in next_of p (line ∷ lines)) ≡ Some script.shape)
 from-next line lines onward n s p script same (Goes t steps text) (Goes q turns written) is (beside, own, stays) true well skips_it ok =
     let rest = onward (n + 1) t q script beside ok in
@@ -79,10 +80,10 @@ from-next line lines onward n s p script same (Refused a) Ends is next skipped w
 is-script : (lines : List (List ℕ)) → Goal lines
 is-script [] n s p script same ok = ends n s p [] script same ok
 is-script (line ∷ lines) n s p script same ok =
-    from-next line lines (is-script lines) n s p script same (verify.next_of s line) (next_of p line) refl (line-beside s p line same) (is_skipped line)
+    from-next line lines (is-script lines) n s p script same (verify.steps_of_line s line) (next_of p line) refl (line-beside s p line same) (is_skipped line)
     (stands_well line lines) (λ skipped. skips line s skipped) ok
 
 -- the steps that are read, and the shape
 pub script-is : (text : List ℕ) (script : Script) → script_in 1 None (lines_of text) ≡ Ok script
-    → (script.steps ≡ steps_along None (lines_of text)) × (shape_of text ≡ Some script.shape)
+    → (script.steps ≡ steps_along None (lines_of text)) × (script_shape text ≡ Some script.shape)
 script-is text script ok = is-script (lines_of text) 1 None None script tt ok

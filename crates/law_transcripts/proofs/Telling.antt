@@ -9,12 +9,12 @@ use Rattle.group_calls.specs.declared.event.Event.TheVariants as happens
 use Rattle.group_run.specs.Meaning.{is_dead}
 use Rattle.group_run.specs.Shown.{held, is_down, stamp_of}
 use Rattle.group_run.specs.World.{World, step, turns_from}
-use Rattle.scenario_text.specs.Meaning.{line_of}
+use Rattle.scenario_text.specs.Meaning.{line_meaning}
 use Rattle.scenario_text.specs.declared.line.Line.{Line}
 use Rattle.scenario_text.specs.declared.line.Line.TheVariants.{Ask, Collect, Deliver, Fail, Flush, Trace, Drain, Show, Places}
 use Rattle.scenario_text.specs.declared.line.LineFault.{LineFault}
 use Rattle.scenario_run.specs.Course.{Goes, Ends, Refused}
-use Rattle.scenario_run.specs.Playing.{Play, draining, next_of, shape_in}
+use Rattle.scenario_run.specs.Playing.{Play, draining_unless_down, next_of, shape_in}
 use Rattle.run_verify.specs.declared.step.Step.{Step}
 use Rattle.run_verify.specs.declared.step.Step.TheVariants.{Make, Deliveries, Look, Placing}
 use Rattle.run_verify.specs.Told.{Told, Made, Drained, Shown, Lost, Down, Placed}
@@ -43,7 +43,7 @@ told_by p (Deliver from to) = made p (happens.Deliver from to)
 told_by p (Fail from keep) = made p (happens.Fail from keep)
 told_by p (Flush from) = made p (happens.Flush from)
 told_by p (Trace caller call partition from) = made p (happens.Trace caller call partition from)
-told_by p Drain = drained p.world (draining p.world)
+told_by p Drain = drained p.world (draining_unless_down p.world)
 told_by p (Show from run) = looked p.world from run ∷ []
 told_by p Places = Placed (places_of p.world) ∷ []
 told_by p _ = []
@@ -58,7 +58,7 @@ abbrev pub told_along : Option Play → List (List ℕ) → List Told
 told_along play [] = []
 told_along play (line ∷ lines) =
     elim (next_of play line) [
-      | Goes next turns text ↦ told_on play (line_of (shape_in play) line)
+      | Goes next turns text ↦ told_on play (line_meaning (shape_in play) line)
           ++ told_along next lines
       | Ends ↦ []
       | Refused cause ↦ []
@@ -87,7 +87,7 @@ abbrev pub steps_along : Option Play → List (List ℕ) → List Step
 steps_along play [] = []
 steps_along play (line ∷ lines) =
     elim (next_of play line) [
-      | Goes next turns text ↦ steps_on play (line_of (shape_in play) line)
+      | Goes next turns text ↦ steps_on play (line_meaning (shape_in play) line)
           ++ steps_along next lines
       | Ends ↦ []
       | Refused cause ↦ []

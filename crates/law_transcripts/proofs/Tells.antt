@@ -17,19 +17,19 @@ use Rattle.group_run.specs.Meaning.{is_dead}
 use Rattle.group_run.specs.Shown.{held, is_down, stamp_of}
 use Rattle.group_run.specs.World.{World, after, opening, step, turns_from}
 use Rattle.scenario_text.proofs.Lines.{line_of-within}
-use Rattle.scenario_text.specs.Meaning.{IsLineOf, line_of}
+use Rattle.scenario_text.specs.Meaning.{IsLineOf, line_meaning}
 use Rattle.scenario_text.specs.declared.line.Line.{Line}
 use Rattle.scenario_text.specs.declared.line.Line.TheVariants.{Skipped, Group, Ask, Collect, Deliver, Fail, Flush, Trace, Drain, Show, Places, Time, Stop}
 use Rattle.scenario_text.specs.declared.line.LineFault.{LineFault}
 use Rattle.scenario_text.specs.declared.line.LineFault.TheVariants.{BadLine}
-use Rattle.scenario_run.specs.Course.{Ends, Goes, Refused, turns_in}
-use Rattle.scenario_run.specs.Playing.{Play, PlayNext, by_event, draining, next_by, next_of, then_by}
+use Rattle.scenario_run.specs.Course.{Ends, Goes, Refused, turns_of_lines}
+use Rattle.scenario_run.specs.Playing.{Play, PlayNext, by_event, draining_unless_down, next_by, next_of, then_by}
 use Rattle.scenario_run.proofs.Draining.{burden, drains, line_burden, load-opening}
 use Rattle.scenario_run.proofs.Following.{turns_after}
 use Rattle.scenario_run.proofs.Leading.{IsLedTo, led-on, opened}
 use Rattle.scenario_run.proofs.Running.{GoesOn, line-leads, line-opens}
-use Rattle.transcript_text.specs.Forms.{MayAnswer, kind_of}
-use Rattle.run_verify.specs.Told.{Down, Drained, IsDelivery, Lost, Made, Shown, TellAll, Tells, Told}
+use Rattle.transcript_text.specs.Forms.{MayAnswer, kind_of_event}
+use Rattle.run_verify.specs.Told.{CanBeTold, Down, Drained, IsDelivery, Lost, Made, Shown, TellAll, Told}
 use Rattle.run_verify.specs.declared.step.Step.{Step}
 use Rattle.run_verify.specs.declared.step.Step.TheVariants.{Make, Deliveries, Look}
 use Rattle.law_transcripts.proofs.Answers.{may-answer}
@@ -53,10 +53,10 @@ deliveries-told w (e ∷ es) all =
     All-cons (λ (t : Turn). IsDelivery t.event) (step w e).turn (turns_from (step w e).world es) (All-head IsDelivery e es all)
     (deliveries-told (step w e).world es (All-tail IsDelivery e es all))
 
-looked-tells : (w : World) (p : ProcessId) (run : Run) → Tells (Look p run) (looked w p run)
+looked-tells : (w : World) (p : ProcessId) (run : Run) → CanBeTold (Look p run) (looked w p run)
 looked-tells w p run = by (is_down w) (is_dead w p)
   where
-    by : (down dead : Bool) → Tells (Look p run) (if down then Down else (if dead then Lost else Shown (stamp_of w p) (held w p run)))
+    by : (down dead : Bool) → CanBeTold (Look p run) (if down then Down else (if dead then Lost else Shown (stamp_of w p) (held w p run)))
     by true dead = tt
     by false true = tt
     by false false = tt
@@ -72,22 +72,23 @@ module _ (s : Dimensions) where
       → TellAll (Make e ∷ []) (Made (step w e).turn ∷ [])
   made-tells w e led may few fits = (
     subst (λ (v : World). MayCome v e → v.events < 2 ^ 62 → FitsIfReply (step v e).turn
-        → Tells (Make e) (Made (step v e).turn)) (sym led.is) by may few (All-head FitsIfReply (step w e).turn [] fits),
+        → CanBeTold (Make e) (Made (step v e).turn)) (sym led.is) by may few (All-head FitsIfReply (step w e).turn [] fits),
     tt,
   )
     where
       by : MayCome (after s led.events) e → (after s led.events).events < 2 ^ 62 → FitsIfReply (step (after s led.events) e).turn
-          → Tells (Make e) (Made (step (after s led.events) e).turn)
+          → CanBeTold (Make e) (Made (step (after s led.events) e).turn)
       by may few fits =
-          let can : MayAnswer (kind_of e) (step (after s led.events) e).turn.answer = may-answer s led.events e led.run may in
+          let can : MayAnswer (kind_of_event e) (step (after s led.events) e).turn.answer = may-answer s led.events e led.run may in
           (refl, can, answer-fits s led.events led.run few e may (λ r is. fits r is can))
 
-  drained-tells : (w : World) → IsLedTo s w → burden w < 2 ^ 62 → Tells Deliveries (Drained (turns_from w (draining w)) (length (turns_from w (draining w))))
+  drained-tells : (w : World) → IsLedTo s w → burden w < 2 ^ 62
+      → CanBeTold Deliveries (Drained (turns_from w (draining_unless_down w)) (length (turns_from w (draining_unless_down w))))
   drained-tells w led few =
       let light = (drains s w led).light in
-      let many = events-long w (draining w) in
-      let long = turns-long w (draining w) in
-      (deliveries-told w (draining w) (draining-delivers w), omega (arith, few, light, many, long))
+      let many = events-long w (draining_unless_down w) in
+      let long = turns-long w (draining_unless_down w) in
+      (deliveries-told w (draining_unless_down w) (draining-delivers w), omega (arith, few, light, many, long))
 
   then-tells : (p : Play) (l : Line) → IsLedTo s p.world → burden p.world < 2 ^ 62 → IsLineOf (Some p.world.shape) l
       → TellsNext (then_by p l) (steps_by p l) (told_by p l)
@@ -114,10 +115,11 @@ module _ (s : Dimensions) where
   then-tells p Stop led few within = tt
 
   line-tells : (p : Play) (line : List ℕ) → IsLedTo s p.world → burden p.world < 2 ^ 62
-      → TellsNext (next_of (Some p) line) (steps_on (Some p) (line_of (Some p.world.shape) line)) (told_on (Some p) (line_of (Some p.world.shape) line))
-  line-tells p line led few = by (line_of (Some p.world.shape) line) refl
+      → TellsNext (next_of (Some p) line) (steps_on (Some p) (line_meaning (Some p.world.shape) line))
+      (told_on (Some p) (line_meaning (Some p.world.shape) line))
+  line-tells p line led few = by (line_meaning (Some p.world.shape) line) refl
     where
-      by : (r : Result Line LineFault) → line_of (Some p.world.shape) line ≡ r → TellsNext (next_by (Some p) r) (steps_on (Some p) r) (told_on (Some p) r)
+      by : (r : Result Line LineFault) → line_meaning (Some p.world.shape) line ≡ r → TellsNext (next_by (Some p) r) (steps_on (Some p) r) (told_on (Some p) r)
       by (Err fault) is = tt
       by (Ok l) is = then-tells p l led few (line_of-within (Some p.world.shape) line l is)
 
@@ -125,7 +127,7 @@ module _ (s : Dimensions) where
 
 -- what is told of lines is for their steps
 abbrev TellsAlong : Option Play → List (List ℕ) → Type 0
-TellsAlong p lines = All FitsIfReply (turns_in next_of p lines) → TellAll (steps_along p lines) (told_along p lines)
+TellsAlong p lines = All FitsIfReply (turns_of_lines next_of p lines) → TellAll (steps_along p lines) (told_along p lines)
 
 abbrev Goal : Dimensions → List (List ℕ) → Type 0
 Goal s lines = (q : Play) → IsLedTo s q.world → burden q.world + length lines * line_burden < 2 ^ 62 → TellsAlong (Some q) lines
@@ -135,7 +137,7 @@ named-tells s [] p led few fits = tt
 named-tells s (line ∷ lines) p led few fits = by (next_of (Some p) line) refl (line-tells s p line led (omega (arith, few))) (named-tells s lines) fits
   where
     by : (next : PlayNext) → next_of (Some p) line ≡ next
-        → TellsNext next (steps_on (Some p) (line_of (Some p.world.shape) line)) (told_on (Some p) (line_of (Some p.world.shape) line)) → Goal s lines
+        → TellsNext next (steps_on (Some p) (line_meaning (Some p.world.shape) line)) (told_on (Some p) (line_meaning (Some p.world.shape) line)) → Goal s lines
         → All FitsIfReply (turns_after next_of next lines) → TellAll (steps_from (Some p) line lines next) (told_from (Some p) line lines next)
     by Ends is own later fits = tt
     by (Refused cause) is own later fits = tt
@@ -145,9 +147,11 @@ named-tells s (line ∷ lines) p led few fits = by (next_of (Some p) line) refl 
         let rest : TellsAlong next lines
         = subst (λ (q : Option Play). TellsAlong q lines) (sym on.is)
         (later on.play (led-on s p.world on.play.world turns led on.leads) (omega (arith, few, light))) in
-        tells-append (steps_on (Some p) (line_of (Some p.world.shape) line)) (steps_along next lines) (told_on (Some p) (line_of (Some p.world.shape) line))
+        tells-append (steps_on (Some p) (line_meaning (Some p.world.shape) line)) (steps_along next lines)
+        (told_on (Some p) (line_meaning (Some p.world.shape) line))
         (told_along next lines)
-        (own (front-all FitsIfReply turns (turns_in next_of next lines) fits)) (rest (back-all FitsIfReply turns (turns_in next_of next lines) fits))
+        (own (front-all FitsIfReply turns (turns_of_lines next_of next lines) fits))
+        (rest (back-all FitsIfReply turns (turns_of_lines next_of next lines) fits))
 
 pub script-tells : (lines : List (List ℕ)) → length lines * line_burden < 2 ^ 62 → TellsAlong None lines
 script-tells [] few fits = tt
@@ -167,4 +171,4 @@ script-tells (line ∷ lines) few fits = by (next_of None line) refl (script-tel
     by (Refused cause) is later fits = tt
     by (Goes next turns text) is later fits =
         let opens = line-opens line next turns text is in
-        either next opens.is later (back-all FitsIfReply turns (turns_in next_of next lines) fits)
+        either next opens.is later (back-all FitsIfReply turns (turns_of_lines next_of next lines) fits)

@@ -16,7 +16,7 @@ use Rattle.group_calls.specs.declared.event.Event.TheVariants as happens
 use Rattle.group_run.specs.Meaning.{is_dead}
 use Rattle.group_run.specs.Shown.{held, is_down, stamp_of}
 use Rattle.group_run.specs.World.{World, step, turns_from}
-use Rattle.scenario_text.specs.Meaning.{line_of}
+use Rattle.scenario_text.specs.Meaning.{line_meaning}
 use Rattle.scenario_text.specs.Texts.{answer_text, entries_text, entry_text, many_placed, place_text, places_text, shown_text}
 use Rattle.scenario_text.specs.declared.line.Line.{Line}
 use Rattle.scenario_text.specs.declared.line.Line.TheVariants.{Skipped, Group, Ask, Collect, Deliver, Fail, Flush, Trace, Drain, Show, Places, Time, Stop}
@@ -24,7 +24,8 @@ use Rattle.scenario_text.specs.declared.line.LineFault.{LineFault}
 use Rattle.scenario_text.specs.declared.line.LineFault.TheVariants.{BadLine}
 use Rattle.scenario_run.specs.Course.{Ends, Goes, Refused, text_in}
 use Rattle.scenario_run.specs.Placing.{many_runs, placed_text, runs_text}
-use Rattle.scenario_run.specs.Playing.{Play, PlayNext, by_event, draining, drained_text, first_by, look, next_by, next_of, shape_in, then_by, turn_text}
+use Rattle.scenario_run.specs.Playing.{Play, PlayNext, by_event, drained_text, draining_unless_down, first_by, look, next_by, next_of, shape_in, then_by}
+use Rattle.scenario_run.specs.Playing.{turn_text}
 use Rattle.run_verify.specs.Told.{Down, Drained, Lost, Made, Placed, Shown, Told, count_placed, drained_line}
 use Rattle.run_verify.specs.Told.{lines_told, place_lines, placed_line, run_lines, told_lines}
 use Rattle.law_transcripts.proofs.Joining.{joined, joined-append}
@@ -109,7 +110,7 @@ then-writes p (Trace caller call d from) = by (nat_lt call (at 0 p.world.asked c
     by true = event-writes p (happens.Trace caller call d from)
     by false = tt
 then-writes p Drain =
-    let turns : List Turn = turns_from p.world (draining p.world) in
+    let turns : List Turn = turns_from p.world (draining_unless_down p.world) in
     drained-joined turns ∙ one (Drained turns (length turns))
 then-writes p (Show from run) = looked-joined p.world from run ∙ one (looked p.world from run)
 then-writes p Places = placed-joined p.world ∙ one (Placed (places_of p.world))
@@ -139,22 +140,23 @@ line-writes (Some p) (Ok l) = then-writes p l
 
 -- what is told from a line on, and what is written for it, by what it does
 abbrev pub told_from : Option Play → List ℕ → List (List ℕ) → PlayNext → List Told
-told_from p line lines next = elim next [ Goes q turns text ↦ told_on p (line_of (shape_in p) line) ++ told_along q lines | Ends ↦ [] | Refused cause ↦ [] ]
+told_from p line lines next =
+    elim next [ Goes q turns text ↦ told_on p (line_meaning (shape_in p) line) ++ told_along q lines | Ends ↦ [] | Refused cause ↦ [] ]
 
 abbrev text_from : List (List ℕ) → PlayNext → List ℕ
 text_from lines next = elim next [ Goes q turns text ↦ text ++ text_in next_of q lines | Ends ↦ [] | Refused cause ↦ [] ]
 
 pub text-joined : (p : Option Play) (lines : List (List ℕ)) → text_in next_of p lines ≡ joined (lines_told (told_along p lines))
 text-joined p [] = refl
-text-joined p (line ∷ lines) = by (next_of p line) (line-writes p (line_of (shape_in p) line)) (λ q. text-joined q lines)
+text-joined p (line ∷ lines) = by (next_of p line) (line-writes p (line_meaning (shape_in p) line)) (λ q. text-joined q lines)
   where
-    by : (next : PlayNext) → Writes next (told_on p (line_of (shape_in p) line))
+    by : (next : PlayNext) → Writes next (told_on p (line_meaning (shape_in p) line))
         → ((q : Option Play) → text_in next_of q lines ≡ joined (lines_told (told_along q lines)))
         → text_from lines next ≡ joined (lines_told (told_from p line lines next))
     by Ends writes later = refl
     by (Refused cause) writes later = refl
     by (Goes q turns text) writes later =
-        let own : List Told = told_on p (line_of (shape_in p) line) in
+        let own : List Told = told_on p (line_meaning (shape_in p) line) in
         let rest = later q in
         (λ i. writes i ++ rest i) ∙ sym (joined-append (lines_told own) (lines_told (told_along q lines)))
         ∙ ap joined (sym (lines-append own (told_along q lines)))

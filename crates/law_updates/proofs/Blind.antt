@@ -74,7 +74,7 @@ blind-refused len (Accepted q leaves) r is = absurd (cc is)
 -- no number of digits stands for nothing, nor for more than 20
 few-digits : (bytes : List ℕ) → (length bytes == 0 || nat_lt 20 (length bytes)) ≡ true → number_of bytes ≡ None
 few-digits bytes blind = let none : (nat_le 1 (length bytes) && nat_le (length bytes) 20) ≡ false = grind (arith, common_steps) in
-    ap (λ (b : Bool). if b then numeral.value_of bytes else None) none
+    ap (λ (b : Bool). if b then numeral.numeral_value bytes else None) none
 
 -- the same refusal on any other item as long, where it is blind
 abbrev pub Blindly : ℕ → Ruling → Ruling → Type 0

@@ -18,7 +18,7 @@ use Rattle.group_run.specs.Free.{in_run, in_some_run, is_free}
 use Rattle.group_run.specs.Headline.{AreApart}
 use Rattle.group_run.specs.Replica.{Items, Replica, freed_by, item_settled, items_after, number_on, run_in, run_of, slot_after, slot_in}
 use Rattle.law_updates.specs.Fine.{AreClear}
-use Rattle.law_updates.specs.Right.{IsClear, WritesClear}
+use Rattle.law_updates.specs.Right.{IsClearOfItems, WritesClear}
 use Rattle.law_updates.proofs.Keys.{OfSlot, each-slot, each-with, key-differs, key-refl, slot_in-with}
 use Rattle.law_updates.proofs.Spaces.{in_run-is}
 
@@ -46,14 +46,15 @@ slot-clear run n Remove slot apart old = tt
 slot-clear run n (Touch until) None apart old = tt
 slot-clear run n (Touch until) (Some slot) apart old = old
 
-pub settled-clear : (run : Run) (v : Update) (items : Items) → IfSome (run_of v.body) (AreApart run) → IsClear items run → IsClear (item_settled v items) run
+pub settled-clear : (run : Run) (v : Update) (items : Items) → IfSome (run_of v.body) (AreApart run) → IsClearOfItems items run
+    → IsClearOfItems (item_settled v items) run
 settled-clear run v items apart clear =
     each-with (λ x. AreApart run (run_in x)) v.key (slot_after v.number v.body (slot_in items v.key)) items
     (slot-clear run v.number v.body (slot_in items v.key) apart (each-slot (λ x. AreApart run (run_in x)) v.key items clear)) clear
 
 -- and once all of them are
 pub after-clear : (run : Run) (items : Items) (us : List Update) → Each (λ v. IfSome (run_of v.body) (AreApart run)) us
-    → IsClear items run → IsClear (items_after items us) run
+    → IsClearOfItems items run → IsClearOfItems (items_after items us) run
 after-clear run items [] apart clear = clear
 after-clear run items (u ∷ us) apart clear = after-clear run (item_settled u items) us apart.1 (settled-clear run u items apart.0 clear)
 
@@ -62,8 +63,8 @@ abbrev pub WritesApart : Update → Update → Type 0
 WritesApart u v = IfSome (run_of u.body) (λ run. IfSome (run_of v.body) (AreApart run))
 
 writes-settled : (u v : Update) (items : Items) (run : Option Run)
-    → IfSome run (λ x. IfSome (run_of v.body) (AreApart x)) → IfSome run (IsClear items)
-    → IfSome run (IsClear (item_settled v items))
+    → IfSome run (λ x. IfSome (run_of v.body) (AreApart x)) → IfSome run (IsClearOfItems items)
+    → IfSome run (IsClearOfItems (item_settled v items))
 writes-settled u v items None apart clear = tt
 writes-settled u v items (Some run) apart clear = settled-clear run v items apart clear
 
@@ -143,7 +144,7 @@ apart-some run (Some other) a here apart = apart a here
 
 module _ (space : ℕ) (r : Replica) (run : Run) where
   -- a free run is clear of the settled items
-  pub free-clear : AllFree (is_free space r) run.at run.len → IsClear r.items run
+  pub free-clear : AllFree (is_free space r) run.at run.len → IsClearOfItems r.items run
   free-clear free = each-every (λ a. in_run a run ≡ true) (λ x a. in_run a (run_in x.1) ≡ false) r.items (λ a here.
       let ends = in_run-bounds a run here in
       none-passes (λ x. in_run a (run_in x.1)) r.items (free-is space r a (free a ends.0 ends.1)).items)
@@ -159,7 +160,7 @@ module _ (space : ℕ) (r : Replica) (run : Run) where
 
   -- a run of the space that is clear of the settled items, and apart from what the updates in the log write and
   -- give back, is free
-  pub clear-free : run.at + run.len ≤ space → IsClear r.items run → Each (λ v. IfSome (run_of v.body) (AreApart run))
+  pub clear-free : run.at + run.len ≤ space → IsClearOfItems r.items run → Each (λ v. IfSome (run_of v.body) (AreApart run))
       r.log → Each (λ v. IfSome v.frees (AreApart run)) r.log
       → AllFree (is_free space r) run.at run.len
   clear-free inside clear writes frees a from to =
@@ -200,11 +201,11 @@ slot-apart run n (Put flags until other delta) slot apart = apart
 slot-apart run n Remove slot apart = tt
 slot-apart run n (Touch until) slot apart = tt
 
-writes-is : (u : Update) (items : Items) (run : Run) → run_of u.body ≡ Some run → WritesClear items u → IsClear items run
-writes-is u items run is clear = subst (λ (x : Option Run). IfSome x (IsClear items)) is clear
+writes-is : (u : Update) (items : Items) (run : Run) → run_of u.body ≡ Some run → WritesClear items u → IsClearOfItems items run
+writes-is u items run is clear = subst (λ (x : Option Run). IfSome x (IsClearOfItems items)) is clear
 
 pub clear-at : (items : Items) (vs : List Update) (u : Update) (us : List Update) (run : Run) → run_of u.body ≡ Some run
-    → AreClear items (vs ++ u ∷ us) → IsClear items run
+    → AreClear items (vs ++ u ∷ us) → IsClearOfItems items run
 clear-at items vs u us run is clear = writes-is u items run is (clear-middle items vs u us clear)
 
 pub apart-before : (items : Items) (vs : List Update) (u : Update) (us : List Update) (run : Run) → run_of u.body ≡ Some run → AreClear items (vs ++ u ∷ us)

@@ -23,7 +23,7 @@ use Rattle.law_updates.proofs.Placing.{places_are_best}
 use Rattle.law_updates.specs.Placing.{IsPlaced}
 use Rattle.group_run.specs.Deciding.{Bytes, Found, Missing, blind_reply, decide_accepted, decide_blind, decide_found}
 use Rattle.group_run.specs.Deciding.{decide_left, decide_placed, decide_ruled, decide_waiting, decide_written, is_get}
-use Rattle.group_run.specs.Deciding.{is_touch, item_found, length_of, outcome_of, reads_bytes, ruling_with, unseen}
+use Rattle.group_run.specs.Deciding.{is_touch, item_found, outcome_of, reads_bytes, ruling_with, slot_length, unseen}
 use Rattle.group_run.specs.Deciding.{waits_for, window}
 use Rattle.group_run.specs.Fitting.{IsRunOf}
 use Rattle.group_run.specs.Free.{is_free, place_for}
@@ -183,7 +183,7 @@ module _ (space inherited : ℕ) (r : Replica) (store : Store) (op : Asked) (rea
       (ap (λ (x : Option Slot). ruling_of op.moment (suc (last_of r)) op.act (live_at op.moment (held_in store.space x))) is)
 
   waited : (slot : Option Slot) → slot_in store.items (key_of op.act) ≡ slot → OfSlot (λ x. x.at + x.len ≤ space) slot
-      → IsSound space inherited r store op (decide_blind space r op read slot (blind_reply (length_of slot) (ruling_with r op slot (unseen slot))))
+      → IsSound space inherited r store op (decide_blind space r op read slot (blind_reply (slot_length slot) (ruling_with r op slot (unseen slot))))
   waited None is within = no-item is (blind_reply 0 (ruling_of op.moment (suc (last_of r)) op.act None)) refl
   waited (Some slot) is within = item slot is (omega (arith, long, within)) (blind_reply slot.len (ruling_on slot (unseen (Some slot)))) refl
 

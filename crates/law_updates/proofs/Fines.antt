@@ -31,13 +31,13 @@ use Rattle.run_alloc.specs.Free.{AllFree}
 use Rattle.group_run.specs.Free.{is_free}
 use Rattle.group_run.specs.Headline.{AreApart}
 use Rattle.group_run.specs.Replica.{Items, Replica, callers, freed_by, items_after, last_of, run_in, run_of, slot_in, with_update}
-use Rattle.group_run.specs.World.{Call, update_name}
+use Rattle.group_run.specs.World.{AskedCall, update_name}
 use Rattle.law_updates.specs.Decisions.{IsIssue, IsPlacedBody, IsSound}
 use Rattle.law_updates.specs.Fine.{AreClear, AreSteps, ComesBefore, Fine, IsCallOf, IsStep}
 use Rattle.law_updates.proofs.Fine.{ComesBehind, IsReplicaOf}
 use Rattle.law_updates.proofs.Laws.{FineHistoriesFit, HistoriesAreFine, IssuesAreFine, WritesBytes}
-use Rattle.law_updates.specs.Right.{IsBodyOf, IsClear, IsRight}
-use Rattle.law_updates.specs.Store.{Store, StoreFits, held, no_store, store_after, store_from, stored}
+use Rattle.law_updates.specs.Right.{IsBodyOf, IsClearOfItems, IsRight}
+use Rattle.law_updates.specs.Store.{Store, StoreFits, held, no_store, store_after, store_from, store_with_update}
 use Rattle.law_updates.proofs.Clears.{WritesApart, after-clear, apart-before, clear-at, clear-drop, clear-free}
 use Rattle.law_updates.proofs.Clears.{clear-push, clear-take, free-apart, free-clear, freed-apart, number_on-none}
 use Rattle.law_updates.proofs.Decides.{decisions_are_sound}
@@ -51,7 +51,7 @@ drop-of-take : (a n : ℕ) (h : List Update) → a ≤ n → drop a (take n h) �
 drop-of-take a n h within = let e : a + (n - a) ≡ n = omega arith in ap (λ (k : ℕ). drop a (take k h)) (sym e) ∙ drop-take a (n - a) h
 
 module _ (s : Dimensions) (d : ℕ) where
-  rises : (calls : List Call) (a b : ℕ) (h : List Update) → Fine s calls d a h → a ≤ b → b ≤ length h → Fine s calls d b h
+  rises : (calls : List AskedCall) (a b : ℕ) (h : List Update) → Fine s calls d a h → a ≤ b → b ≤ length h → Fine s calls d b h
   rises calls a b h fine up within =
       let more : a + (b - a) ≡ b = omega arith in
       let now : items_after (items_after [] (take a h)) (take (b - a) (drop a h)) ≡ items_after [] (take b h)
@@ -64,7 +64,7 @@ module _ (s : Dimensions) (d : ℕ) where
             (subst (λ (items : Items). AreClear items (drop (b - a) (drop a h))) now (clear-drop (b - a) (items_after [] (take a h)) (drop a h) fine.clear));
       }
 
-  front : (calls : List Call) (a n : ℕ) (h : List Update) → Fine s calls d a h → a ≤ n → Fine s calls d a (take n h)
+  front : (calls : List AskedCall) (a n : ℕ) (h : List Update) → Fine s calls d a h → a ≤ n → Fine s calls d a (take n h)
   front calls a n h fine within = record {
     steps = steps-take s calls d n 0 (no_store s) h fine.steps;
     rising = each_two-take ComesBefore n h fine.rising;
@@ -72,7 +72,7 @@ module _ (s : Dimensions) (d : ℕ) where
         (subst (AreClear (items_after [] (take a h))) (sym (drop-of-take a n h within)) (clear-take (n - a) (items_after [] (take a h)) (drop a h) fine.clear));
   }
 
-  more : (calls later : List Call) (a : ℕ) (h : List Update) → Fine s calls d a h → Fine s (calls ++ later) d a h
+  more : (calls later : List AskedCall) (a : ℕ) (h : List Update) → Fine s calls d a h → Fine s (calls ++ later) d a h
   more calls later a h fine = record { steps = steps-more s calls d later 0 (no_store s) h fine.steps; rising = fine.rising; clear = fine.clear }
 
   clear-none : (a : ℕ) → AreClear (items_after [] (take a [])) (drop a [])
@@ -88,7 +88,7 @@ histories_are_fine s d = record {
 }
 
 -- a call that comes behind all others comes behind those that have updates here
-newest : (s : Dimensions) (calls : List Call) (d : ℕ) (h : List Update) (c : Call) (u : Update) → update_name u ≡ c.name
+newest : (s : Dimensions) (calls : List AskedCall) (d : ℕ) (h : List Update) (c : AskedCall) (u : Update) → update_name u ≡ c.name
     → ComesBehind calls c → AreSteps s calls d 0 (no_store s) h
     → Each (λ v. ComesBefore v u) h
 newest s calls d h c u named behind steps = steps-each s calls d (λ v. ComesBefore v u) (λ n store v fits step same.
@@ -102,7 +102,7 @@ newest s calls d h c u named behind steps = steps-each s calls d (λ v. ComesBef
 -- the body that a head issues is the one of the history, where its run is read in what the history leaves
 body-of : (s : Dimensions) (now later : Store) (r : Replica) (touch : Bool) (leaves : Option Holding) (body : Body)
     → IsPlacedBody (space_of s) r now touch leaves body
-    → ((run : Run) → run_of body ≡ Some run → run.at + run.len ≤ space_of s → IsClear later.items run)
+    → ((run : Run) → run_of body ≡ Some run → run.at + run.len ≤ space_of s → IsClearOfItems later.items run)
     → ((run : Run) → run_of body ≡ Some run → run.at + run.len ≤ space_of s → bytes_at run.at run.len now.space ≡ bytes_at run.at run.len later.space)
     → IsBodyOf s later touch leaves body
 body-of s now later r touch None body is clear same = is
@@ -118,12 +118,12 @@ body-of s now later r false (Some h) body is clear same =
 
 -- the run that a placed body writes is free
 free-of : (space : ℕ) (store : Store) (r : Replica) (touch : Bool) (leaves : Option Holding) (body : Body) → IsPlacedBody space r store touch leaves body
-    → (run : Run) → run_of body ≡ Some run → IsClear r.items run × Each (λ v. IfSome (run_of v.body) (AreApart run)) r.log
+    → (run : Run) → run_of body ≡ Some run → IsClearOfItems r.items run × Each (λ v. IfSome (run_of v.body) (AreApart run)) r.log
 free-of space store r touch None body is run writes = absurd (cc (writes, ap run_of is))
 free-of space store r true (Some h) body is run writes = absurd (cc (writes, ap run_of is))
 free-of space store r false (Some h) body is run writes =
     let same : is.run ≡ run = run-same (sym (ap run_of is.is) ∙ writes) in
-    subst (λ (x : Run). IsClear r.items x × Each (λ v. IfSome (run_of v.body) (AreApart x)) r.log) same
+    subst (λ (x : Run). IsClearOfItems r.items x × Each (λ v. IfSome (run_of v.body) (AreApart x)) r.log) same
     (free-clear space r is.run is.free, free-apart space r is.run is.free) where
       run-same : {a b : Run} → Some a ≡ Some b → a ≡ b
       run-same {a} e = ap (λ (x : Option Run). elim x [ None ↦ a | Some y ↦ y ]) e
@@ -132,7 +132,7 @@ some-run : (P : Run → Type 0) (x : Option Run) → ((run : Run) → x ≡ Some
 some-run P None turn = tt
 some-run P (Some run) turn = turn run refl
 
-module _ (s : Dimensions) (calls : List Call) (d a : ℕ) (h : List Update) (fine : Fine s calls d a h) (r : Replica) (replica : IsReplicaOf a h r) where
+module _ (s : Dimensions) (calls : List AskedCall) (d a : ℕ) (h : List Update) (fine : Fine s calls d a h) (r : Replica) (replica : IsReplicaOf a h r) where
   whole : take a h ++ drop a h ≡ h
   whole = take-append-drop a h
 
@@ -171,14 +171,14 @@ module _ (s : Dimensions) (calls : List Call) (d a : ℕ) (h : List Update) (fin
         ap (λ (x : Store). slot_in x.items (key_of op.act)) (sym later-is) ∙ ap (λ (x : Items). slot_in x (key_of op.act)) (store-items s d now r.log)
         ∙ steps-keep-slot s calls d (key_of op.act) now.items r.log others ∙ ap (λ (x : Items). slot_in x (key_of op.act)) now-items
 
-    free : (run : Run) → run_of body ≡ Some run → IsClear r.items run × Each (λ v. IfSome (run_of v.body) (AreApart run)) r.log
+    free : (run : Run) → run_of body ≡ Some run → IsClearOfItems r.items run × Each (λ v. IfSome (run_of v.body) (AreApart run)) r.log
     free = free-of (space_of s) now r (is_touch op.act) issue.leaves body issue.writes
 
-    later-clear : (run : Run) → run_of body ≡ Some run → run.at + run.len ≤ space_of s → IsClear (store_after s d h).items run
+    later-clear : (run : Run) → run_of body ≡ Some run → run.at + run.len ≤ space_of s → IsClearOfItems (store_after s d h).items run
     later-clear run writes inside =
         let it = free run writes in
-        subst (λ (x : Store). IsClear x.items run) later-is (subst (λ (x : Items). IsClear x run) (sym (store-items s d now r.log))
-        (after-clear run now.items r.log it.1 (subst (λ (x : Items). IsClear x run) (sym now-items) it.0)))
+        subst (λ (x : Store). IsClearOfItems x.items run) later-is (subst (λ (x : Items). IsClearOfItems x run) (sym (store-items s d now r.log))
+        (after-clear run now.items r.log it.1 (subst (λ (x : Items). IsClearOfItems x run) (sym now-items) it.0)))
 
     later-bytes : (run : Run) → run_of body ≡ Some run → run.at + run.len ≤ space_of s
         → bytes_at run.at run.len now.space ≡ bytes_at run.at run.len (store_after s d h).space
@@ -202,8 +202,8 @@ module _ (s : Dimensions) (calls : List Call) (d a : ℕ) (h : List Update) (fin
     pub issued-clear : AreClear (items_after [] (take a h)) (drop a h ++ u ∷ [])
     issued-clear =
         clear-push (items_after [] (take a h)) (drop a h) u fine.clear
-        (some-run (IsClear (items_after [] (take a h))) (run_of u.body)
-        (λ run writes. subst (λ (x : Items). IsClear x run) replica.items (free run (sym (ap run_of is) ∙ writes)).0))
+        (some-run (IsClearOfItems (items_after [] (take a h))) (run_of u.body)
+        (λ run writes. subst (λ (x : Items). IsClearOfItems x run) replica.items (free run (sym (ap run_of is) ∙ writes)).0))
         (subst (Each (WritesApart u)) replica.log (apart-all r.log (λ run writes. (free run (sym (ap run_of is) ∙ writes)).1)))
         (subst (Each (λ v. v.key ≢ u.key)) replica.log (subst (λ (k : List ℕ). Each (λ v. v.key ≢ k) r.log) (sym key) others)) where
           apart-all : (log : List Update)
@@ -219,8 +219,8 @@ module _ (s : Dimensions) (calls : List Call) (d a : ℕ) (h : List Update) (fin
             by (Some run) apart = apart run refl
 
 -- an issued update prolongs a fine history
-pub issued-fine : (s : Dimensions) (calls : List Call) (d a : ℕ) (h : List Update) (fine : Fine s calls d a h) (r : Replica) (replica : IsReplicaOf a h r)
-    → (c : Call) (body : Body) (outcome : Outcome) (issue : IsIssue (space_of s) r (store_after s d (take a h)) c.op body outcome) (u : Update)
+pub issued-fine : (s : Dimensions) (calls : List AskedCall) (d a : ℕ) (h : List Update) (fine : Fine s calls d a h) (r : Replica) (replica : IsReplicaOf a h r)
+    → (c : AskedCall) (body : Body) (outcome : Outcome) (issue : IsIssue (space_of s) r (store_after s d (take a h)) c.op body outcome) (u : Update)
     → u.number ≡ suc (last_of r) → u.key ≡ key_of c.op.act → u.body ≡ body → u.frees ≡ freed_by body (slot_in r.items (key_of c.op.act)) → u.outcome ≡ outcome
     → update_name u ≡ c.name → IsCallOf s d c → ComesBehind calls c → Fine s (calls ++ c ∷ []) d a (h ++ u ∷ [])
 issued-fine s calls d a h fine r replica c body outcome issue u number key is frees told named fits behind = record {
@@ -236,7 +236,7 @@ issued-fine s calls d a h fine r replica c body outcome issue u number key is fr
       (subst (AreClear (items_after [] (take a h))) (sym (drop-append-le a h (u ∷ []) replica.within))
       (issued-clear s calls d a h fine r replica c.op body outcome issue u number key is frees told));
 } where
-  last-contained : (xs : List Call) (x : Call) → Contains (xs ++ x ∷ []) x
+  last-contained : (xs : List AskedCall) (x : AskedCall) → Contains (xs ++ x ∷ []) x
   last-contained xs x = Contains-append_right xs (x ∷ []) x (0, omega arith, refl)
 
 pub issues_are_fine : IssuesAreFine
@@ -250,7 +250,7 @@ issues_are_fine s calls d inherited h c p body outcome fine replica fits behind 
     issued-fine s calls d r.applied h fine r replica c body outcome sound (update_of c.name c.op d body outcome p) refl refl refl refl refl refl fits behind
 
 -- the next update of a fine history can come
-frees-apart : (s : Dimensions) (calls : List Call) (d n : ℕ) (store : Store) (vs : List Update) (u : Update)
+frees-apart : (s : Dimensions) (calls : List AskedCall) (d n : ℕ) (store : Store) (vs : List Update) (u : Update)
     (us : List Update) (run : Run) → run_of u.body ≡ Some run
     → AreSteps s calls d n store (vs ++ u ∷ us) → AreClear store.items (vs ++ u ∷ us) → Each (λ v. IfSome v.frees (AreApart run)) vs
 frees-apart s calls d n store [] u us run writes steps clear = tt
@@ -259,7 +259,7 @@ frees-apart s calls d n store (v ∷ vs) u us run writes steps clear = (
       (freed-apart run v.body (slot_in store.items v.key)
       (each-slot (λ x. AreApart run (run_in x)) v.key store.items
       (clear-at store.items (v ∷ vs) u us run writes clear))),
-  frees-apart s calls d (suc n) (stored s d v store) vs u us run writes steps.1 clear.2,
+  frees-apart s calls d (suc n) (store_with_update s d v store) vs u us run writes steps.1 clear.2,
 )
 
 run-inside : (space : ℕ) (body : Body) (run : Run) → run_of body ≡ Some run → Writes space body → run.at + run.len ≤ space
@@ -269,7 +269,7 @@ run-inside space (Put flags until other delta) run is writes =
 run-inside space Remove run is writes = absurd (cc is)
 run-inside space (Touch until) run is writes = absurd (cc is)
 
-module _ (s : Dimensions) (calls : List Call) (d a : ℕ) where
+module _ (s : Dimensions) (calls : List AskedCall) (d a : ℕ) where
   pub next-comes : (xs : List Update) (u : Update) (us : List Update) (r : Replica) → Fine s calls d a (xs ++ u ∷ us)
       → IsReplicaOf a xs r → CanCome (space_of s) r u
   next-comes xs u us r fine replica =

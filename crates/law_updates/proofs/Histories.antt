@@ -19,10 +19,10 @@ use Rattle.group_run.specs.Deciding.{is_touch}
 use Rattle.group_run.specs.Fitting.{Writes}
 use Rattle.group_run.specs.Headline.{AreApart}
 use Rattle.group_run.specs.Replica.{Items, item_settled, items_after, run_of, slot_after, slot_in}
-use Rattle.group_run.specs.World.{Call}
+use Rattle.group_run.specs.World.{AskedCall}
 use Rattle.law_updates.specs.Fine.{AreSteps, IsStep}
 use Rattle.law_updates.specs.Right.{IsBodyOf}
-use Rattle.law_updates.specs.Store.{Store, StoreFits, held, no_store, store_after, store_from, stored}
+use Rattle.law_updates.specs.Store.{Store, StoreFits, held, no_store, store_after, store_from, store_with_update}
 use Rattle.law_updates.proofs.Keys.{key-ne, slot_in-with}
 use Rattle.law_updates.proofs.Spaces.{apart-bytes, apart-sym, length-bytes_at}
 use Rattle.law_updates.proofs.Steps.{no_store-fits, right_updates_leave}
@@ -35,31 +35,31 @@ items-append items (u ∷ us) vs = items-append (item_settled u items) us vs
 module _ (s : Dimensions) (d : ℕ) where
   pub store-append : (store : Store) (us vs : List Update) → store_from s d store (us ++ vs) ≡ store_from s d (store_from s d store us) vs
   store-append store [] vs = refl
-  store-append store (u ∷ us) vs = store-append (stored s d u store) us vs
+  store-append store (u ∷ us) vs = store-append (store_with_update s d u store) us vs
 
   pub store-items : (store : Store) (us : List Update) → (store_from s d store us).items ≡ items_after store.items us
   store-items store [] = refl
-  store-items store (u ∷ us) = store-items (stored s d u store) us
+  store-items store (u ∷ us) = store-items (store_with_update s d u store) us
 
-module _ (s : Dimensions) (calls : List Call) (d : ℕ) where
+module _ (s : Dimensions) (calls : List AskedCall) (d : ℕ) where
   pub steps-take : (k n : ℕ) (store : Store) (us : List Update) → AreSteps s calls d n store us → AreSteps s calls d n store (take k us)
   steps-take zero n store us steps = tt
   steps-take (suc k) n store [] steps = tt
-  steps-take (suc k) n store (u ∷ us) steps = (steps.0, steps-take k (suc n) (stored s d u store) us steps.1)
+  steps-take (suc k) n store (u ∷ us) steps = (steps.0, steps-take k (suc n) (store_with_update s d u store) us steps.1)
 
   -- one more
   pub steps-push : (n m : ℕ) (store : Store) (us : List Update) (u : Update) → m ≡ n + length us → AreSteps s calls d n store us
       → IsStep s calls d (suc m) (store_from s d store us) u → AreSteps s calls d n store (us ++ u ∷ [])
   steps-push n m store [] u at steps step = (subst (λ (k : ℕ). IsStep s calls d (suc k) store u) (omega (arith, at)) step, tt)
-  steps-push n m store (v ∷ vs) u at steps step = (steps.0, steps-push (suc n) m (stored s d v store) vs u (omega (arith, at)) steps.1 step)
+  steps-push n m store (v ∷ vs) u at steps step = (steps.0, steps-push (suc n) m (store_with_update s d v store) vs u (omega (arith, at)) steps.1 step)
 
   -- the one behind these, and those behind it
   pub steps-behind : (n m : ℕ) (store : Store) (us vs : List Update) → m ≡ n + length us
       → AreSteps s calls d n store (us ++ vs) → AreSteps s calls d m (store_from s d store us) vs
   steps-behind n m store [] vs at steps = subst (λ (k : ℕ). AreSteps s calls d k store vs) (omega (arith, at)) steps
-  steps-behind n m store (u ∷ us) vs at steps = steps-behind (suc n) m (stored s d u store) us vs (omega (arith, at)) steps.1
+  steps-behind n m store (u ∷ us) vs at steps = steps-behind (suc n) m (store_with_update s d u store) us vs (omega (arith, at)) steps.1
 
-  pub step-more : (later : List Call) (n : ℕ) (store : Store) (u : Update) → IsStep s calls d n store u → IsStep s (calls ++ later) d n store u
+  pub step-more : (later : List AskedCall) (n : ℕ) (store : Store) (u : Update) → IsStep s calls d n store u → IsStep s (calls ++ later) d n store u
   step-more later n store u step =
       record {
         call = step.call;
@@ -69,9 +69,10 @@ module _ (s : Dimensions) (calls : List Call) (d : ℕ) where
         right = step.right;
       }
 
-  pub steps-more : (later : List Call) (n : ℕ) (store : Store) (us : List Update) → AreSteps s calls d n store us → AreSteps s (calls ++ later) d n store us
+  pub steps-more : (later : List AskedCall) (n : ℕ) (store : Store) (us : List Update) → AreSteps s calls d n store us
+      → AreSteps s (calls ++ later) d n store us
   steps-more later n store [] steps = tt
-  steps-more later n store (u ∷ us) steps = (step-more later (suc n) store u steps.0, steps-more later (suc n) (stored s d u store) us steps.1)
+  steps-more later n store (u ∷ us) steps = (step-more later (suc n) store u steps.0, steps-more later (suc n) (store_with_update s d u store) us steps.1)
 
   -- what is said of the update of each step
   pub steps-each : (P : Update → Type 0) → ((n : ℕ) (store : Store) (u : Update) → StoreFits s store → IsStep s calls d n store u → P u)
@@ -79,7 +80,7 @@ module _ (s : Dimensions) (calls : List Call) (d : ℕ) where
   steps-each P turn n store [] fits steps = tt
   steps-each P turn n store (u ∷ us) fits steps = (
     turn (suc n) store u fits steps.0,
-    steps-each P turn (suc n) (stored s d u store) us
+    steps-each P turn (suc n) (store_with_update s d u store) us
         ((right_updates_leave s d (suc n) store steps.0.call.op u fits steps.0.right).fits steps.0.fits.bytes) steps.1,
   )
 
@@ -87,7 +88,8 @@ module _ (s : Dimensions) (calls : List Call) (d : ℕ) where
   pub steps-fit : (n : ℕ) (store : Store) (us : List Update) → StoreFits s store → AreSteps s calls d n store us → StoreFits s (store_from s d store us)
   steps-fit n store [] fits steps = fits
   steps-fit n store (u ∷ us) fits steps =
-      steps-fit (suc n) (stored s d u store) us ((right_updates_leave s d (suc n) store steps.0.call.op u fits steps.0.right).fits steps.0.fits.bytes) steps.1
+      steps-fit (suc n) (store_with_update s d u store) us
+      ((right_updates_leave s d (suc n) store steps.0.call.op u fits steps.0.right).fits steps.0.fits.bytes) steps.1
 
   writes-body : (store : Store) (touch : Bool) (leaves : Option Holding) (body : Body) → StoreFits s store
       → IsBodyOf s store touch leaves body → Writes (space_of s) body
@@ -117,7 +119,7 @@ module _ (s : Dimensions) (calls : List Call) (d : ℕ) where
       → bytes_at run.at run.len (store_from s d store us).space ≡ bytes_at run.at run.len store.space
   steps-keep-bytes run n store [] inside fits steps apart = refl
   steps-keep-bytes run n store (u ∷ us) inside fits steps apart =
-      steps-keep-bytes run (suc n) (stored s d u store) us inside
+      steps-keep-bytes run (suc n) (store_with_update s d u store) us inside
       ((right_updates_leave s d (suc n) store steps.0.call.op u fits steps.0.right).fits steps.0.fits.bytes) steps.1
       apart.1
       ∙ kept-body run store u.body fits inside (step-writes (suc n) store u fits steps.0) apart.0
@@ -136,7 +138,7 @@ module _ (s : Dimensions) (calls : List Call) (d : ℕ) where
   steps-keep-held key n store [] fits steps others = refl
   steps-keep-held key n store (u ∷ us) fits steps others =
       let leaves = right_updates_leave s d (suc n) store steps.0.call.op u fits steps.0.right in
-      steps-keep-held key (suc n) (stored s d u store) us (leaves.fits steps.0.fits.bytes) steps.1 others.1
+      steps-keep-held key (suc n) (store_with_update s d u store) us (leaves.fits steps.0.fits.bytes) steps.1 others.1
       ∙ leaves.holds key ∙ ap (λ (b : Bool). if b then steps.0.right.leaves else held store key) (key-ne u.key key others.0)
 
   -- a history leaves a store that fits

@@ -14,7 +14,7 @@ use Rattle.group_run.specs.Deciding.{decide}
 use Rattle.group_run.specs.Fitting.{AllCanCome, Writes}
 use Rattle.group_run.specs.Process.{Process}
 use Rattle.group_run.specs.Replica.{Items, Replica, items_after}
-use Rattle.group_run.specs.World.{Call}
+use Rattle.group_run.specs.World.{AskedCall}
 use Rattle.law_updates.specs.Decisions.{ReadsFrom}
 use Rattle.law_updates.specs.Fine.{Fine, IsCallOf}
 use Rattle.law_updates.proofs.Fine.{ComesBehind, IsReplicaOf}
@@ -23,10 +23,10 @@ use Rattle.law_updates.specs.Store.{StoreFits, store_after}
 -- how fine histories come about: they begin empty, more of them may be applied, their first updates are fine,
 -- and more calls may be asked
 pub record FineLaws (s : Dimensions) (d : ℕ) : Type 0 where
-  pub start : (calls : List Call) → Fine s calls d 0 []
-  pub rises : (calls : List Call) (a b : ℕ) (h : List Update) → Fine s calls d a h → a ≤ b → b ≤ length h → Fine s calls d b h
-  pub front : (calls : List Call) (a n : ℕ) (h : List Update) → Fine s calls d a h → a ≤ n → Fine s calls d a (take n h)
-  pub more : (calls later : List Call) (a : ℕ) (h : List Update) → Fine s calls d a h → Fine s (calls ++ later) d a h
+  pub start : (calls : List AskedCall) → Fine s calls d 0 []
+  pub rises : (calls : List AskedCall) (a b : ℕ) (h : List Update) → Fine s calls d a h → a ≤ b → b ≤ length h → Fine s calls d b h
+  pub front : (calls : List AskedCall) (a n : ℕ) (h : List Update) → Fine s calls d a h → a ≤ n → Fine s calls d a (take n h)
+  pub more : (calls later : List AskedCall) (a : ℕ) (h : List Update) → Fine s calls d a h → Fine s (calls ++ later) d a h
 
 -- so it is in every partition
 abbrev pub HistoriesAreFine : Type 0
@@ -34,7 +34,7 @@ HistoriesAreFine = (s : Dimensions) (d : ℕ) → FineLaws s d
 
 -- the update that a head issues for a new call prolongs a fine history, of which the head has a replica
 abbrev pub IssuesAreFine : Type 0
-IssuesAreFine = (s : Dimensions) (calls : List Call) (d inherited : ℕ) (h : List Update) (c : Call) (p : Process) (body : Body) (outcome : Outcome)
+IssuesAreFine = (s : Dimensions) (calls : List AskedCall) (d inherited : ℕ) (h : List Update) (c : AskedCall) (p : Process) (body : Body) (outcome : Outcome)
     → let r : Replica = replica_of p d in
     Fine s calls d r.applied h → IsReplicaOf r.applied h r → IsCallOf s d c → ComesBehind calls c
     → ReadsFrom (store_after s d (take r.applied h)).space (found_at s d p p.name)
@@ -48,7 +48,7 @@ WritesBytes Remove = Unit {0}
 WritesBytes (Touch _) = Unit {0}
 
 -- what a fine history has for the bytes, and for those that receive its updates
-pub record FineFits (s : Dimensions) (calls : List Call) (d a : ℕ) (h : List Update) : Type 0 where
+pub record FineFits (s : Dimensions) (calls : List AskedCall) (d a : ℕ) (h : List Update) : Type 0 where
   pub store : (n : ℕ) → StoreFits s (store_after s d (take n h))
   pub writes : Each (λ u. Writes (space_of s) u.body) h
   pub bytes : Each (λ u. WritesBytes u.body) h
@@ -56,7 +56,7 @@ pub record FineFits (s : Dimensions) (calls : List Call) (d a : ℕ) (h : List U
 
 -- so it is of every fine history
 abbrev pub FineHistoriesFit : Type 0
-FineHistoriesFit = (s : Dimensions) (calls : List Call) (d a : ℕ) (h : List Update) → Fine s calls d a h → FineFits s calls d a h
+FineHistoriesFit = (s : Dimensions) (calls : List AskedCall) (d a : ℕ) (h : List Update) → Fine s calls d a h → FineFits s calls d a h
 
 -- the items that a fine history leaves: each is of a key of the partition, and no key has two
 pub record FineItems (s : Dimensions) (d : ℕ) (items : Items) : Type 0 where
@@ -65,4 +65,5 @@ pub record FineItems (s : Dimensions) (d : ℕ) (items : Items) : Type 0 where
 
 -- so it is of the first updates of every fine history
 abbrev pub FineHistoriesLeaveItems : Type 0
-FineHistoriesLeaveItems = (s : Dimensions) (calls : List Call) (d a n : ℕ) (h : List Update) → Fine s calls d a h → FineItems s d (items_after [] (take n h))
+FineHistoriesLeaveItems = (s : Dimensions) (calls : List AskedCall) (d a n : ℕ) (h : List Update) → Fine s calls d a h
+    → FineItems s d (items_after [] (take n h))

@@ -7,7 +7,7 @@ use Rattle.std.specs.Fmt.{decimal, digits, digits_onto, digit_glyph}
 use Rattle.std.proofs.lemmas.Bool.{cases_lt}
 use Rattle.std.proofs.lemmas.List.{get_or_append_left, get_or-append_right}
 use Rattle.field_byte.proofs.Vectors.{AreBytes}
-use Rattle.memc_table.specs.Act.{value_of}
+use Rattle.memc_table.specs.Act.{act_value}
 use Rattle.memc_table.specs.Numeral.{number_of}
 use Rattle.memc_table.specs.Ruling.{anew, changed, joined, longest_value, lowered, raised, ruling_of}
 use Rattle.memc_table.specs.declared.act.Act.{Act}
@@ -113,7 +113,7 @@ LeavesBytes (Refused r) = Unit {0}
 LeavesBytes (Accepted r leaves) = HoldsBytes leaves
 
 -- what is left consists of bytes, where the item and the value that is brought do
-pub rules-bytes : (t n : ℕ) (act : Act) (live : Option Holding) → AreBytes (value_of act) → HoldsBytes live → LeavesBytes (ruling_of t n act live)
+pub rules-bytes : (t n : ℕ) (act : Act) (live : Option Holding) → AreBytes (act_value act) → HoldsBytes live → LeavesBytes (ruling_of t n act live)
 rules-bytes t n (Get key) None brought holds = tt
 rules-bytes t n (Get key) (Some h) brought holds = tt
 rules-bytes t n (Set key flags expiry value) live brought holds = brought

@@ -15,7 +15,7 @@ use Rattle.group_types.specs.declared.process.ProcessId.TheVariants.{DataNode}
 use Rattle.group_types.specs.Each.{Each}
 use Rattle.group_types.proofs.Eaches.{each-weaker, each-both}
 use Rattle.item_index.specs.declared.slot.Slot.{Slot}
-use Rattle.memc_table.specs.Act.{key_of, value_of}
+use Rattle.memc_table.specs.Act.{act_value, key_of}
 use Rattle.memc_table.specs.Asked.{Asked}
 use Rattle.memc_table.specs.Contents.{holding_at}
 use Rattle.memc_table.specs.Expiry.{is_live, live_at}
@@ -32,7 +32,7 @@ use Rattle.group_run.specs.Replica.{Items, run_in, slot_after, slot_in}
 use Rattle.law_updates.specs.Laws.{RightUpdatesLeave}
 use Rattle.law_updates.proofs.Laws.{WritesBytes}
 use Rattle.law_updates.specs.Right.{IsBodyOf, IsPut, IsRight}
-use Rattle.law_updates.specs.Store.{Store, StoreFits, held, held_in, no_store, stored}
+use Rattle.law_updates.specs.Store.{Store, StoreFits, held, held_in, no_store, store_with_update}
 use Rattle.law_updates.proofs.Keys.{OfSlot, each-slot, each-with, slot_in-with}
 use Rattle.law_updates.proofs.Rules.{HoldsBytes, LeavesBytes, LeavesWell, RulesWell, rules-bytes, rules-well}
 use Rattle.law_updates.proofs.Spaces.{apart-bytes, bytes-added, bytes-all, bytes-bytes_at, bytes-from, length-bytes_at, own-bytes}
@@ -133,7 +133,7 @@ module _ (s : Dimensions) (d n : ℕ) (store : Store) (op : Asked) (u : Update) 
       ap (λ (m : ℕ). held_in (space_added s (DataNode d) d u.body store.space) (slot_after m u.body (slot_in store.items u.key))) right.number
       ∙ own (is_touch op.act) right.leaves (slot_in store.items u.key) u.body right.body left
 
-  holds : (key : List ℕ) → held (stored s d u store) key ≡ holding_at u.key right.leaves (held store) key
+  holds : (key : List ℕ) → held (store_with_update s d u store) key ≡ holding_at u.key right.leaves (held store) key
   holds key = ap (held_in (space_added s (DataNode d) d u.body store.space)) (slot_in-with u.key key slot_now store.items) ∙ by (same_key u.key key) where
     by : (b : Bool) → held_in (space_added s (DataNode d) d u.body store.space)
         (if b then slot_now else slot_in store.items key) ≡ (if b then right.leaves else held store key)
@@ -186,10 +186,10 @@ module _ (s : Dimensions) (d n : ℕ) (store : Store) (op : Asked) (u : Update) 
       (bytes-added is.run.at (add_bytes h.item.value under) store.space (omega (arith, fits.long, is.fits.inside, is.fits.long, put-long h body is))
       (AreBytes-add_bytes h.item.value under (omega (arith, under_long, is.fits.long)) bytes (bytes-bytes_at is.run.at is.run.len store.space all)) all)
 
-  ruled-bytes : All (λ b. b < 256) (value_of op.act) → HoldsBytes right.leaves
+  ruled-bytes : All (λ b. b < 256) (act_value op.act) → HoldsBytes right.leaves
   ruled-bytes brought = subst LeavesBytes right.ruled
       (rules-bytes op.moment n op.act (live_at op.moment (held store (key_of op.act)))
-      (bytes-from (value_of op.act) brought) (bytes-held (slot_in store.items (key_of op.act))))
+      (bytes-from (act_value op.act) brought) (bytes-held (slot_in store.items (key_of op.act))))
 
   -- a difference consists of bytes
   delta-bytes : (touch : Bool) (leaves : Option Holding) (body : Body) → HoldsBytes leaves → IsBodyOf s store touch leaves body → WritesBytes body
@@ -202,10 +202,10 @@ module _ (s : Dimensions) (d n : ℕ) (store : Store) (op : Asked) (u : Update) 
       (omega (arith, under_long, is.fits.long)) bytes
       (bytes-bytes_at is.run.at is.run.len store.space (bytes-from store.space fits.bytes))))
 
-  pub right-bytes : All (λ b. b < 256) (value_of op.act) → WritesBytes u.body
+  pub right-bytes : All (λ b. b < 256) (act_value op.act) → WritesBytes u.body
   right-bytes brought = delta-bytes (is_touch op.act) right.leaves u.body (ruled-bytes brought) right.body
 
-  fits-after : All (λ b. b < 256) (value_of op.act) → StoreFits s (stored s d u store)
+  fits-after : All (λ b. b < 256) (act_value op.act) → StoreFits s (store_with_update s d u store)
   fits-after brought = record {
     long = long-after (is_touch op.act) right.leaves u.body right.body ∙ fits.long;
     bytes = bytes-all _ (bytes-after (is_touch op.act) right.leaves u.body (ruled-bytes brought) right.body);

@@ -4,31 +4,31 @@ use Rattle.std.specs.Prelude.{ℕ, suc, ◌≡◌, ◌≢◌, ◌<◌, List, [],
 use Rattle.group_types.specs.Dimensions.{Dimensions}
 use Rattle.group_types.specs.Hash.{home_of}
 use Rattle.group_types.specs.Each.{Each, EachTwo}
-use Rattle.memc_table.specs.Act.{key_of, value_of}
+use Rattle.memc_table.specs.Act.{act_value, key_of}
 use Rattle.group_message.specs.declared.update.Update.{Update}
 use Rattle.group_run.specs.Replica.{Items, callers, item_settled, items_after}
-use Rattle.group_run.specs.World.{Call, update_name}
+use Rattle.group_run.specs.World.{AskedCall, update_name}
 use Rattle.law_updates.specs.Right.{IsRight, WritesClear}
-use Rattle.law_updates.specs.Store.{Store, no_store, stored}
+use Rattle.law_updates.specs.Store.{Store, no_store, store_with_update}
 
 -- a call that partition d may have an update of: its key's home is d, and its value consists of bytes
-pub record IsCallOf (s : Dimensions) (d : ℕ) (c : Call) : Type 0 where
+pub record IsCallOf (s : Dimensions) (d : ℕ) (c : AskedCall) : Type 0 where
   pub caller : c.name.caller < callers
   pub home : home_of (key_of c.op.act) s.k ≡ d
-  pub bytes : All (λ b. b < 256) (value_of c.op.act)
+  pub bytes : All (λ b. b < 256) (act_value c.op.act)
 
 -- update n of partition d is the one that the table makes of one of these calls
-pub record IsStep (s : Dimensions) (calls : List Call) (d n : ℕ) (store : Store) (u : Update) : Type 0 where
-  pub call : Call
+pub record IsStep (s : Dimensions) (calls : List AskedCall) (d n : ℕ) (store : Store) (u : Update) : Type 0 where
+  pub call : AskedCall
   pub asked : Contains calls call
   pub fits : IsCallOf s d call
   pub name : update_name u ≡ call.name
   pub right : IsRight s store n call.op u
 
 -- each update behind the first n is, on the store that those before it leave
-abbrev pub AreSteps : Dimensions → List Call → ℕ → ℕ → Store → List Update → Type 0
+abbrev pub AreSteps : Dimensions → List AskedCall → ℕ → ℕ → Store → List Update → Type 0
 AreSteps s calls d n store [] = Unit {0}
-AreSteps s calls d n store (u ∷ us) = IsStep s calls d (suc n) store u × AreSteps s calls d (suc n) (stored s d u store) us
+AreSteps s calls d n store (u ∷ us) = IsStep s calls d (suc n) store u × AreSteps s calls d (suc n) (store_with_update s d u store) us
 
 -- a later call of the same caller has a higher number
 abbrev pub ComesBefore : Update → Update → Type 0
@@ -42,7 +42,7 @@ AreClear items (u ∷ us) = Each (WritesClear items) (u ∷ us) × Each (λ v. u
 
 -- a history of partition d, of which the first a updates are applied: each update is right, a caller's
 -- calls rise, and what isn't applied writes clear of all that may still be read
-pub record Fine (s : Dimensions) (calls : List Call) (d a : ℕ) (h : List Update) : Type 0 where
+pub record Fine (s : Dimensions) (calls : List AskedCall) (d a : ℕ) (h : List Update) : Type 0 where
   pub steps : AreSteps s calls d 0 (no_store s) h
   pub rising : EachTwo ComesBefore h
   pub clear : AreClear (items_after [] (take a h)) (drop a h)

@@ -27,19 +27,19 @@ abbrev pub ruling_in : Store → ℕ → Asked → Ruling
 ruling_in store n op = ruling_of op.moment n op.act (live_at op.moment (held store (key_of op.act)))
 
 -- the run has no address in common with the run of any item
-abbrev pub IsClear : Items → Run → Type 0
-IsClear items run = Each (λ x. AreApart run (run_in x.1)) items
+abbrev pub IsClearOfItems : Items → Run → Type 0
+IsClearOfItems items run = Each (λ x. AreApart run (run_in x.1)) items
 
 -- what an update writes, if it writes, is clear of the runs of all items
 abbrev pub WritesClear : Items → Update → Type 0
-WritesClear items u = IfSome (run_of u.body) (IsClear items)
+WritesClear items u = IfSome (run_of u.body) (IsClearOfItems items)
 
 -- a value's run is as long as it, lies in the space, and is clear of the runs of all items; the update
 -- has it over what stands there, as a difference
 pub record IsPut (s : Dimensions) (store : Store) (h : Holding) (body : Body) : Type 0 where
   pub run : Run
   pub fits : IsRunOf (space_of s) (length h.item.value) run
-  pub clear : IsClear store.items run
+  pub clear : IsClearOfItems store.items run
   pub is : body ≡ Put h.item.flags h.until run (add_bytes h.item.value (bytes_at run.at run.len store.space))
 
 -- the body of an update, by what an accepted op leaves: no item, the item with another end, or a value

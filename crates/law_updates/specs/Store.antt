@@ -21,13 +21,13 @@ abbrev pub no_store : Dimensions → Store
 no_store s = record { items = []; space = replicate (space_of s) 0 }
 
 -- a store of partition d after an update
-abbrev pub stored : Dimensions → ℕ → Update → Store → Store
-stored s d u store = record { items = item_settled u store.items; space = space_added s (DataNode d) d u.body store.space }
+abbrev pub store_with_update : Dimensions → ℕ → Update → Store → Store
+store_with_update s d u store = record { items = item_settled u store.items; space = space_added s (DataNode d) d u.body store.space }
 
 -- a store after updates, in order
 abbrev pub store_from : Dimensions → ℕ → Store → List Update → Store
 store_from s d store [] = store
-store_from s d store (u ∷ us) = store_from s d (stored s d u store) us
+store_from s d store (u ∷ us) = store_from s d (store_with_update s d u store) us
 
 -- the store of partition d after its updates
 abbrev pub store_after : Dimensions → ℕ → List Update → Store

@@ -9,7 +9,7 @@ use Rattle.std.proofs.lemmas.List.Kept.{IsStrictlyIncreasing-filter}
 use Rattle.std.specs.List.{list_all, range_with_len}
 use Rattle.std.specs.List.Sorted.{IsStrictlyIncreasing}
 use Rattle.group_types.specs.Lists.{at}
-use Rattle.membership.specs.Members.{count_dead}
+use Rattle.membership.specs.Members.{count_dead_words}
 
 rising-range : (n : ℕ) → IsStrictlyIncreasing (range_with_len 0 n)
 rising-range n k below =
@@ -38,24 +38,24 @@ rising-take n xs rises k below =
     omega (arith, rises k (omega (arith, short.1)), get_or-take n xs k 0 (omega (arith, short.0)), get_or-take n xs (k + 1) 0 (omega (arith, short.0)))
 
 -- the dead behind a place
-count-step : (words : List Bool) (a : ℕ) → count_dead (drop a words) ≡ (if at false words a then 1 else 0) + count_dead (drop (suc a) words)
+count-step : (words : List Bool) (a : ℕ) → count_dead_words (drop a words) ≡ (if at false words a then 1 else 0) + count_dead_words (drop (suc a) words)
 count-step [] zero = refl
 count-step [] (suc a) = refl
 count-step (w ∷ ws) zero = refl
 count-step (w ∷ ws) (suc a) = count-step ws a
 
 -- no more are found dead than are counted
-found-dead : (words : List Bool) (a n : ℕ) → length (filter (at false words) (range_with_len a n)) ≤ count_dead (drop a words)
+found-dead : (words : List Bool) (a n : ℕ) → length (filter (at false words) (range_with_len a n)) ≤ count_dead_words (drop a words)
 found-dead words a zero = omega arith
 found-dead words a (suc n) =
     let next : suc a ≡ a + 1 = omega arith in
     by (at false words a) (found-dead words (a + 1) n)
-    (count-step words a ∙ ap (λ (b : ℕ). (if at false words a then 1 else 0) + count_dead (drop b words)) next)
+    (count-step words a ∙ ap (λ (b : ℕ). (if at false words a then 1 else 0) + count_dead_words (drop b words)) next)
   where
-    by : (b : Bool) → length (filter (at false words) (range_with_len (a + 1) n)) ≤ count_dead (drop (a + 1) words)
-        → count_dead (drop a words) ≡ (if b then 1 else 0) + count_dead (drop (a + 1) words)
+    by : (b : Bool) → length (filter (at false words) (range_with_len (a + 1) n)) ≤ count_dead_words (drop (a + 1) words)
+        → count_dead_words (drop a words) ≡ (if b then 1 else 0) + count_dead_words (drop (a + 1) words)
         → length (cond b (a ∷ filter (at false words) (range_with_len (a + 1) n))
-        (filter (at false words) (range_with_len (a + 1) n))) ≤ count_dead (drop a words)
+        (filter (at false words) (range_with_len (a + 1) n))) ≤ count_dead_words (drop a words)
     by true rest step = omega (arith, rest, step)
     by false rest step = omega (arith, rest, step)
 
@@ -69,7 +69,7 @@ both-sides f (x ∷ xs) = by (f x) (both-sides f xs) where
   by false rest = omega (arith, rest)
 
 -- there are as many living parity processes as dead data processes
-pub enough : (of_data parity : List Bool) (k m : ℕ) → count_dead of_data + count_dead parity ≤ m
+pub enough : (of_data parity : List Bool) (k m : ℕ) → count_dead_words of_data + count_dead_words parity ≤ m
     → length (filter (at false of_data) (range_with_len 0 k)) ≤ length (filter (λ i. not (at false parity i)) (range_with_len 0 m))
 enough of_data parity k m few =
     let lost = found-dead of_data 0 k in

@@ -6,7 +6,7 @@ use Rattle.group_types.specs.Dimensions.{Dimensions}
 use Rattle.group_types.specs.Lists.{at}
 use Rattle.group_types.specs.declared.process.ProcessId.{ProcessId}
 use Rattle.group_types.specs.declared.process.ProcessId.TheVariants.{DataNode, ParityNode}
-use Rattle.membership.specs.Members.{Membership, knows_dead, lost_of, with_dead}
+use Rattle.membership.specs.Members.{Membership, count_known_dead, knows_dead, with_dead}
 use Rattle.group_run.specs.Applying.{for_each, head_at}
 use Rattle.group_run.specs.Fitting.{NoticeFits}
 use Rattle.group_run.specs.Heading.{judge}
@@ -29,12 +29,12 @@ module _ (s : Dimensions) where
     pub copies : OwnStarted p → OwnStarted q
 
   bereaved-sound : (dead : ProcessId) (p q : Process) → IsBereaved dead p q → NoticeFits s p dead
-      → lost_of (with_dead p.known dead) ≤ s.m → CanLead s p → CanLead s q
+      → count_known_dead (with_dead p.known dead) ≤ s.m → CanLead s p → CanLead s q
   bereaved-sound dead p q is fits few sound = record {
     limits = sound.limits;
     named = (sound.named.0, is.name ∙ sound.named.1, sound.named.2);
     shape = ap (λ (known : Membership). known.shape) is.known ∙ shape-stays p.known dead ∙ sound.shape;
-    few = subst (λ (known : Membership). lost_of known ≤ s.m) (sym is.known) few;
+    few = subst (λ (known : Membership). count_known_dead known ≤ s.m) (sym is.known) few;
     living = ap (knows_dead q.known) is.name ∙ ap (λ (known : Membership). knows_dead known p.name) is.known
         ∙ knows-other p.known dead p.name fits.other ∙ sound.living;
     heads = λ d heads.
@@ -64,7 +64,7 @@ module _ (s : Dimensions) where
   death-bereaved (ParityNode i) p = closed-bereaved (ParityNode i) p (death_known (ParityNode i) p) p.as_leader.sessions refl refl refl refl
       (filtered-stays s (λ c. not (c.leader == i)) p).copies
 
-  pub noticed-sound : (dead : ProcessId) (p : Process) → CanLead s p → NoticeFits s p dead → lost_of (with_dead p.known dead) ≤ s.m
+  pub noticed-sound : (dead : ProcessId) (p : Process) → CanLead s p → NoticeFits s p dead → count_known_dead (with_dead p.known dead) ≤ s.m
       → CanLead s (notice_comes s dead p).process
   noticed-sound dead p sound fits few =
       let q : Process = death_known dead p in

@@ -8,7 +8,7 @@ use Rattle.group_types.specs.Dimensions.{Dimensions}
 use Rattle.group_types.specs.Lists.{at, put}
 use Rattle.group_types.specs.declared.process.ProcessId.{ProcessId}
 use Rattle.group_types.proofs.Lists.{at-put, at-put-other}
-use Rattle.membership.specs.Members.{Membership, knows_dead, lost_of}
+use Rattle.membership.specs.Members.{Membership, count_known_dead, knows_dead}
 use Rattle.group_message.specs.declared.update.Update.{Update}
 use Rattle.group_run.specs.Applying.{ProcessStep, apply_to, block_after, copy_after, for_each, head_at, replica_of, when, with_head}
 use Rattle.group_run.specs.Heading.{acknowledge, acknowledged, judge, judge_head, least_acked, other_parities}
@@ -84,8 +84,8 @@ module _ (s : Dimensions) where
     rows = subst (λ (name : ProcessId). AreRowed (parity_number name) q.as_leader.sessions) (sym stays.name) (stays.rows (parity_number p.name) sound.rows);
     copies = stays.copies sound.copies;
   } where
-    few_of : (known : Membership) → known ≡ p.known → lost_of known ≤ s.m
-    few_of known is = subst (λ (x : Membership). lost_of x ≤ s.m) (sym is) sound.few
+    few_of : (known : Membership) → known ≡ p.known → count_known_dead known ≤ s.m
+    few_of known is = subst (λ (x : Membership). count_known_dead x ≤ s.m) (sym is) sound.few
 
     vacant_of : (d : ℕ) (known : Membership) (name : ProcessId) → known ≡ p.known → name ≡ p.name → IsVacant p.known d (parity_number p.name)
         → IsVacant known d (parity_number name)

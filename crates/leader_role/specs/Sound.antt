@@ -4,7 +4,7 @@ use Rattle.std.specs.List.{list_all, range_with_len}
 use Rattle.group_types.specs.Dimensions.{Dimensions}
 use Rattle.group_types.specs.Shape.{IsShape}
 use Rattle.group_types.specs.declared.process.ProcessId.TheVariants.{DataNode, ParityNode}
-use Rattle.membership.specs.Members.{Membership, knows_dead, lost_of, with_dead}
+use Rattle.membership.specs.Members.{Membership, count_known_dead, knows_dead, with_dead}
 use Rattle.group_message.specs.declared.message.Message.{Message}
 use Rattle.group_message.specs.declared.message.Message.TheVariants as tells
 use Rattle.group_run.specs.Applying.{head_at}
@@ -26,7 +26,7 @@ pub record CanLead (s : Dimensions) (p : Process) : Type 0 where
   pub limits : IsShape s
   pub named : (i : ℕ) × (p.name ≡ ParityNode i) × (i < s.m)
   pub shape : p.known.shape ≡ s
-  pub few : lost_of p.known ≤ s.m
+  pub few : count_known_dead p.known ≤ s.m
   pub living : knows_dead p.known p.name ≡ false
   pub heads : (d : ℕ) → is_some (head_at p d) ≡ true → IsVacant p.known d (parity_number p.name)
   pub rows : All (λ g. Contains g.rows (parity_number p.name)) p.as_leader.sessions
@@ -35,6 +35,6 @@ pub record CanLead (s : Dimensions) (p : Process) : Type 0 where
 -- what a message meets besides where it comes in a group that isn't down: at most m are known dead after a notice, and
 -- a mark for a session of the process's own is for one that it started
 abbrev pub IsOfGroup : Dimensions → Message → Process → Type 0
-IsOfGroup s (tells.Notice dead) p = lost_of (with_dead p.known dead) ≤ s.m
+IsOfGroup s (tells.Notice dead) p = count_known_dead (with_dead p.known dead) ≤ s.m
 IsOfGroup s (tells.Mark session _ _ _ _) p = parity_number session.leader ≡ parity_number p.name → session.number ≤ p.as_leader.last_session
 IsOfGroup s _ p = ⊤

@@ -15,5 +15,5 @@ abbrev pub link_to : {M : Type 0} → List (Link M) → ℕ → Link M
 link_to links to = slice_index_or links to empty_link
 
 -- the links with these messages and this room for the target; all others stay
-abbrev pub with_link : {M : Type 0} → List (Link M) → ℕ → List M → ℕ → List (Link M)
-with_link links to messages spare = slice_set links to (record { messages = messages; spare = spare })
+abbrev pub with_link_to : {M : Type 0} → List (Link M) → ℕ → List M → ℕ → List (Link M)
+with_link_to links to messages spare = slice_set links to (record { messages = messages; spare = spare })

@@ -4,7 +4,7 @@
 #![tactic(auto)]
 
 ghost use Rattle.std.specs.Prelude.{◌≡◌, ◌↔◌, ℕ, ◌-◌, ◌<◌, ◌≤◌, ◌==◌, max, [], ◌∷◌, ◌++◌, length, take, drop, replicate, slice_get, All, IsTrue, IfOk, IsOk, OnOk, option_copied};
-ghost use Rattle.link_core.specs.Outgoing.{link_to, empty_link, with_link};
+ghost use Rattle.link_core.specs.Outgoing.{link_to, empty_link, with_link_to};
 
 use link::Link;
 use std::alloc::{AllocError, Global};
@@ -59,7 +59,7 @@ impl<M: Drop> Links<M> {
     pub fn send(&mut self, to: u32, message: M)
         requires target { to < length self.old }
         requires room { 0 < (link_to self.old to).spare }
-        ensures { self.new ≡ with_link self.old to ((link_to self.old to).messages ++ message ∷ []) ((link_to self.old to).spare - 1) }
+        ensures { self.new ≡ with_link_to self.old to ((link_to self.old to).messages ++ message ∷ []) ((link_to self.old to).spare - 1) }
     {
         self.links[to as usize].send(message);
     }
@@ -76,7 +76,7 @@ impl<M: Drop> Links<M> {
     pub fn pop(&mut self, to: u32) -> Option<M>
         requires { to < length self.old }
         ensures first { result ≡ slice_get (link_to self.old to).messages 0 }
-        ensures rest { self.new ≡ with_link self.old to (drop 1 (link_to self.old to).messages) (link_to self.old to).spare }
+        ensures rest { self.new ≡ with_link_to self.old to (drop 1 (link_to self.old to).messages) (link_to self.old to).spare }
     {
         self.links[to as usize].pop()
     }
@@ -84,7 +84,7 @@ impl<M: Drop> Links<M> {
     /// Keeps the first `keep` messages to this target, all of them if there are fewer.
     pub fn cut(&mut self, to: u32, keep: u32)
         requires { to < length self.old }
-        ensures { self.new ≡ with_link self.old to (take keep (link_to self.old to).messages) (link_to self.old to).spare }
+        ensures { self.new ≡ with_link_to self.old to (take keep (link_to self.old to).messages) (link_to self.old to).spare }
     {
         self.links[to as usize].cut(keep as usize);
     }

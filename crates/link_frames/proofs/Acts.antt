@@ -5,14 +5,14 @@ use Rattle.std.specs.Int.{w32, w64}
 use Rattle.std.proofs.lemmas.Bool.Decides.{nat_tests}
 use Rattle.std.proofs.lemmas.List.{append-nil}
 use Rattle.group_types.specs.Key.{IsKey}
-use Rattle.memc_table.specs.Act.{value_of}
+use Rattle.memc_table.specs.Act.{act_value}
 use Rattle.memc_table.specs.Asked.{Asked}
 use Rattle.memc_table.specs.declared.act.Act.{Act}
 use Rattle.memc_table.specs.declared.act.Act.TheVariants as asks
 use Rattle.group_wire.specs.State as wire
 use Rattle.wire_codec.specs.Fits.{IsOne, IsFour, IsEight}
 use Rattle.wire_codec.specs.Frame.{one, four, eight, short, long}
-use Rattle.wire_codec.specs.Reading.{Read, one_at, number_at, made_at, of_two, of_three, of_four, of_five, tagged_at, key_at}
+use Rattle.wire_codec.specs.Reading.{Read, one_at, decode_number, made_at, of_two, of_three, of_four, of_five, tagged_at, key_at}
 use Rattle.wire_codec.proofs.Codes.{IsBytes, Took, Codes, TakesAs, codes_one, codes_four, codes_eight, codes_tested}
 use Rattle.wire_codec.proofs.Codes.{takes_made, takes_two, takes_three, takes_four, takes_five, tagged_takes, again_two}
 use Rattle.wire_codec.proofs.Codes.{again_three, again_four, again_five}
@@ -23,7 +23,7 @@ use Rattle.link_frames.specs.Texts.{signed_at, value_at, touch_at, cas_at, item_
 use Rattle.link_frames.proofs.Fields.{again_as, codes_signed, codes_value}
 
 abbrev pub act : Act → List ℕ
-act a = act_before a ++ value_of a
+act a = act_before a ++ act_value a
 
 abbrev Spelled : ℕ × Read Act → Type 0
 Spelled entry = TakesAs act FitsAct entry
@@ -73,10 +73,10 @@ takes_append = takes_two act FitsAct (7 ∷ []) (λ a b. asks.Append a b) codes_
 takes_prepend : Spelled (8, of_two asks.Prepend key_at value_at)
 takes_prepend = takes_two act FitsAct (8 ∷ []) (λ a b. asks.Prepend a b) codes_key codes_value (same_joined 8) (λ a b p q. (p, q))
 
-takes_incr : Spelled (9, of_two asks.Incr key_at (number_at w64))
+takes_incr : Spelled (9, of_two asks.Incr key_at (decode_number w64))
 takes_incr = takes_two act FitsAct (9 ∷ []) (λ a b. asks.Incr a b) codes_key codes_eight (λ a b. append-nil (9 ∷ short a ++ eight b)) (λ a b p q. (p, q))
 
-takes_decr : Spelled (10, of_two asks.Decr key_at (number_at w64))
+takes_decr : Spelled (10, of_two asks.Decr key_at (decode_number w64))
 takes_decr = takes_two act FitsAct (10 ∷ []) (λ a b. asks.Decr a b) codes_key codes_eight (λ a b. append-nil (10 ∷ short a ++ eight b)) (λ a b p q. (p, q))
 
 all_acts : AllByRecursion Spelled act_table
@@ -127,7 +127,7 @@ act_again (asks.Replace key flags expiry value) rest fits =
     (short key ++ four flags ++ signed expiry ++ long value) rest (same_item 3 key flags expiry value) refl
     (again_item 3 (λ a b c d. asks.Replace a b c d) key flags expiry value rest fits)
 act_again (asks.Cas key flags expiry cas value) rest fits =
-    again_as act act_table 4 (of_five (λ a b c d e. asks.Cas a b c d e) key_at (number_at w32) signed_at (number_at w64)
+    again_as act act_table 4 (of_five (λ a b c d e. asks.Cas a b c d e) key_at (decode_number w32) signed_at (decode_number w64)
     value_at) (asks.Cas key flags expiry cas value) (short key ++ four flags ++ signed expiry ++ eight cas
     ++ long value) rest (same_cas key flags expiry cas value) refl
     (again_five (λ a b c d e. asks.Cas a b c d e) codes_key codes_four codes_signed codes_eight codes_value key flags
@@ -147,11 +147,11 @@ act_again (asks.Prepend key value) rest fits =
     (short key ++ long value) rest (same_joined 8 key value) refl
     (again_two (λ a b. asks.Prepend a b) codes_key codes_value key value rest fits.0 fits.1)
 act_again (asks.Incr key by) rest fits =
-    again_as act act_table 9 (of_two (λ a b. asks.Incr a b) key_at (number_at w64)) (asks.Incr key by)
+    again_as act act_table 9 (of_two (λ a b. asks.Incr a b) key_at (decode_number w64)) (asks.Incr key by)
     (short key ++ eight by) rest (append-nil (9 ∷ short key ++ eight by)) refl
     (again_two (λ a b. asks.Incr a b) codes_key codes_eight key by rest fits.0 fits.1)
 act_again (asks.Decr key by) rest fits =
-    again_as act act_table 10 (of_two (λ a b. asks.Decr a b) key_at (number_at w64)) (asks.Decr key by)
+    again_as act act_table 10 (of_two (λ a b. asks.Decr a b) key_at (decode_number w64)) (asks.Decr key by)
     (short key ++ eight by) rest (append-nil (10 ∷ short key ++ eight by)) refl
     (again_two (λ a b. asks.Decr a b) codes_key codes_eight key by rest fits.0 fits.1)
 
@@ -164,7 +164,7 @@ IsMoment n = n ≤ 2 ^ 62
 
 codes_moment : Codes eight IsMoment moment_at
 unfolding moment_at
-codes_moment = codes_tested eight IsEight IsMoment (number_at w64) (λ n. nat_le n (2 ^ 62)) codes_eight
+codes_moment = codes_tested eight IsEight IsMoment (decode_number w64) (λ n. nat_le n (2 ^ 62)) codes_eight
     (λ n fits passes. grind (arith, nat_tests)) (λ n fits. omega (arith, fits)) (λ n fits. grind (arith, nat_tests))
 
 abbrev pub asked : Asked → List ℕ
@@ -184,7 +184,7 @@ request r = request_before r ++ request_value r
 pub same_ask : (caller call : ℕ) (op : Asked) → request (wire.AskFor caller call op) ≡ 15 ∷ (one caller ++ eight call ++ asked op)
 same_ask caller call op =
     ap (λ (t : List ℕ). 15 ∷ t) (append_assoc (one caller ++ eight call ++ eight op.moment) (act_before op.act)
-    (value_of op.act) ∙ append_assoc (one caller ++ eight call) (eight op.moment) (act op.act))
+    (act_value op.act) ∙ append_assoc (one caller ++ eight call) (eight op.moment) (act op.act))
 
 pub same_trace : (caller call d : ℕ) → request (wire.TraceOf caller call d) ≡ 16 ∷ (one caller ++ eight call ++ one d)
 same_trace caller call d = append-nil (16 ∷ one caller ++ eight call ++ one d)

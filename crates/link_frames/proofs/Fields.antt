@@ -8,7 +8,7 @@ use Rattle.std.proofs.lemmas.List.{append-nil}
 use Rattle.group_types.specs.Shape.{most_space}
 use Rattle.wire_codec.specs.Fits.{IsEight, IsLong}
 use Rattle.wire_codec.specs.Frame.{eight, long}
-use Rattle.wire_codec.specs.Reading.{Read, number_at, long_at, picked, tagged_at}
+use Rattle.wire_codec.specs.Reading.{Read, decode_number, long_at, picked, tagged_at}
 use Rattle.wire_codec.proofs.Codes.{IsBytes, Took, Codes, step, some_is, codes_eight, codes_tested, takes_given, tagged_takes}
 use Rattle.wire_codec.proofs.Spelled.{codes_long}
 use Rattle.link_frames.specs.Limits.{FitsSigned, FitsValue}

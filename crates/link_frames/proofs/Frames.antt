@@ -10,8 +10,8 @@ use Rattle.group_message.specs.declared.message.Message as messages
 use Rattle.group_message.specs.declared.message.Message.TheVariants as tells
 use Rattle.group_wire.specs.State as wire
 use Rattle.wire_codec.specs.Fits.{IsFour, IsEight, FitFields, HasFrame, most}
-use Rattle.wire_codec.specs.Frame.{one, four, eight, kind_of, text_of}
-use Rattle.wire_codec.specs.Reading.{◌>>=◌, Read, made_at, number_at, tested_at, tagged_at, message_of}
+use Rattle.wire_codec.specs.Frame.{one, four, eight, kind_of, frame_body}
+use Rattle.wire_codec.specs.Reading.{◌>>=◌, Read, made_at, decode_number, tested_at, tagged_at, message_in}
 use Rattle.wire_codec.proofs.Codes.{IsBytes, Took, Codes, TakesAs, bind_some, some_is, codes_four, codes_eight, codes_tested, takes_made, tagged_takes}
 use Rattle.wire_codec.proofs.Messages.{text_takes, text_again}
 use Rattle.link_frames.specs.declared.frame.Frame.{Frame}
@@ -47,8 +47,8 @@ takes_hello s = takes_made own_text (Own s) (11 ∷ []) (λ h. carries.Hello h) 
 abbrev IsKnown : Dimensions → ℕ → Type 0
 IsKnown s names = (names < 2 ^ processes_of s) × IsFour names
 
-codes_names : (s : Dimensions) → Codes four (IsKnown s) (tested_at (λ names. nat_lt names (2 ^ processes_of s)) (number_at w32))
-codes_names s = codes_tested four IsFour (IsKnown s) (number_at w32) (λ names. nat_lt names (2 ^ processes_of s))
+codes_names : (s : Dimensions) → Codes four (IsKnown s) (tested_at (λ names. nat_lt names (2 ^ processes_of s)) (decode_number w32))
+codes_names s = codes_tested four IsFour (IsKnown s) (decode_number w32) (λ names. nat_lt names (2 ^ processes_of s))
     codes_four (λ n fits passes. (grind (arith, nat_tests), fits)) (λ n fits. fits.1) (λ n fits. let below = fits.0 in
     grind (arith, nat_tests))
 
@@ -57,11 +57,11 @@ unfolding said_at
 takes_said s = takes_made own_text (Own s) (12 ∷ []) said_names (codes_names s) (λ n. append-nil (12 ∷ four n))
     (λ n fits. (record { fits = fits.1; known = fits.0 }, tt))
 
-takes_ping : (s : Dimensions) → Spelled s (13, made_at Ping (number_at w64))
+takes_ping : (s : Dimensions) → Spelled s (13, made_at Ping (decode_number w64))
 takes_ping s = takes_made own_text (Own s) (13 ∷ []) (λ n. Ping n) codes_eight (λ n. append-nil (13 ∷ eight n))
     (λ n fits. (record { fits = fits; known = tt }, tt))
 
-takes_pong : (s : Dimensions) → Spelled s (14, made_at Pong (number_at w64))
+takes_pong : (s : Dimensions) → Spelled s (14, made_at Pong (decode_number w64))
 takes_pong s = takes_made own_text (Own s) (14 ∷ []) (λ n. Pong n) codes_eight (λ n. append-nil (14 ∷ eight n))
     (λ n fits. (record { fits = fits; known = tt }, tt))
 
@@ -121,12 +121,12 @@ own_again s (carries.Hello h) rest own = again_as own_text (link_kinds s) 11 (ma
     (frame_made (λ h. carries.Hello h) codes_hello h rest own.0.fits)
 own_again s (Said names) rest own =
     again_as own_text (link_kinds s) 12
-    (made_at said_names (tested_at (λ names. nat_lt names (2 ^ processes_of s)) (number_at w32))) (Said names)
+    (made_at said_names (tested_at (λ names. nat_lt names (2 ^ processes_of s)) (decode_number w32))) (Said names)
     (four names.0) rest (append-nil (12 ∷ four names.0)) refl
     (frame_made said_names (codes_names s) names.0 rest (own.0.known, own.0.fits))
-own_again s (Ping n) rest own = again_as own_text (link_kinds s) 13 (made_at (λ n. Ping n) (number_at w64)) (Ping n)
+own_again s (Ping n) rest own = again_as own_text (link_kinds s) 13 (made_at (λ n. Ping n) (decode_number w64)) (Ping n)
     (eight n) rest (append-nil (13 ∷ eight n)) refl (frame_made (λ n. Ping n) codes_eight n rest own.0.fits)
-own_again s (Pong n) rest own = again_as own_text (link_kinds s) 14 (made_at (λ n. Pong n) (number_at w64)) (Pong n)
+own_again s (Pong n) rest own = again_as own_text (link_kinds s) 14 (made_at (λ n. Pong n) (decode_number w64)) (Pong n)
     (eight n) rest (append-nil (14 ∷ eight n)) refl (frame_made (λ n. Pong n) codes_eight n rest own.0.fits)
 own_again s (Request (wire.AskFor caller call op)) rest own =
     again_as own_text (link_kinds s) 15 (made_at (λ r. Request r) ask_at) (Request (wire.AskFor caller call op))
@@ -195,10 +195,10 @@ ended (g, []) f e = (some_is g f e, refl)
 ended (g, b ∷ rest) f e = absurd cc
 
 message_takes : (s : Dimensions) (text : List ℕ) (f : Frame) → IsBytes text → length text ≤ most
-    → is_message text ≡ true → (message_of text >>= (λ m. one_frame (Message m))) ≡ Some f → (text ≡ link_text f)
+    → is_message text ≡ true → (message_in text >>= (λ m. one_frame (Message m))) ≡ Some f → (text ≡ link_text f)
     × HasLink s f
 message_takes s text f is short kind e =
-    let b = bind_some (message_of text) (λ m. one_frame (Message m)) f e in
+    let b = bind_some (message_in text) (λ m. one_frame (Message m)) f e in
     let t = text_takes text b.0 is b.1 in
     let below : nat_lt (kind_of b.0) 10 ≡ true = ap is_message (sym t.0) ∙ kind in
     let has : HasFrame b.0 = record { fit = t.1; short = omega (arith, short, ap length t.0) } in
@@ -213,7 +213,7 @@ own_takes s text f is e =
     subst (λ (g : Frame). (text ≡ link_text g) × HasLink s g) last.0 (whole ∙ own_is_link b.0.0 t.fits.1, t.fits.0)
 
 takes_by : (b : Bool) (s : Dimensions) (text : List ℕ) (f : Frame) → is_message text ≡ b → IsBytes text
-    → length text ≤ most → cond b (message_of text >>= (λ m. one_frame (Message m))) (frame_at s text >>= to_end)
+    → length text ≤ most → cond b (message_in text >>= (λ m. one_frame (Message m))) (frame_at s text >>= to_end)
     ≡ Some f → (text ≡ link_text f) × HasLink s f
 takes_by true s text f kind is short e = message_takes s text f is short kind e
 takes_by false s text f kind is short e = own_takes s text f is e

@@ -13,7 +13,7 @@ use Rattle.group_types.specs.declared.shape.Field.TheVariants.{K, M, Block, Bloc
 use Rattle.group_types.specs.declared.process.ProcessId.{ProcessId}
 use Rattle.wire_codec.specs.Fits.{IsOne, IsTwo, IsFour, IsEight, FitsProcess}
 use Rattle.wire_codec.specs.Frame.{one, two, four, eight, process}
-use Rattle.wire_codec.specs.Reading.{◌>>=◌, Read, one_at, number_at, of_two, of_four, of_five, tested_at, process_at}
+use Rattle.wire_codec.specs.Reading.{◌>>=◌, Read, one_at, decode_number, of_two, of_four, of_five, tested_at, decode_process}
 use Rattle.wire_codec.proofs.Codes.{IsBytes, Took, Codes, step, join, codes_one, codes_two, codes_four, codes_eight}
 use Rattle.wire_codec.proofs.Codes.{codes_tested, takes_two, takes_four, takes_five, again_two, again_four, again_five}
 use Rattle.wire_codec.proofs.Spelled.{codes_process}
@@ -75,7 +75,7 @@ passes_is_shape s passes =
 abbrev FitsNumbers : Dimensions → Type 0
 FitsNumbers s = IsOne s.k × IsOne s.m × IsFour s.blocks × IsFour s.block
 
-codes_dimensions : Codes dimensions FitsNumbers (of_four dimensions_by one_at one_at (number_at w32) (number_at w32))
+codes_dimensions : Codes dimensions FitsNumbers (of_four dimensions_by one_at one_at (decode_number w32) (decode_number w32))
 codes_dimensions = record {
   takes = takes_four dimensions FitsNumbers [] dimensions_by codes_one codes_one codes_four codes_four (λ a b c d. refl) (λ a b c d p q r s. (p, q, r, s));
   again = λ s rest fits. again_four dimensions_by codes_one codes_one codes_four codes_four s.k s.m s.blocks s.block rest fits.0 fits.1 fits.2 fits.3;
@@ -94,7 +94,7 @@ numbers_fit s is =
 codes_shape : Codes dimensions IsShape shape_at
 unfolding shape_at
 codes_shape = codes_tested dimensions FitsNumbers IsShape
-    (of_four dimensions_by one_at one_at (number_at w32) (number_at w32)) passes_shape codes_dimensions
+    (of_four dimensions_by one_at one_at (decode_number w32) (decode_number w32)) passes_shape codes_dimensions
     (λ s fits passes. passes_is_shape s passes) numbers_fit shape_passes
 
 abbrev group : GroupId → List ℕ
@@ -141,8 +141,8 @@ codes_greeting = record {
 abbrev IsMagic : ℕ → Type 0
 IsMagic word = (word ≡ magic_word) × IsEight word
 
-codes_magic : Codes eight IsMagic (tested_at (λ word. word == magic_word) (number_at w64))
-codes_magic = codes_tested eight IsEight IsMagic (number_at w64) (λ word. word == magic_word) codes_eight
+codes_magic : Codes eight IsMagic (tested_at (λ word. word == magic_word) (decode_number w64))
+codes_magic = codes_tested eight IsEight IsMagic (decode_number w64) (λ word. word == magic_word) codes_eight
     (λ word fits passes. (eqb-true _ _ passes, fits)) (λ word fits. fits.1) (λ word fits. eq-eqb _ _ fits.0)
 
 hello_takes : (bytes : List ℕ) (h : Hello) (rest : List ℕ) → IsBytes bytes → hello_at bytes ≡ Some (h, rest) → Took hello FitsHello bytes h rest
@@ -182,7 +182,7 @@ fails_by true d is none = absurd (none (passes_is_shape d is))
 fails_by false d is none = is
 
 pub shape_read : (bytes a b c rest : List ℕ) (k m blocks block : ℕ) → one_at bytes ≡ Some (k, a)
-    → one_at a ≡ Some (m, b) → number_at w32 b ≡ Some (blocks, c) → number_at w32 c ≡ Some (block, rest)
+    → one_at a ≡ Some (m, b) → decode_number w32 b ≡ Some (blocks, c) → decode_number w32 c ≡ Some (block, rest)
     → IsShape (dimensions_by k m blocks block)
     → shape_at bytes ≡ Some (dimensions_by k m blocks block, rest)
 unfolding shape_at
@@ -190,7 +190,7 @@ shape_read bytes a b c rest k m blocks block is_k is_m is_blocks is_block is =
     rw (is_k, is_m, is_blocks, is_block, shape_passes (dimensions_by k m blocks block) is) refl
 
 pub shape_none : (bytes a b c rest : List ℕ) (k m blocks block : ℕ) (f : Field) → one_at bytes ≡ Some (k, a)
-    → one_at a ≡ Some (m, b) → number_at w32 b ≡ Some (blocks, c) → number_at w32 c ≡ Some (block, rest)
+    → one_at a ≡ Some (m, b) → decode_number w32 b ≡ Some (blocks, c) → decode_number w32 c ≡ Some (block, rest)
     → IsFirstOutOfRange (dimensions_by k m blocks block) f
     → shape_at bytes ≡ None
 unfolding shape_at

@@ -5,7 +5,7 @@ use Rattle.std.proofs.lemmas.List.{append-nil, length-append}
 use Rattle.group_types.specs.Dimensions.{Dimensions}
 use Rattle.group_types.specs.Key.{IsKey}
 use Rattle.group_types.specs.Shape.{most_space}
-use Rattle.memc_table.specs.Act.{value_of}
+use Rattle.memc_table.specs.Act.{act_value}
 use Rattle.memc_table.specs.declared.act.Act.{Act}
 use Rattle.memc_table.specs.declared.act.Act.TheVariants as asks
 use Rattle.memc_table.specs.declared.reply.Reply.{Reply}
@@ -46,7 +46,7 @@ item_few tag key flags expiry more is =
 key_few : (tag : ℕ) (key more : List ℕ) → IsKey key → length (tag ∷ short key ++ more) ≤ 252 + length more
 key_few tag key more is = let few = is.short in omega (arith, few, length-append (short key) more)
 
-act_few : (a : Act) → FitsAct a → (length (act_before a) ≤ 276) × (length (value_of a) ≤ most_space)
+act_few : (a : Act) → FitsAct a → (length (act_before a) ≤ 276) × (length (act_value a) ≤ most_space)
 act_few (asks.Get key) fits = (let few = fits.short in omega (arith, few), omega arith)
 act_few (asks.Set key flags expiry value) fits = (let few = item_few 1 key flags expiry (four (length value)) fits.0 in omega (arith, few), fits.3)
 act_few (asks.Add key flags expiry value) fits = (let few = item_few 2 key flags expiry (four (length value)) fits.0 in omega (arith, few), fits.3)
@@ -73,7 +73,7 @@ request_few (wire.AskFor caller call op) fits =
       arith,
       before,
       value,
-      length-append (request_before (wire.AskFor caller call op)) (value_of op.act),
+      length-append (request_before (wire.AskFor caller call op)) (act_value op.act),
       length-append (one caller ++ eight call ++ eight op.moment) (act_before op.act),
     )
 request_few (wire.TraceOf caller call d) fits = omega arith
@@ -135,7 +135,7 @@ text_few (Said names) fits = (omega arith, omega arith)
 text_few (Ping n) fits = (omega arith, omega arith)
 text_few (Pong n) fits = (omega arith, omega arith)
 text_few (Request (wire.AskFor caller call op)) fits = (
-  omega (arith, length-append (request_before (wire.AskFor caller call op)) (value_of op.act)),
+  omega (arith, length-append (request_before (wire.AskFor caller call op)) (act_value op.act)),
   request_few (wire.AskFor caller call op) fits,
 )
 text_few (Request (wire.TraceOf caller call d)) fits = (omega arith, request_few (wire.TraceOf caller call d) fits)

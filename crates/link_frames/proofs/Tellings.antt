@@ -12,7 +12,7 @@ use Rattle.group_calls.specs.declared.event.Cause.TheVariants.{Pending, Block}
 use Rattle.group_wire.specs.State as wire
 use Rattle.wire_codec.specs.Fits.{IsOne, IsFour, IsEight}
 use Rattle.wire_codec.specs.Frame.{one, four, eight, long}
-use Rattle.wire_codec.specs.Reading.{Read, given, one_at, number_at, made_at, of_two, of_three, of_four, tagged_at}
+use Rattle.wire_codec.specs.Reading.{Read, given, one_at, decode_number, made_at, of_two, of_three, of_four, tagged_at}
 use Rattle.wire_codec.proofs.Codes.{IsBytes, Took, Codes, TakesAs, codes_one, codes_four, codes_eight, takes_given}
 use Rattle.wire_codec.proofs.Codes.{takes_made, takes_two, takes_three, takes_four, tagged_takes, again_two}
 use Rattle.wire_codec.proofs.Codes.{again_three, again_four}
@@ -71,16 +71,16 @@ all_replies = (
   ),
 )
 
-number_reads : {X : Type 0} (make : ℕ → X) (n : ℕ) (rest : List ℕ) → IsEight n → made_at make (number_at w64) (eight n ++ rest) ≡ Some (make n, rest)
+number_reads : {X : Type 0} (make : ℕ → X) (n : ℕ) (rest : List ℕ) → IsEight n → made_at make (decode_number w64) (eight n ++ rest) ≡ Some (make n, rest)
 number_reads make n rest fits = rw (codes_eight.again n rest fits) refl
 
 reply_again : (r : Reply) (rest : List ℕ) → FitsToldReply r → reply_at (reply r ++ rest) ≡ Some (r, rest)
 unfolding reply_at value_reply_at
 reply_again (says.Value item) rest fits =
-    again_as reply reply_table 0 (of_three value_reply (number_at w32) (number_at w64) value_at) (says.Value item)
+    again_as reply reply_table 0 (of_three value_reply (decode_number w32) (decode_number w64) value_at) (says.Value item)
     (four item.flags ++ eight item.cas ++ long item.value) rest (same_shown item.flags item.cas item.value) refl
     (again_three value_reply codes_four codes_eight codes_value item.flags item.cas item.value rest fits.0 fits.1 fits.2)
-reply_again (says.Number n) rest fits = again_as reply reply_table 8 (made_at (λ n. says.Number n) (number_at w64))
+reply_again (says.Number n) rest fits = again_as reply reply_table 8 (made_at (λ n. says.Number n) (decode_number w64))
     (says.Number n) (eight n) rest (number_nil 8 n) refl (number_reads (λ n. says.Number n) n rest fits)
 reply_again says.Miss rest fits = refl
 reply_again says.Stored rest fits = refl
@@ -101,7 +101,7 @@ codes_reply = record { takes = tagged_takes reply FitsToldReply reply_table all_
 cause_again : (c : Cause) (rest : List ℕ) → FitsToldCause c → cause_at (cause c ++ rest) ≡ Some (c, rest)
 unfolding cause_at
 cause_again (Pending d number) rest fits =
-    again_as cause cause_table 0 (of_two pending_by one_at (number_at w64)) (Pending d number) (one d.0 ++ eight number)
+    again_as cause cause_table 0 (of_two pending_by one_at (decode_number w64)) (Pending d number) (one d.0 ++ eight number)
     rest refl refl (again_two pending_by codes_one codes_eight d.0 number rest fits.0 fits.1)
 cause_again (Block block) rest fits = rw (codes_four.again block rest fits) refl
 
@@ -173,12 +173,12 @@ unfolding told_answer_at
 answer_again (answers.Reply r) rest fits = again_as answer answer_table 0 (made_at (λ r. answers.Reply r) reply_at)
     (answers.Reply r) (reply r) rest refl refl (rw (reply_again r rest fits) refl)
 answer_again (answers.Ticket n) rest fits =
-    again_as answer answer_table 1 (made_at (λ n. answers.Ticket n) (number_at w64)) (answers.Ticket n) (eight n) rest
+    again_as answer answer_table 1 (made_at (λ n. answers.Ticket n) (decode_number w64)) (answers.Ticket n) (eight n) rest
     (number_nil 1 n) refl (number_reads (λ n. answers.Ticket n) n rest fits)
 answer_again (answers.Retry c) rest fits = again_as answer answer_table 4 (made_at (λ c. answers.Retry c) cause_at)
     (answers.Retry c) (cause c) rest (cause_nil c) refl (rw (cause_again c rest fits) refl)
 answer_again (answers.Stale n) rest fits =
-    again_as answer answer_table 13 (made_at (λ n. answers.Stale n) (number_at w64)) (answers.Stale n) (eight n) rest
+    again_as answer answer_table 13 (made_at (λ n. answers.Stale n) (decode_number w64)) (answers.Stale n) (eight n) rest
     (number_nil 13 n) refl (number_reads (λ n. answers.Stale n) n rest fits)
 answer_again answers.NotYet rest fits = refl
 answer_again answers.NoSpace rest fits = refl
@@ -205,7 +205,7 @@ same_told caller call traced a = append_assoc (one caller ++ eight call ++ flag_
 told_again : (t : wire.Told) (rest : List ℕ) → FitsTold t → telling_at (told t ++ rest) ≡ Some (t, rest)
 unfolding telling_at
 told_again t rest fits =
-    ap (λ (text : List ℕ). of_four telling_of one_at (number_at w64) flag_at told_answer_at (text ++ rest)) (same_told t.caller t.call t.traced t.answer)
+    ap (λ (text : List ℕ). of_four telling_of one_at (decode_number w64) flag_at told_answer_at (text ++ rest)) (same_told t.caller t.call t.traced t.answer)
     ∙ again_four telling_of codes_one codes_eight codes_flag codes_answer t.caller t.call t.traced t.answer rest fits.0 fits.1 tt fits.2
 
 pub codes_told : Codes told FitsTold telling_at

@@ -9,7 +9,7 @@ use Rattle.group_types.specs.Dimensions.{Dimensions}
 use Rattle.crc32c.specs.Register.{checksum}
 use Rattle.wire_codec.specs.Fits.{IsFour, most}
 use Rattle.wire_codec.specs.Frame.{four}
-use Rattle.wire_codec.specs.Reading.{number_at}
+use Rattle.wire_codec.specs.Reading.{decode_number}
 use Rattle.wire_codec.specs.Stream.{announced, IsLength}
 use Rattle.wire_codec.proofs.Codes.{IsBytes, IsBytes-drop, IsBytes-take, IsBytes-append, codes_four, wide32, some_is}
 use Rattle.wire_codec.proofs.Cuts.{announced-more}

@@ -1,7 +1,7 @@
 -- The text of each frame: the kind, and its fields in order. The value that a frame carries stands at the end, but in messages.
 use Rattle.std.specs.Prelude.{ℕ, ℤ, pos, negsuc, ◌-◌, ◌^◌, Bool, true, false, List, [], ◌∷◌, ◌++◌, length}
 use Rattle.group_types.specs.Dimensions.{Dimensions}
-use Rattle.memc_table.specs.Act.{value_of}
+use Rattle.memc_table.specs.Act.{act_value}
 use Rattle.memc_table.specs.Asked.{Asked}
 use Rattle.memc_table.specs.declared.act.Act.{Act}
 use Rattle.memc_table.specs.declared.act.Act.TheVariants as asks
@@ -12,7 +12,7 @@ use Rattle.group_calls.specs.declared.event.Answer.TheVariants as answers
 use Rattle.group_calls.specs.declared.event.Cause.{Cause}
 use Rattle.group_calls.specs.declared.event.Cause.TheVariants.{Pending, Block}
 use Rattle.group_wire.specs.State as wire
-use Rattle.wire_codec.specs.Frame.{one, two, four, eight, short, process, text_of}
+use Rattle.wire_codec.specs.Frame.{one, two, four, eight, short, process, frame_body}
 use Rattle.wire_codec.specs.Parts as message
 use Rattle.link_frames.specs.declared.hello.Hello.{Hello}
 use Rattle.link_frames.specs.declared.frame.Frame.{Frame}
@@ -65,7 +65,7 @@ request_before (wire.AskFor caller call op) = 15 ∷ one caller ++ eight call ++
 request_before (wire.TraceOf caller call d) = 16 ∷ one caller ++ eight call ++ one d
 
 abbrev pub request_value : wire.Request → List ℕ
-request_value (wire.AskFor caller call op) = value_of op.act
+request_value (wire.AskFor caller call op) = act_value op.act
 request_value (wire.TraceOf caller call d) = []
 
 -- a reply up to the bytes of the value that it shows
@@ -135,5 +135,5 @@ link_behind _ = []
 
 -- the text of a frame: of a message the one that it has elsewhere
 abbrev pub link_text : Frame → List ℕ
-link_text (Message m) = text_of m
+link_text (Message m) = frame_body m
 link_text f = link_before f ++ link_value f

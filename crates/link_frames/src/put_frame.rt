@@ -79,7 +79,7 @@ fn asked_value(request: &Request) -> &[u8]
 }
 
 fn brought_value(act: &Act) -> &[u8]
-    ensures { result.now ≡ acts.value_of act.now }
+    ensures { result.now ≡ acts.act_value act.now }
 {
     match act {
         Act::Set { value, .. }

@@ -1,6 +1,6 @@
 ghost use Rattle.std.specs.Prelude.{◌≡◌, ◌≤◌, ◌^◌, IfOk};
 ghost use Rattle.memc_table.specs.declared.act.Act.TheVariants as asks;
-ghost use Rattle.wire_codec.specs.Reading.{Gives, of_two, key_at, number_at};
+ghost use Rattle.wire_codec.specs.Reading.{Gives, of_two, key_at, decode_number};
 ghost use Rattle.std.specs.Int.{w64};
 ghost use Rattle.link_frames.specs.Texts.{act_at, ask_at, op_at, cas_at, item_at, moment_at, touch_at, trace_at, value_at};
 
@@ -176,7 +176,7 @@ fn take_prepend(alloc: Global, bytes: &[u8]) -> Result<(Act, &[u8]), ReadFault>
 }
 
 fn take_incr(alloc: Global, bytes: &[u8]) -> Result<(Act, &[u8]), ReadFault>
-    ensures { Gives (λ x. (x.0, x.1.now)) result (of_two asks.Incr key_at (number_at w64) bytes.now) }
+    ensures { Gives (λ x. (x.0, x.1.now)) result (of_two asks.Incr key_at (decode_number w64) bytes.now) }
 {
     let (key, rest) = take_key(alloc, bytes)?;
     let (by, rest) = take_eight(rest)?;
@@ -184,7 +184,7 @@ fn take_incr(alloc: Global, bytes: &[u8]) -> Result<(Act, &[u8]), ReadFault>
 }
 
 fn take_decr(alloc: Global, bytes: &[u8]) -> Result<(Act, &[u8]), ReadFault>
-    ensures { Gives (λ x. (x.0, x.1.now)) result (of_two asks.Decr key_at (number_at w64) bytes.now) }
+    ensures { Gives (λ x. (x.0, x.1.now)) result (of_two asks.Decr key_at (decode_number w64) bytes.now) }
 {
     let (key, rest) = take_key(alloc, bytes)?;
     let (by, rest) = take_eight(rest)?;

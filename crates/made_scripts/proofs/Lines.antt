@@ -11,7 +11,7 @@ use Rattle.group_calls.specs.declared.event.Event.{Event}
 use Rattle.group_calls.specs.declared.event.Event.TheVariants as happens
 use Rattle.group_run.specs.World.{World, step, world_after}
 use Rattle.law_moves.proofs.Notices.{both}
-use Rattle.scenario_text.specs.Meaning.{line_of}
+use Rattle.scenario_text.specs.Meaning.{line_meaning}
 use Rattle.scenario_text.specs.declared.line.Line.{Line}
 use Rattle.scenario_text.specs.declared.line.Line.TheVariants.{Skipped, Group, Ask, Collect, Deliver, Fail, Flush, Trace, Drain, Show, Places, Time, Stop}
 use Rattle.scenario_text.specs.declared.line.LineFault.{LineFault}
@@ -19,7 +19,7 @@ use Rattle.scenario_run.specs.Lines.{lines_of, without_empty_last}
 use Rattle.scenario_text.specs.declared.line.LineFault.TheVariants.{BadLine}
 use Rattle.scenario_run.specs.Course as course
 use Rattle.scenario_run.specs.Course.{Goes, Ends, Refused, Fault}
-use Rattle.scenario_run.specs.Playing.{Play, draining, next_by, next_of}
+use Rattle.scenario_run.specs.Playing.{Play, draining_unless_down, next_by, next_of}
 
 -- the first line that is refused, where the next line has the number n
 abbrev pub fault_in : ℕ → Option Play → List (List ℕ) → Option (Fault LineFault)
@@ -86,51 +86,52 @@ module _ (s : Dimensions) where
     pub shape : next.world.shape ≡ s
     pub fault : (n : ℕ) (lines : List (List ℕ)) → fault_in n (Some p) (line ∷ lines) ≡ fault_in (n + 1) (Some next) lines
 
-  goes-on : (p : Play) → p.world.shape ≡ s → (line : List ℕ) → is_plain (line_of (Some s) line) ≡ true → GoesOn p line
-  goes-on p shape line plain = by (line_of (Some p.world.shape) line) refl (ap (λ (t : Dimensions). is_plain (line_of (Some t) line)) shape ∙ plain) where
-    after : (e : Event) → Play
-    after e = record { world = (step p.world e).world; moment = p.moment }
+  goes-on : (p : Play) → p.world.shape ≡ s → (line : List ℕ) → is_plain (line_meaning (Some s) line) ≡ true → GoesOn p line
+  goes-on p shape line plain =
+      by (line_meaning (Some p.world.shape) line) refl (ap (λ (t : Dimensions). is_plain (line_meaning (Some t) line)) shape ∙ plain) where
+        after : (e : Event) → Play
+        after e = record { world = (step p.world e).world; moment = p.moment }
 
-    fault-is : (r : Result Line LineFault) → line_of (Some p.world.shape) line ≡ r → (n : ℕ) (lines : List (List ℕ))
-        → fault_in n (Some p) (line ∷ lines) ≡ elim (next_by (Some p) r) [
-          | Goes next turns text ↦ fault_in (n + 1) next lines
-          | Ends ↦ None
-          | Refused fault ↦ Some
-              (record { number = n; cause = fault })
-        ]
-    fault-is r is n lines =
-        ap (λ (x : Result Line LineFault). elim (next_by (Some p) x) [
-          | Goes next turns text ↦ fault_in (n + 1) next lines
-          | Ends ↦ None
-          | Refused fault ↦ Some
-              (record { number = n; cause = fault })
-        ]) is
+        fault-is : (r : Result Line LineFault) → line_meaning (Some p.world.shape) line ≡ r → (n : ℕ) (lines : List (List ℕ))
+            → fault_in n (Some p) (line ∷ lines) ≡ elim (next_by (Some p) r) [
+              | Goes next turns text ↦ fault_in (n + 1) next lines
+              | Ends ↦ None
+              | Refused fault ↦ Some
+                  (record { number = n; cause = fault })
+            ]
+        fault-is r is n lines =
+            ap (λ (x : Result Line LineFault). elim (next_by (Some p) x) [
+              | Goes next turns text ↦ fault_in (n + 1) next lines
+              | Ends ↦ None
+              | Refused fault ↦ Some
+                  (record { number = n; cause = fault })
+            ]) is
 
-    by : (r : Result Line LineFault) → line_of (Some p.world.shape) line ≡ r → is_plain r ≡ true → GoesOn p line
-    by (Err fault) is plain = absurd (cc plain)
-    by (Ok (Ask caller at act)) is plain =
-        record {
-          next = after (happens.Ask caller (record { moment = p.moment; act = act }) at);
-          shape = shape;
-          fault = fault-is (Ok (Ask caller at act)) is;
-        }
-    by (Ok (Deliver from to)) is plain = record { next = after (happens.Deliver from to); shape = shape; fault = fault-is (Ok (Deliver from to)) is }
-    by (Ok (Fail at keep)) is plain = record { next = after (happens.Fail at keep); shape = shape; fault = fault-is (Ok (Fail at keep)) is }
-    by (Ok (Flush at)) is plain = record { next = after (happens.Flush at); shape = shape; fault = fault-is (Ok (Flush at)) is }
-    by (Ok Drain) is plain =
-        record {
-          next = record { world = world_after p.world (draining p.world); moment = p.moment };
-          shape = shape-after p.world (draining p.world) ∙ shape;
-          fault = fault-is (Ok Drain) is;
-        }
-    by (Ok Skipped) is plain = absurd (cc plain)
-    by (Ok (Group t)) is plain = absurd (cc plain)
-    by (Ok (Collect caller call at)) is plain = absurd (cc plain)
-    by (Ok (Trace caller call d at)) is plain = absurd (cc plain)
-    by (Ok (Show at run)) is plain = absurd (cc plain)
-    by (Ok Places) is plain = absurd (cc plain)
-    by (Ok (Time moment)) is plain = absurd (cc plain)
-    by (Ok Stop) is plain = absurd (cc plain)
+        by : (r : Result Line LineFault) → line_meaning (Some p.world.shape) line ≡ r → is_plain r ≡ true → GoesOn p line
+        by (Err fault) is plain = absurd (cc plain)
+        by (Ok (Ask caller at act)) is plain =
+            record {
+              next = after (happens.Ask caller (record { moment = p.moment; act = act }) at);
+              shape = shape;
+              fault = fault-is (Ok (Ask caller at act)) is;
+            }
+        by (Ok (Deliver from to)) is plain = record { next = after (happens.Deliver from to); shape = shape; fault = fault-is (Ok (Deliver from to)) is }
+        by (Ok (Fail at keep)) is plain = record { next = after (happens.Fail at keep); shape = shape; fault = fault-is (Ok (Fail at keep)) is }
+        by (Ok (Flush at)) is plain = record { next = after (happens.Flush at); shape = shape; fault = fault-is (Ok (Flush at)) is }
+        by (Ok Drain) is plain =
+            record {
+              next = record { world = world_after p.world (draining_unless_down p.world); moment = p.moment };
+              shape = shape-after p.world (draining_unless_down p.world) ∙ shape;
+              fault = fault-is (Ok Drain) is;
+            }
+        by (Ok Skipped) is plain = absurd (cc plain)
+        by (Ok (Group t)) is plain = absurd (cc plain)
+        by (Ok (Collect caller call at)) is plain = absurd (cc plain)
+        by (Ok (Trace caller call d at)) is plain = absurd (cc plain)
+        by (Ok (Show at run)) is plain = absurd (cc plain)
+        by (Ok Places) is plain = absurd (cc plain)
+        by (Ok (Time moment)) is plain = absurd (cc plain)
+        by (Ok Stop) is plain = absurd (cc plain)
 
   -- no line of a text is refused, wherever it comes behind the group line
   abbrev pub NoneRefused : List ℕ → Type 0
@@ -140,7 +141,7 @@ module _ (s : Dimensions) where
   abbrev pub Passes : List ℕ → Type 0
   Passes text = (rest : List ℕ) → NoneRefused rest → NoneRefused (text ++ rest)
 
-  pub line-passes : (w : List ℕ) → list_all (λ b. not (b == 10)) w ≡ true → is_plain (line_of (Some s) w) ≡ true → Passes (w ++ 10 ∷ [])
+  pub line-passes : (w : List ℕ) → list_all (λ b. not (b == 10)) w ≡ true → is_plain (line_meaning (Some s) w) ≡ true → Passes (w ++ 10 ∷ [])
   line-passes w clean plain rest none n p shape =
       ap (λ (text : List ℕ). fault_in n (Some p) (lines_of text)) (append_assoc w (10 ∷ []) rest)
       ∙ ap (fault_in n (Some p)) (lines-more w rest clean)

@@ -6,7 +6,7 @@ use Rattle.std.specs.Prelude.{codes}
 use Rattle.std.specs.List.{range_with_len}
 use Rattle.group_types.specs.Dimensions.{Dimensions}
 use Rattle.group_run.specs.World.{opening}
-use Rattle.scenario_make.specs.Rounds.{first_loss, line, lines_before, round_from, second_loss, words_of}
+use Rattle.scenario_make.specs.Rounds.{first_loss, line, lines_before, round_from, round_words, second_loss}
 use Rattle.scenario_make.specs.Script.{after_rounds, round_text, rounds_text, script_text}
 use Rattle.scenario_run.specs.Lines.{lines_of}
 use Rattle.scenario_run.specs.Course.{named_in}
@@ -43,10 +43,10 @@ losses-fine round = by (round == first_loss) (round == second_loss) where
   by false true = record { passes = both-pass made_shape (codes "fail p0 1\n") (codes "drain\n") second-passes drain-passes; short = omega arith }
   by false false = record { passes = none-passes made_shape; short = omega arith }
 
-line-fine : (round s : ℕ) → Fine 64 (line (words_of round (round_from s)))
+line-fine : (round s : ℕ) → Fine 64 (line (round_words round (round_from s)))
 line-fine round s =
     let fine = drawn-fine round s in
-    let words : List (List ℕ) = words_of round (round_from s) in
+    let words : List (List ℕ) = round_words round (round_from s) in
     subst (Fine 64) (sym (line-body words)) (record {
       passes = line-passes made_shape (body words) fine.ends fine.plain;
       short = let few = fine.short in let long = length-append (body words) (10 ∷ []) in omega (arith, few, long);
@@ -57,11 +57,11 @@ round-fine n r =
     let losses = losses-fine (r + 1) in
     let told = line-fine (r + 1) (after_rounds n r) in
     record {
-      passes = both-pass made_shape (lines_before (r + 1)) (line (words_of (r + 1) (round_from (after_rounds n r)))) losses.passes told.passes;
+      passes = both-pass made_shape (lines_before (r + 1)) (line (round_words (r + 1) (round_from (after_rounds n r)))) losses.passes told.passes;
       short =
           let one = losses.short in
           let two = told.short in
-          let long = length-append (lines_before (r + 1)) (line (words_of (r + 1) (round_from (after_rounds n r)))) in
+          let long = length-append (lines_before (r + 1)) (line (round_words (r + 1) (round_from (after_rounds n r)))) in
           omega (arith, one, two, long);
     }
 

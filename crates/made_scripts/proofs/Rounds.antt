@@ -18,12 +18,13 @@ use Rattle.group_types.specs.declared.process.ProcessId.TheVariants.{DataNode, P
 use Rattle.memc_table.specs.declared.act.Act.{Act}
 use Rattle.law_moves.proofs.Notices.{both}
 use Rattle.scenario_make.specs.Draws.{draw}
-use Rattle.scenario_make.specs.Rounds.{asked_at, first_loss, key_word, line, process_at, process_word, round_from, second_loss, value_word, words_of}
+use Rattle.scenario_make.specs.Rounds.{asked_process, first_loss, key_name, line, process_name, process_numbered, round_from, round_words, second_loss}
+use Rattle.scenario_make.specs.Rounds.{value_word}
 use Rattle.scenario_make.specs.declared.round.Round.{Round}
 use Rattle.scenario_make.specs.declared.round.Round.TheVariants.{Set, Get, Delete, Deliver, Drain, Flush}
-use Rattle.scenario_text.specs.Acts.{act_of}
-use Rattle.scenario_text.specs.Meaning.{event_line, is_skipped, keyword_of, line_by, line_of, meaning_of, or_bad_line}
-use Rattle.scenario_text.specs.Words.{◌>>=◌, number_below, process_of_word, words_of as words_in}
+use Rattle.scenario_text.specs.Acts.{act_of_words}
+use Rattle.scenario_text.specs.Meaning.{event_line, is_skipped, keyword_of, line_by, line_meaning, meaning_of, or_bad_line}
+use Rattle.scenario_text.specs.Words.{◌>>=◌, number_below, process_of_word, split_words as words_in}
 use Rattle.scenario_text.specs.declared.line.Line.TheVariants as reads
 use Rattle.made_scripts.specs.Clean.{made_shape}
 use Rattle.made_scripts.proofs.Lines.{in_word, is_plain, no-space}
@@ -82,7 +83,7 @@ body-short (word ∷ next ∷ words) clean =
 
 -- words whose line a script goes on from, and which is short
 pub record LineFine (words : List (List ℕ)) : Type 0 where
-  pub plain : is_plain (line_of (Some made_shape) (body words)) ≡ true
+  pub plain : is_plain (line_meaning (Some made_shape) (body words)) ≡ true
   pub ends : ends_none (body words) ≡ true
   pub short : length (body words) ≤ 63
 
@@ -104,22 +105,23 @@ reads-ask (Some caller) None c one two three = absurd (cc two)
 reads-ask (Some caller) (Some at) None one two three = absurd (cc three)
 reads-ask (Some caller) (Some at) (Some act) one two three = refl
 
-ask-plain : (caller : ℕ) (p : ProcessId) (op : List (List ℕ)) → caller < 8 → IsProcess made_shape p → is_some (act_of op) ≡ true
-    → is_plain (or_bad_line (event_line made_shape (codes "ask" ∷ decimal caller ∷ process_word p ∷ op))) ≡ true
+ask-plain : (caller : ℕ) (p : ProcessId) (op : List (List ℕ)) → caller < 8 → IsProcess made_shape p → is_some (act_of_words op) ≡ true
+    → is_plain (or_bad_line (event_line made_shape (codes "ask" ∷ decimal caller ∷ process_name p ∷ op))) ≡ true
 unfolding keyword_of line_by
 ask-plain caller p op low pin acts = reads-ask (number_below callers (decimal caller))
-    (process_of_word made_shape (process_word p)) (act_of op) (caller-word caller low).0 (process-fine p pin).0 acts
+    (process_of_word made_shape (process_name p)) (act_of_words op) (caller-word caller low).0 (process-fine p pin).0 acts
 
-ask-fine : (caller : ℕ) (p : ProcessId) (op : List (List ℕ)) → caller < 8 → IsProcess made_shape p → is_some (act_of op) ≡ true → AreClean op → length op ≤ 4
-    → LineFine (codes "ask" ∷ decimal caller ∷ process_word p ∷ op)
+ask-fine : (caller : ℕ) (p : ProcessId) (op : List (List ℕ)) → caller < 8 → IsProcess made_shape p → is_some (act_of_words op) ≡ true → AreClean op
+    → length op ≤ 4
+    → LineFine (codes "ask" ∷ decimal caller ∷ process_name p ∷ op)
 ask-fine caller p op low pin acts clean few =
-    words-fine (codes "ask") (decimal caller ∷ process_word p ∷ op)
+    words-fine (codes "ask") (decimal caller ∷ process_name p ∷ op)
     (refl, ((caller-word caller low).1, ((process-fine p pin).1, clean))) (omega (arith, few)) refl
     (ask-plain caller p op low pin acts)
 
 -- the process that is asked
-asked-in : (round h : ℕ) → h < 3 → IsProcess made_shape (asked_at round h)
-unfolding asked_at
+asked-in : (round h : ℕ) → h < 3 → IsProcess made_shape (asked_process round h)
+unfolding asked_process
 asked-in round zero low = by (nat_lt round first_loss) (nat_lt round second_loss) where
   by : (a b : Bool) → IsProcess made_shape (if a then DataNode 0 else if b then ParityNode 0 else ParityNode 1)
   by true b = omega arith
@@ -127,30 +129,30 @@ asked-in round zero low = by (nat_lt round first_loss) (nat_lt round second_loss
   by false false = omega arith
 asked-in round (suc d) low = low
 
-home-low : (i : ℕ) → home_of (key_word i) 3 < 3
+home-low : (i : ℕ) → home_of (key_name i) 3 < 3
 home-low i = omega arith
 
 -- what rounds that name no round number mean, each tried
 fine_words : List (List ℕ) → Bool
-fine_words words = is_plain (line_of (Some made_shape) (body words)) && (ends_none (body words) && nat_le (length (body words)) 63)
+fine_words words = is_plain (line_meaning (Some made_shape) (body words)) && (ends_none (body words) && nat_le (length (body words)) 63)
 
 tried-fine : (words : List (List ℕ)) → fine_words words ≡ true → LineFine words
 unfolding fine_words
 tried-fine words passes =
-    let first = both (is_plain (line_of (Some made_shape) (body words))) (ends_none (body words) && nat_le (length (body words)) 63) passes in
+    let first = both (is_plain (line_meaning (Some made_shape) (body words))) (ends_none (body words) && nat_le (length (body words)) 63) passes in
     let second = both (ends_none (body words)) (nat_le (length (body words)) 63) first.1 in
     let test = second.1 in
     record { plain = first.0; ends = second.0; short = grind (arith, common_steps) }
 
-delivers-pass : passes_below 5 (λ from. passes_below 5 (λ to. fine_words (words_of 0 (Deliver from to)))) ≡ true
-unfolding fine_words digits keyword_of line_by number_below process_at process_word process_of_word
+delivers-pass : passes_below 5 (λ from. passes_below 5 (λ to. fine_words (round_words 0 (Deliver from to)))) ≡ true
+unfolding fine_words digits keyword_of line_by number_below process_numbered process_name process_of_word
 delivers-pass = refl
 
-flushes-pass : passes_below 3 (λ d. fine_words (words_of 0 (Flush d))) ≡ true
-unfolding fine_words digits keyword_of line_by number_below process_word process_of_word
+flushes-pass : passes_below 3 (λ d. fine_words (round_words 0 (Flush d))) ≡ true
+unfolding fine_words digits keyword_of line_by number_below process_name process_of_word
 flushes-pass = refl
 
-drain-passes : fine_words (words_of 0 Drain) ≡ true
+drain-passes : fine_words (round_words 0 Drain) ≡ true
 unfolding fine_words keyword_of line_by
 drain-passes = refl
 
@@ -180,27 +182,27 @@ in-range s = by (nat_lt (draw s 1 10) 4) (nat_lt (draw s 1 10) 6) (draw s 1 10 =
   by false false false false true = omega arith
   by false false false false false = (omega arith, omega arith)
 
-round-fine : (r : ℕ) (round : Round) → InRange round → LineFine (words_of r round)
+round-fine : (r : ℕ) (round : Round) → InRange round → LineFine (round_words r round)
 unfolding InRange
 round-fine r (Set caller i len) (low, below, (k, short, is)) =
-    subst (λ (n : ℕ). LineFine (words_of r (Set caller i n))) (sym is)
-    (ask-fine caller (asked_at r (home_of (key_word i) 3)) (codes "set" ∷ key_word i ∷ codes "0" ∷ value_word (k + 1)
-    ∷ []) low (asked-in r (home_of (key_word i) 3) (home-low i))
+    subst (λ (n : ℕ). LineFine (round_words r (Set caller i n))) (sym is)
+    (ask-fine caller (asked_process r (home_of (key_name i) 3)) (codes "set" ∷ key_name i ∷ codes "0" ∷ value_word (k + 1)
+    ∷ []) low (asked-in r (home_of (key_name i) 3) (home-low i))
     (set-fine i k below short) (refl, ((key-fine i below).clean, (refl, (value-clean k short, tt)))) (omega arith))
 round-fine r (Get caller i) (low, below) =
-    ask-fine caller (asked_at r (home_of (key_word i) 3)) (codes "get" ∷ key_word i ∷ []) low
-    (asked-in r (home_of (key_word i) 3) (home-low i)) (key-fine i below).get (refl, ((key-fine i below).clean, tt))
+    ask-fine caller (asked_process r (home_of (key_name i) 3)) (codes "get" ∷ key_name i ∷ []) low
+    (asked-in r (home_of (key_name i) 3) (home-low i)) (key-fine i below).get (refl, ((key-fine i below).clean, tt))
     (omega arith)
 round-fine r (Delete caller i) (low, below) =
-    ask-fine caller (asked_at r (home_of (key_word i) 3)) (codes "delete" ∷ key_word i ∷ []) low
-    (asked-in r (home_of (key_word i) 3) (home-low i)) (key-fine i below).delete
+    ask-fine caller (asked_process r (home_of (key_name i) 3)) (codes "delete" ∷ key_name i ∷ []) low
+    (asked-in r (home_of (key_name i) 3) (home-low i)) (key-fine i below).delete
     (refl, ((key-fine i below).clean, tt)) (omega arith)
 round-fine r (Deliver from to) (low, below) =
-    tried-fine (words_of r (Deliver from to)) (passes-at 5 (λ to. fine_words (words_of 0 (Deliver from to)))
-    (passes-at 5 (λ from. passes_below 5 (λ to. fine_words (words_of 0 (Deliver from to)))) delivers-pass from low) to
+    tried-fine (round_words r (Deliver from to)) (passes-at 5 (λ to. fine_words (round_words 0 (Deliver from to)))
+    (passes-at 5 (λ from. passes_below 5 (λ to. fine_words (round_words 0 (Deliver from to)))) delivers-pass from low) to
     below)
-round-fine r Drain range = tried-fine (words_of r Drain) drain-passes
-round-fine r (Flush d) low = tried-fine (words_of r (Flush d)) (passes-at 3 (λ d. fine_words (words_of 0 (Flush d))) flushes-pass d low)
+round-fine r Drain range = tried-fine (round_words r Drain) drain-passes
+round-fine r (Flush d) low = tried-fine (round_words r (Flush d)) (passes-at 3 (λ d. fine_words (round_words 0 (Flush d))) flushes-pass d low)
 
-pub drawn-fine : (r s : ℕ) → LineFine (words_of r (round_from s))
+pub drawn-fine : (r s : ℕ) → LineFine (round_words r (round_from s))
 drawn-fine r s = round-fine r (round_from s) (in-range s)

@@ -13,8 +13,8 @@ use Rattle.group_member.specs.Standing.{Member}
 use Rattle.member_runs.specs.Calls.{HasCalled, MemberCall, Receives, Cuts, Says, Hears, Permits, Takes, Flushes}
 use Rattle.member_runs.specs.Calls.{HandsOut, TakesLost, Pings, Pongs, Counts, Begins, Sends, SendsHere, Reads, Treats}
 use Rattle.member_runs.specs.Calls.{Learns, Collects, GivesUp, Shows, LetsGo}
-use Rattle.member_runs.specs.Laws.{HaveMade, run_of}
-use Rattle.member_runs.specs.System.{AreSteps, MayStep, System, SystemStep, after_step, after_steps, all_actions}
+use Rattle.member_runs.specs.Laws.{HaveMade, composed_of}
+use Rattle.member_runs.specs.System.{AreSystemSteps, MayStep, System, SystemStep, after_step, after_steps, all_actions}
 use Rattle.member_runs.proofs.Others.{its-gateway}
 use Rattle.member_runs.proofs.Reaching.{shape-all}
 use Rattle.member_runs.proofs.Running.{make-a-run}
@@ -30,7 +30,8 @@ LeaveOpen p caller (t ∷ steps) = (t.at ≡ p → begun_or_ended t.call ≢ Som
 abbrev pub since_begun : List SystemStep → ProcessId → ℕ → Asked → Member → List SystemStep → List SystemStep
 since_begun before p caller op after since = before ++ record { at = p; call = Begins caller op; after = after } ∷ since
 
-front-steps : (s : Dimensions) (y : System) (xs ys : List SystemStep) → AreSteps s y (xs ++ ys) → AreSteps s y xs × AreSteps s (after_steps y xs) ys
+front-steps : (s : Dimensions) (y : System) (xs ys : List SystemStep) → AreSystemSteps s y (xs ++ ys)
+    → AreSystemSteps s y xs × AreSystemSteps s (after_steps y xs) ys
 front-steps s y [] ys made = (tt, made)
 front-steps s y (x ∷ xs) ys made = let rest = front-steps s (after_step y x) xs ys made.1 in ((made.0, rest.0), rest.1)
 
@@ -43,7 +44,7 @@ at-gateway : CallersAreTheirs → (s : Dimensions) (y : System) (steps : List Sy
     → MayStep s (after_steps y steps) t → IsItsCaller ((after_steps y steps).members t.at).callers caller → gateway_of s caller ≡ t.at
 at-gateway always s y steps t caller made may its =
     let run = make-a-run always s y steps made in
-    let is : (run_of s y steps).group.shape ≡ s = shape-all (opening_composed s) (all_actions y steps) in
+    let is : (composed_of s y steps).group.shape ≡ s = shape-all (opening_composed s) (all_actions y steps) in
     let own = run.stand t.at (subst (λ (d : Dimensions). IsProcess d t.at) (sym is) may.member) in
     let v : Member = (after_steps y steps).members t.at in
     let member : IsProcess v.words.shape v.words.name = subst (λ (d : Dimensions). IsProcess d v.words.name) own.1.shape own.1.here.member in

@@ -5,9 +5,9 @@ use Rattle.std.proofs.lemmas.Bool.{cases_eq}
 use Rattle.group_types.specs.Lists.{at, put}
 use Rattle.group_types.proofs.Lists.{at-put, at-put-other}
 use Rattle.memc_proto.specs.declared.end.CallEnd.{CallEnd}
-use Rattle.front_end.specs.Gateway.{HasEnded, IsFree, KeepsOthers, LendsNone}
+use Rattle.front_end.specs.Gateway.{IsEndOf, IsNotOpen, KeepsOtherCalls, LendsNone}
 use Rattle.member_runs.specs.Calls.{Shows}
-use Rattle.member_gateway.specs.Rules.{Gateway, IsLater, IsLent, IsShown, member_rules}
+use Rattle.member_gateway.specs.Rules.{Gateway, IsLaterMember, IsLentTo, IsShown, member_rules}
 use Rattle.member_gateway.specs.declared.slots.OwnCall.{OwnCall}
 use Rattle.member_gateway.proofs.Opening.{one-more, same-call}
 
@@ -25,16 +25,16 @@ module _ (before after : Gateway) (call : OwnCall) (end : CallEnd) (shown : IsSh
   elsewhere : (other : OwnCall) → other.caller ≢ call.caller → at None after.slots other.caller ≡ at None before.slots other.caller
   elsewhere other apart = ap (λ (s : List (Option OwnCall)). at None s other.caller) closed ∙ at-put-other None before.slots call.caller other.caller None apart
 
-  pub shows_ended : HasEnded member_rules before call end after
+  pub shows_ended : IsEndOf member_rules before call end after
   shows_ended asked began opened = record { caller = call.caller; before = before.member; begun = opened.begun; shown = shown }
 
-  pub shows_free : ¬ (IsLent after call)
+  pub shows_free : ¬ (IsLentTo after call)
   shows_free now = none-some (at None after.slots call.caller) call is-closed now
 
-  pub shows_over : IsFree member_rules after call
+  pub shows_over : IsNotOpen member_rules after call
   shows_over asked began opened = shows_free opened.lent
 
-  pub shows_keeps : KeepsOthers member_rules call before after
+  pub shows_keeps : KeepsOtherCalls member_rules call before after
   shows_keeps other asked began differs opened =
       let apart : other.caller ≢ call.caller = λ same. differs (same-call other call
       (sym opened.lent ∙ ap (λ (n : ℕ). at None before.slots n) same ∙ lent)) in
@@ -51,7 +51,7 @@ module _ (before after : Gateway) (call : OwnCall) (end : CallEnd) (shown : IsSh
     | inr apart ↦ sym (elsewhere other apart) ∙ now
   ]
 
-  pub shows_later : IsLater before after
+  pub shows_later : IsLaterMember before after
   shows_later = record { calls = record { call = Shows call.caller shown.ping; after = after.member } ∷ []; made = (shown.shows, refl) }
 
 -- the call of a caller ended, and the caller is lent no more

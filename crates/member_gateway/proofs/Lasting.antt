@@ -8,7 +8,7 @@ use Rattle.group_run.specs.Asking.{collect_from}
 use Rattle.group_wire.specs.Actions.{Action, Begin, Send, Read, Treat, Collect, Flush, Learn, Receive, GiveUp, Cut, Say}
 use Rattle.group_wire.specs.Actions.{Hear, Permit, Take, Ping, Pong, Count, Show, LetGo, Stop}
 use Rattle.group_wire.specs.Composed.{Composed, composed_from, composed_with}
-use Rattle.group_wire.specs.Sets.{changed, changed_at, without}
+use Rattle.group_wire.specs.Sets.{changed, changed_at, without_nth}
 use Rattle.group_wire.specs.State.{Request, Told, Stage, Unasked, AskedOf, Unknown, TracedAt, Answered, OpenCall, Gateways, Group}
 use Rattle.group_wire.specs.Sending.{parked_at, treating}
 use Rattle.group_wire.specs.Serving.{gateways_after, handed_to, if_open, learned_first, read_first, request_treated}
@@ -71,7 +71,7 @@ module _ (g : Group) (caller : ℕ) where
   treats p place None = refl
   treats p place (Some r) = ap (λ (f : ℕ → Option OpenCall). op_of (f caller))
       (tell-call g p (told_of r (treating g.shape r (g.works.process p)).answer)
-      (record g.gateways { parked = changed g.gateways.parked p (without (g.gateways.parked p) place) }))
+      (record g.gateways { parked = changed g.gateways.parked p (without_nth (g.gateways.parked p) place) }))
 
   learns : (x p : ProcessId) (pinged : ℕ) (ts : List Told) → op_of ((learned_first x p pinged ts g.gateways).call caller) ≡ op_of now
   learns x p pinged [] = refl

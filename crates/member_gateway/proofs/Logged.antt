@@ -14,10 +14,10 @@ use Rattle.group_wire.specs.FromWhom.{CallersAreTheirs}
 use Rattle.group_wire.specs.State.{OpenCall, Told}
 use Rattle.group_wire.proofs.Changes.{changed_at-here}
 use Rattle.group_wire.proofs.Wanting.{op_of}
-use Rattle.group_member.specs.Callers.{caller_of, told_at, told_in}
+use Rattle.group_member.specs.Callers.{answer_told_at, caller_of, told_in}
 use Rattle.group_member.specs.Standing.{Member}
 use Rattle.member_runs.specs.Calls.{HasCalled, MemberCall, Begins, Shows, actions_of}
-use Rattle.member_runs.specs.Laws.{HaveMade, MembersShowLogged, ShowsNext, run_of}
+use Rattle.member_runs.specs.Laws.{HaveMade, MembersShowLogged, ShowsNext, composed_of}
 use Rattle.member_runs.specs.System.{System, SystemStep, after_step, after_steps, all_actions}
 use Rattle.member_runs.proofs.Reaching.{composed-more, shape-all}
 use Rattle.member_runs.proofs.Running.{make-a-run}
@@ -41,7 +41,7 @@ composed-steps c y (t ∷ steps) more =
 
 -- a call that is shown is open in the group
 opened-there : CallersAreTheirs → (s : Dimensions) (y : System) (steps : List SystemStep) (t : SystemStep) (caller : ℕ) (o : OpenCall) (told : Told)
-    → HaveMade s y steps → ShowsNext s (after_steps y steps) t caller o told → (run_of s y steps).group.gateways.call caller ≡ Some o
+    → HaveMade s y steps → ShowsNext s (after_steps y steps) t caller o told → (composed_of s y steps).group.gateways.call caller ≡ Some o
 opened-there always s y steps t caller o told made next =
     let run = make-a-run always s y steps made in
     let now = after_steps y steps in
@@ -60,7 +60,7 @@ module _ (s : Dimensions) (y : System) (before since : List SystemStep) (p : Pro
   abbrev then : Composed
   then = composed_from (opening_composed s) (all_actions y before)
 
-  begun-there : op_at (run_of s y (since_begun before p caller op after since)) caller ≡ Some op
+  begun-there : op_at (composed_of s y (since_begun before p caller op after since)) caller ≡ Some op
   begun-there = ap (λ (d : Composed). op_at d caller) (composed-steps (opening_composed s) y before (step ∷ since))
       ∙ steps-keep (composed_from then (actions_of step.call ((after_steps y before).members p))) (after_step (after_steps y before) step) since caller leave
       ∙ ap op_of (changed_at-here then.group.gateways.call caller _)
@@ -68,13 +68,13 @@ module _ (s : Dimensions) (y : System) (before since : List SystemStep) (p : Pro
 -- what the steps of all leave open is of the op that began
 op-since : CallersAreTheirs → (s : Dimensions) (y : System) (steps before since : List SystemStep) (p : ProcessId) (caller : ℕ) (op : Asked) (first : Member)
     → HaveMade s y steps → steps ≡ since_begun before p caller op first since → All (LeavesOpen caller) (calls_at p since)
-    → op_at (run_of s y steps) caller ≡ Some op
+    → op_at (composed_of s y steps) caller ≡ Some op
 op-since always s y steps before since p caller op first made is leave =
     let alone = since-alone always s y before since p caller op first
     (subst (λ (l : List SystemStep). HaveMade s y l) is made) (leave-open p caller since leave) in
-    ap (λ (l : List SystemStep). op_at (run_of s y l) caller) is ∙ begun-there s y before since p caller op first alone
+    ap (λ (l : List SystemStep). op_at (composed_of s y l) caller) is ∙ begun-there s y before since p caller op first alone
 
-told-open : (call : Option OpenCall) (t : Told) → told_in call ≡ Some t → (o : OpenCall) × (call ≡ Some o) × (told_at o.stage ≡ Some t)
+told-open : (call : Option OpenCall) (t : Told) → told_in call ≡ Some t → (o : OpenCall) × (call ≡ Some o) × (answer_told_at o.stage ≡ Some t)
 told-open None t is = absurd (cc is)
 told-open (Some o) t is = (o, refl, is)
 

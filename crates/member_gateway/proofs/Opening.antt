@@ -8,11 +8,11 @@ use Rattle.group_types.specs.Lists.{at, put}
 use Rattle.group_types.proofs.Lists.{at-put, at-put-other}
 use Rattle.memc_table.specs.Act.{key_of}
 use Rattle.memc_table.specs.Asked.{Asked}
-use Rattle.front_end.specs.Gateway.{IsFree, KeepsOpen, LendsNone, LendsOnly}
+use Rattle.front_end.specs.Gateway.{IsNotOpen, KeepsOpen, LendsNone, LendsOnly}
 use Rattle.group_member.specs.Standing.{Member}
 use Rattle.member_runs.specs.Calls.{MemberCall, HasCalled, Begins}
-use Rattle.member_gateway.specs.Calls.{Comes, ComesQuietly, GoesQuietly, LeavesAll, LeavesOpen, MadeCall, begun_or_ended}
-use Rattle.member_gateway.specs.Rules.{Gateway, HasBegun, IsLater, IsLent, IsOpen, member_rules}
+use Rattle.member_gateway.specs.Calls.{ComesByCalls, ComesQuietly, GoesQuietly, LeavesAll, LeavesOpen, MadeCall, begun_or_ended}
+use Rattle.member_gateway.specs.Rules.{Gateway, HasBegun, IsCallOpen, IsLaterMember, IsLentTo, member_rules}
 use Rattle.member_gateway.specs.declared.slots.OwnCall.{OwnCall}
 use Rattle.member_gateway.specs.Order.{made_on}
 
@@ -32,7 +32,7 @@ module _ (a b : Member) (goes : GoesQuietly a b) where
   pub quiet-way : ComesQuietly a b
   quiet-way = goes a (record { calls = []; made = refl; leave = All-nil LeavesAll })
 
-  pub quiet-comes : Comes a b
+  pub quiet-comes : ComesByCalls a b
   quiet-comes = record { calls = quiet-way.calls; made = quiet-way.made }
 
   pub quiet-begun : (caller : ℕ) (op : Asked) (began : Member) → HasBegun caller op began a → HasBegun caller op began b
@@ -56,7 +56,7 @@ quiet_keeps before after goes slots call op began opened = record {
 pub quiet_lends : (before after : Gateway) → after.slots ≡ before.slots → LendsNone member_rules before after
 quiet_lends before after slots call lent = ap (λ (s : List (Option OwnCall)). at None s call.caller) (sym slots) ∙ lent
 
-pub quiet_later : (before after : Gateway) → GoesQuietly before.member after.member → IsLater before after
+pub quiet_later : (before after : Gateway) → GoesQuietly before.member after.member → IsLaterMember before after
 quiet_later before after goes = quiet-comes before.member after.member goes
 
 -- the same of what the gateway was seen as
@@ -67,8 +67,8 @@ inside_keeps inside before after is goes slots = subst (λ (g : Gateway). KeepsO
 pub inside_lends : (inside before after : Gateway) → inside ≡ before → after.slots ≡ inside.slots → LendsNone member_rules before after
 inside_lends inside before after is slots = subst (λ (g : Gateway). LendsNone member_rules g after) is (quiet_lends inside after slots)
 
-pub inside_later : (inside before after : Gateway) → inside ≡ before → GoesQuietly inside.member after.member → IsLater before after
-inside_later inside before after is goes = subst (λ (g : Gateway). IsLater g after) is (quiet_later inside after goes)
+pub inside_later : (inside before after : Gateway) → inside ≡ before → GoesQuietly inside.member after.member → IsLaterMember before after
+inside_later inside before after is goes = subst (λ (g : Gateway). IsLaterMember g after) is (quiet_later inside after goes)
 
 -- one call more
 pub one-more : (caller : ℕ) (op : Asked) (began before after : Member) (call : MemberCall) → HasCalled call before after → begun_or_ended call ≢ Some caller
@@ -85,17 +85,17 @@ one-more caller op began before after call called leaves begun =
 module _ (before after : Gateway) (call : OwnCall) (op : Asked) (begins : HasCalled (Begins call.caller op) before.member after.member)
     (free : at None before.slots call.caller ≡ None) (hash : call.hash ≡ fnv1a (key_of op.act))
     (lent : after.slots ≡ put None before.slots call.caller (Some call)) where
-  is-lent : IsLent after call
+  is-lent : IsLentTo after call
   is-lent = ap (λ (s : List (Option OwnCall)). at None s call.caller) lent ∙ at-put None None before.slots call.caller (Some call)
 
-  pub begins_open : IsOpen after call op before
+  pub begins_open : IsCallOpen after call op before
   begins_open = record {
     lent = is-lent;
     hash = hash;
     begun = record { first = after.member; begins = begins; calls = []; made = refl; leave = All-nil (LeavesOpen call.caller) };
   }
 
-  pub begins_fresh : IsFree member_rules before call
+  pub begins_fresh : IsNotOpen member_rules before call
   begins_fresh asked began opened = none-some (at None before.slots call.caller) call free opened.lent
 
   elsewhere : (other : OwnCall) → other.caller ≢ call.caller → at None after.slots other.caller ≡ at None before.slots other.caller
@@ -119,7 +119,7 @@ module _ (before after : Gateway) (call : OwnCall) (op : Asked) (begins : HasCal
     | inr apart ↦ inl (sym (elsewhere other apart) ∙ now)
   ]
 
-  pub begins_later : IsLater before after
+  pub begins_later : IsLaterMember before after
   begins_later = record { calls = record { call = Begins call.caller op; after = after.member } ∷ []; made = (begins, refl) }
 
 -- a call began at a caller that was free, and has it
@@ -141,10 +141,10 @@ has-lent inside before after caller call op is same begins free hash lent = subs
 
 -- nothing happened
 pub same_keeps : (before after : Gateway) → after ≡ before → KeepsOpen member_rules before after
-same_keeps before after same call op began opened = subst (λ g. IsOpen g call op began) (sym same) opened
+same_keeps before after same call op began opened = subst (λ g. IsCallOpen g call op began) (sym same) opened
 
 pub same_lends : (before after : Gateway) → after ≡ before → LendsNone member_rules before after
-same_lends before after same call lent = subst (λ g. IsLent g call) same lent
+same_lends before after same call lent = subst (λ g. IsLentTo g call) same lent
 
-pub same_later : (before after : Gateway) → after ≡ before → IsLater before after
+pub same_later : (before after : Gateway) → after ≡ before → IsLaterMember before after
 same_later before after same = record { calls = []; made = ap (λ (g : Gateway). g.member) same }

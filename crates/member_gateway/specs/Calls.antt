@@ -28,7 +28,7 @@ abbrev pub LeavesAll : MadeCall → Type 0
 LeavesAll c = begun_or_ended c.call ≡ None
 
 -- a member came from another by calls
-pub record Comes (before after : Member) : Type 0 where
+pub record ComesByCalls (before after : Member) : Type 0 where
   pub calls : List MadeCall
   pub made : AreMade before calls after
 

@@ -13,7 +13,7 @@ use Rattle.group_wire.specs.Shown.{IsLoggedSinceBegun}
 use Rattle.group_wire.specs.State.{OpenCall}
 use Rattle.group_member.specs.Standing.{Member}
 use Rattle.member_runs.specs.Calls.{Begins}
-use Rattle.member_runs.specs.Laws.{HaveMade, run_of}
+use Rattle.member_runs.specs.Laws.{HaveMade, composed_of}
 use Rattle.member_runs.specs.System.{System, SystemStep, after_steps}
 use Rattle.member_gateway.specs.Calls.{MadeCall}
 use Rattle.member_gateway.specs.Rules.{HasBegun, IsShown}
@@ -39,6 +39,6 @@ pub record IsLoggedFor (c : Composed) (caller : ℕ) (op : Asked) (reply : Reply
 -- ended by a reply, has this reply in the machine's log
 abbrev pub EndsAreLogged : Type 0
 EndsAreLogged = (s : Dimensions) (y : System) (before since : List SystemStep) (p : ProcessId) (caller : ℕ) (op : Asked) (reply : Reply) (after : Member)
-    → HaveMade s y (before ++ since) → NoTwoHoldAll (run_of s y (before ++ since)).group → IsProcess s p → HasBegunIn y before since p caller op
+    → HaveMade s y (before ++ since) → NoTwoHoldAll (composed_of s y (before ++ since)).group → IsProcess s p → HasBegunIn y before since p caller op
     → IsShown caller (ends.Reply reply) ((after_steps y (before ++ since)).members p) after
-    → IsLoggedFor (run_of s y (before ++ since)) caller op reply
+    → IsLoggedFor (composed_of s y (before ++ since)) caller op reply

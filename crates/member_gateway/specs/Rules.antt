@@ -14,7 +14,7 @@ use Rattle.group_wire.specs.State.{Told}
 use Rattle.group_member.specs.Callers.{caller_of, told_in}
 use Rattle.group_member.specs.Standing.{Member}
 use Rattle.member_runs.specs.Calls.{HasCalled, Begins, Shows}
-use Rattle.member_gateway.specs.Calls.{AreMade, Comes, LeavesOpen, MadeCall}
+use Rattle.member_gateway.specs.Calls.{AreMade, ComesByCalls, LeavesOpen, MadeCall}
 use Rattle.member_gateway.specs.declared.slots.OwnCall.{OwnCall}
 
 -- a member, and which call each caller is lent to, by the caller's number
@@ -23,8 +23,8 @@ pub record Gateway : Type 0 where
   pub slots : List (Option OwnCall)
 
 -- a caller is lent to a call
-abbrev pub IsLent : Gateway → OwnCall → Type 0
-IsLent now call = at None now.slots call.caller ≡ Some call
+abbrev pub IsLentTo : Gateway → OwnCall → Type 0
+IsLentTo now call = at None now.slots call.caller ≡ Some call
 
 -- a call of the op began at a caller, and the member's calls since leave it open
 pub record HasBegun (caller : ℕ) (op : Asked) (before now : Member) : Type 0 where
@@ -49,32 +49,32 @@ pub record IsShown (caller : ℕ) (end : CallEnd) (before after : Member) : Type
   pub ends : end_of told.answer ≡ Some end
 
 -- a call that began there is open
-pub record IsOpen (now : Gateway) (call : OwnCall) (op : Asked) (began : Gateway) : Type 0 where
-  pub lent : IsLent now call
+pub record IsCallOpen (now : Gateway) (call : OwnCall) (op : Asked) (began : Gateway) : Type 0 where
+  pub lent : IsLentTo now call
   pub hash : call.hash ≡ fnv1a (key_of op.act)
   pub begun : HasBegun call.caller op began.member now.member
 
 -- a call of the op began there, and ended so
-pub record IsMade (began : Gateway) (op : Asked) (end : CallEnd) (after : Gateway) : Type 0 where
+pub record HasCallEnded (began : Gateway) (op : Asked) (end : CallEnd) (after : Gateway) : Type 0 where
   pub caller : ℕ
   pub before : Member
   pub begun : HasBegun caller op began.member before
   pub shown : IsShown caller end before after.member
 
 -- one gateway came from another by calls of its member
-abbrev pub IsLater : Gateway → Gateway → Type 0
-IsLater before after = Comes before.member after.member
+abbrev pub IsLaterMember : Gateway → Gateway → Type 0
+IsLaterMember before after = ComesByCalls before.member after.member
 
 -- the relations of a member's gateway, which takes no orders that a process fail; a call that found no memory has changed nothing
 abbrev pub member_rules : Rules Gateway OwnCall
 member_rules = record {
   ways = record {
-    made = IsMade;
-    failed = λ before at keep end after. (end ≡ Off) × IsLater before after;
+    made = HasCallEnded;
+    failed = λ before at keep end after. (end ≡ Off) × IsLaterMember before after;
     kept = λ before op after. after ≡ before;
     unmade = λ before after. ⊥;
   };
-  lent = IsLent;
-  opened = IsOpen;
-  later = IsLater;
+  lent = IsLentTo;
+  opened = IsCallOpen;
+  later = IsLaterMember;
 }

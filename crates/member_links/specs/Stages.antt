@@ -13,8 +13,8 @@ age Own = 2
 age Cut = 3
 
 -- the other member is waited for
-abbrev pub IsAwaited : Stage → Type 0
-IsAwaited stage = age stage ≡ 0
+abbrev pub IsMemberAwaited : Stage → Type 0
+IsMemberAwaited stage = age stage ≡ 0
 
 -- what is to go to the other member is kept for it
 abbrev pub TakesText : Stage → Type 0

@@ -1,5 +1,5 @@
 ghost use Rattle.std.specs.Prelude.{◌≡◌, ◌↔◌, ◌<◌, ◌≤◌, ◌++◌, length, IsTrue, IfOk, OnOk, OnErr};
-ghost use Rattle.member_links.specs.Stages.{IsAwaited, TakesText};
+ghost use Rattle.member_links.specs.Stages.{IsMemberAwaited, TakesText};
 
 mod ending;
 mod linking;
@@ -66,7 +66,7 @@ impl Link {
 
     /// Whether the other was never greeted, and is to be waited for.
     pub(crate) fn is_awaited(&self) -> bool
-        ensures { IsTrue result ↔ IsAwaited self.now.stage }
+        ensures { IsTrue result ↔ IsMemberAwaited self.now.stage }
     {
         matches!(self.stage, Stage::Absent | Stage::Greeting)
     }
@@ -106,7 +106,7 @@ impl Link {
     /// Whether few bytes wait to be sent, where the link is up: before that all wait.
     pub(crate) fn has_room(&self) -> bool
         ensures few { IsTrue result → length self.now.outbox < 262144 }
-        ensures up { IsTrue result → ¬ (IsAwaited self.now.stage) }
+        ensures up { IsTrue result → ¬ (IsMemberAwaited self.now.stage) }
     {
         !self.is_awaited() && self.outbox.len() < MOST_WAITING
     }

@@ -10,9 +10,9 @@ use Rattle.group_wire.specs.FromWhom.{CallersAreTheirs}
 use Rattle.group_wire.specs.Laws.{BarrierAlways, MoreDataThanParity}
 use Rattle.group_wire.specs.Shown.{ShownIsLogged}
 use Rattle.group_wire.specs.State.{Answered, AskedOf, Group, Stage, Told, TracedAt, Unasked, Unknown}
-use Rattle.group_member.specs.Callers.{told_at}
+use Rattle.group_member.specs.Callers.{answer_told_at}
 use Rattle.member_runs.specs.Calls.{HasCalled, MemberCall}
-use Rattle.member_runs.specs.Laws.{AllStand, MembersAreBarred, MembersAreTheMachine, MembersShowLogged, NoTwoMembersHoldAll, run_of}
+use Rattle.member_runs.specs.Laws.{AllStand, MembersAreBarred, MembersAreTheMachine, MembersShowLogged, NoTwoMembersHoldAll, composed_of}
 use Rattle.member_runs.specs.System.{System, after_steps, all_actions}
 use Rattle.member_runs.proofs.Reaching.{shape-all}
 use Rattle.member_runs.proofs.Running.{make-a-run}
@@ -29,7 +29,7 @@ at-name g y p stand member =
 pub are-the-machine : CallersAreTheirs → RunsCompose → MembersAreTheMachine
 are-the-machine always composes s y steps made =
     let run = make-a-run always s y steps made in
-    let c = run_of s y steps in
+    let c = composed_of s y steps in
     let is = composes s (all_actions y steps) run.run in
     record {
       composed = is;
@@ -39,7 +39,7 @@ are-the-machine always composes s y steps made =
 pub are-barred : CallersAreTheirs → BarrierAlways → MembersAreBarred
 are-barred always barrier s y steps made =
     let run = make-a-run always s y steps made in
-    let c = run_of s y steps in
+    let c = composed_of s y steps in
     let is = barrier s (all_actions y steps) run.run in
     record {
       few = is.few;
@@ -47,7 +47,7 @@ are-barred always barrier s y steps made =
     }
 
 -- what was told stands in the stage
-told-stage : (stage : Stage) (t : Told) → told_at stage ≡ Some t → (pinged : ℕ) × (stage ≡ Answered t pinged)
+told-stage : (stage : Stage) (t : Told) → answer_told_at stage ≡ Some t → (pinged : ℕ) × (stage ≡ Answered t pinged)
 told-stage (Answered told pinged) t is = (pinged, ap (λ (o : Option Told). Answered (told_or told o) pinged) is) where
   told_or : Told → Option Told → Told
   told_or u None = u
@@ -60,7 +60,7 @@ told-stage (TracedAt x) t is = absurd (cc is)
 pub show-logged : CallersAreTheirs → ShownIsLogged → MembersShowLogged
 show-logged always logged s y steps t caller o told reply made apart next is =
     let run = make-a-run always s y steps made in
-    let c = run_of s y steps in
+    let c = composed_of s y steps in
     let now = after_steps y steps in
     let own = run.stand t.at (subst (λ (d : Dimensions). IsProcess d t.at) (sym (shape-all (opening_composed s) (all_actions y steps))) next.may.member) in
     let called = subst (λ (call : MemberCall). HasCalled call (now.members t.at) t.after) next.shows next.may.called in

@@ -13,7 +13,7 @@ use Rattle.group_wire.specs.FromWhom.{IsCallerOf, NameTheirCallers}
 use Rattle.group_wire.specs.Sending.{parked_at, treating}
 use Rattle.group_wire.specs.Serving.{gateways_after, handed_to, if_open, learned_first, read_first, request_treated}
 use Rattle.group_wire.specs.Serving.{sends_by, staged, stage_given_up, tell, told_of}
-use Rattle.group_wire.specs.Sets.{changed, changed_at, one_or, without}
+use Rattle.group_wire.specs.Sets.{changed, changed_at, one_or, without_nth}
 use Rattle.group_wire.specs.State.{AskedOf, Answered, Gateways, Group, OpenCall, Request, Stage, Told, TracedAt, Unasked, Unknown, gateway_of}
 use Rattle.member_runs.specs.Reading.{rest_of}
 use Rattle.member_runs.proofs.Acting.{by_of, reads_answer, reads_request}
@@ -117,7 +117,7 @@ module _ (g : Group) (q : ProcessId) where
   })
 
   abbrev without_parked : ProcessId → ℕ → Gateways
-  without_parked p place = record g.gateways { parked = changed g.gateways.parked p (without (g.gateways.parked p) place) }
+  without_parked p place = record g.gateways { parked = changed g.gateways.parked p (without_nth (g.gateways.parked p) place) }
 
   treated-gateways : (p : ProcessId) (place : ℕ) (o : Option Request) → q ≢ p → KeepsGateways g.shape g.gateways (request_treated g p place o) q p false false
   treated-gateways p place None other = same-gateways g.shape g.gateways q _
@@ -128,7 +128,7 @@ module _ (g : Group) (q : ProcessId) where
         next = λ c its. refl;
         requests = λ r. refl;
         answers = λ r. refl;
-        parked = changed-other g.gateways.parked p q (without (g.gateways.parked p) place) other;
+        parked = changed-other g.gateways.parked p q (without_nth (g.gateways.parked p) place) other;
       })
 
   pub keeps-gateways : (a : Action) → NameTheirCallers g.shape g.gateways → q ≢ by_of g.shape a

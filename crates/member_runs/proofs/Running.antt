@@ -8,7 +8,7 @@ use Rattle.group_wire.specs.State.{opening_group}
 use Rattle.group_member.specs.Standing.{HandedFrames, Member, MemberStands}
 use Rattle.member_runs.specs.Calls.{actions_of}
 use Rattle.member_runs.specs.Laws.{MembersMakeARun}
-use Rattle.member_runs.specs.System.{AreSteps, IsOpening, System, SystemStep, after_step, after_steps, all_actions}
+use Rattle.member_runs.specs.System.{AreSystemSteps, IsOpening, System, SystemStep, after_step, after_steps, all_actions}
 use Rattle.member_runs.proofs.Reaching.{IsReached, composed-more, from-more, goes-on, shape-reached}
 use Rattle.member_runs.proofs.Stepping.{Stand, step-stands}
 
@@ -18,7 +18,7 @@ stand-new s y new p member =
     (ap (λ (m : Member). m.words.name) v.opening, subst (λ (out : HandedFrames). MemberStands (opening_group s) out (y.members p)) (sym (new.out p)) v.stands)
 
 module _ (always : CallersAreTheirs) (s : Dimensions) where
-  steps-stand : (c : Composed) (y : System) (steps : List SystemStep) → IsReached s c → Stand s c.group y → AreSteps s y steps
+  steps-stand : (c : Composed) (y : System) (steps : List SystemStep) → IsReached s c → Stand s c.group y → AreSystemSteps s y steps
       → AreActionsFrom c (all_actions y steps) × Stand s (composed_from c (all_actions y steps)).group (after_steps y steps)
   steps-stand c y [] reached stand are = (tt, stand)
   steps-stand c y (t ∷ steps) reached stand are =

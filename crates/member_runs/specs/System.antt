@@ -17,13 +17,13 @@ pub record System : Type 0 where
   pub out : ProcessId → HandedFrames
 
 -- a member at the start: the clauses of `Member::new`
-pub record IsNew (s : Dimensions) (p : ProcessId) (v : Member) : Type 0 where
+pub record IsNewMember (s : Dimensions) (p : ProcessId) (v : Member) : Type 0 where
   pub opening : v ≡ opening_member s p
   pub stands : MemberStands (opening_group s) nothing_out v
 
 -- at the start each process of the group has a new member, and nothing is handed out
 pub record IsOpening (s : Dimensions) (y : System) : Type 0 where
-  pub members : (p : ProcessId) → IsProcess s p → IsNew s p (y.members p)
+  pub members : (p : ProcessId) → IsProcess s p → IsNewMember s p (y.members p)
   pub out : (p : ProcessId) → y.out p ≡ nothing_out
 
 -- a step: the member of a process makes a call, after which it is this
@@ -65,9 +65,9 @@ after_steps y [] = y
 after_steps y (t ∷ steps) = after_steps (after_step y t) steps
 
 -- steps that may come, one after the other
-abbrev pub AreSteps : Dimensions → System → List SystemStep → Type 0
-AreSteps s y [] = ⊤
-AreSteps s y (t ∷ steps) = MayStep s y t × AreSteps s (after_step y t) steps
+abbrev pub AreSystemSteps : Dimensions → System → List SystemStep → Type 0
+AreSystemSteps s y [] = ⊤
+AreSystemSteps s y (t ∷ steps) = MayStep s y t × AreSystemSteps s (after_step y t) steps
 
 -- the actions of all steps, in their order
 abbrev pub all_actions : System → List SystemStep → List Action

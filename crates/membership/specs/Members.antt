@@ -26,13 +26,13 @@ with_dead members (DataNode d) = record members { data_dead = put false members.
 with_dead members (ParityNode i) = record members { parity_dead = put false members.parity_dead i true }
 
 -- how many of the words say dead
-abbrev pub count_dead : List Bool → ℕ
-count_dead [] = 0
-count_dead (word ∷ words) = (if word then 1 else 0) + count_dead words
+abbrev pub count_dead_words : List Bool → ℕ
+count_dead_words [] = 0
+count_dead_words (word ∷ words) = (if word then 1 else 0) + count_dead_words words
 
 -- how many processes are known dead
-abbrev pub lost_of : Membership → ℕ
-lost_of members = count_dead members.data_dead + count_dead members.parity_dead
+abbrev pub count_known_dead : Membership → ℕ
+count_known_dead members = count_dead_words members.data_dead + count_dead_words members.parity_dead
 
 -- every process that has a rank in the partition is known dead
 abbrev pub NoHead : Membership → ℕ → Type 0

@@ -2,7 +2,7 @@ ghost use Rattle.std.specs.Prelude.{ℕ, ◌≡◌, ◌≢◌, ◌↔◌, ◌<�
 ghost use Rattle.group_types.specs.declared.process.ProcessId as named;
 ghost use Rattle.group_types.specs.Names.{IsProcess, IsHead, of_rank};
 ghost use Rattle.group_types.specs.Lists.{at};
-ghost use Rattle.membership.specs.Members.{count_dead};
+ghost use Rattle.membership.specs.Members.{count_dead_words};
 
 use group_types::{Partition, ProcessId, Shape};
 use std::error::Error;
@@ -40,7 +40,7 @@ impl Model for Members {
 }
 
 impl Members {
-    ghost use Rattle.membership.specs.Members.{all_living, knows_dead, with_dead, lost_of, NoHead};
+    ghost use Rattle.membership.specs.Members.{all_living, knows_dead, with_dead, count_known_dead, NoHead};
 
     /// A group in which no process is known dead.
     pub fn new(shape: Shape) -> Members
@@ -100,14 +100,14 @@ impl Members {
 
     /// How many processes are known dead.
     pub fn lost(&self) -> u32
-        ensures { result ≡ lost_of self.now }
+        ensures { result ≡ count_known_dead self.now }
     {
         count(&self.data_dead) + count(&self.parity_dead)
     }
 
     /// Whether the group is down: more than m processes are dead.
     pub fn is_down(&self) -> bool
-        ensures { IsTrue result ↔ (self.now.shape.m < lost_of self.now) }
+        ensures { IsTrue result ↔ (self.now.shape.m < count_known_dead self.now) }
     {
         self.shape.m() < self.lost()
     }
@@ -141,7 +141,7 @@ fn says_dead(words: &[bool], index: u32) -> bool
 
 fn count(words: &[bool]) -> u32
     requires { length words.now ≤ 16 }
-    ensures value { result ≡ count_dead words.now }
+    ensures value { result ≡ count_dead_words words.now }
     ensures few { result ≤ length words.now }
 {
     let mut dead = 0;

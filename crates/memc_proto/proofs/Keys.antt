@@ -8,7 +8,7 @@ use Rattle.std.proofs.lemmas.List.{take_more, get_or-map, length-map}
 use Rattle.std.proofs.lemmas.List.Folds.{list_all_more, list_all_at}
 use Rattle.std.specs.List.{list_all}
 use Rattle.group_types.specs.Key.{IsKey, IsKeyByte}
-use Rattle.memc_proto.specs.Words.{Gives, is_key_word, key_word, key_words}
+use Rattle.memc_proto.specs.Words.{GivesWord, is_key_word, key_word, key_words}
 use Rattle.memc_proto.specs.declared.field.Fault.{Fault}
 use Rattle.memc_proto.specs.declared.field.Fault.TheVariants.{Wrong, Want}
 use Rattle.memc_proto.specs.declared.request.Word.{Word}
@@ -70,11 +70,11 @@ keys-wrong words i which within wrong =
 
 -- the same, for what was read
 pub keys-fault : (words : List (List ℕ)) (i : ℕ) (fault : Fault) (result : Result (List (List ℕ)) Fault)
-    → i < length words → result ≡ Err fault → Gives {A = List ℕ} (Err fault) (key_word (get_or words i []))
-    → Gives result (key_words words)
-keys-fault words i fault result within is given = subst (λ (r : Result (List (List ℕ)) Fault). Gives r (key_words words)) (sym is) (by_fault fault given)
+    → i < length words → result ≡ Err fault → GivesWord {A = List ℕ} (Err fault) (key_word (get_or words i []))
+    → GivesWord result (key_words words)
+keys-fault words i fault result within is given = subst (λ (r : Result (List (List ℕ)) Fault). GivesWord r (key_words words)) (sym is) (by_fault fault given)
   where
-    by_fault : (fault : Fault) → Gives {A = List ℕ} (Err fault) (key_word (get_or words i [])) → Gives {A = List (List ℕ)} (Err fault) (key_words words)
+    by_fault : (fault : Fault) → GivesWord {A = List ℕ} (Err fault) (key_word (get_or words i [])) → GivesWord {A = List (List ℕ)} (Err fault) (key_words words)
     by_fault (Wrong which) wrong = keys-wrong words i which within wrong
     by_fault Want _ = tt
 

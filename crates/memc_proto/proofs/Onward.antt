@@ -1,7 +1,7 @@
 use Rattle.std.proofs.Common.{◌≡◌, ℕ, ◌<◌, true, false, List, [], ◌∷◌, ◌++◌, length, take, drop, append_assoc, refl, sym, ap, ◌∙◌, subst, arith}
 use Rattle.std.proofs.lemmas.List.{append-nil, length-append, length-take, take-append-drop}
 use Rattle.std.proofs.lemmas.List.Elements.{All-nil}
-use Rattle.memc_proto.specs.Reader.{Kept, HasRead, StandsFor, is_ended}
+use Rattle.memc_proto.specs.Reader.{HasRead, ReaderState, StandsFor, is_ended}
 use Rattle.memc_proto.specs.Reads.{Begins, is_quit}
 use Rattle.memc_proto.specs.Request.{IsRequest}
 use Rattle.memc_proto.specs.Step.{ReadsOn}
@@ -12,7 +12,7 @@ use Rattle.memc_proto.proofs.Reading.{has_read-cons, has_read-quit, has_read-non
 
 -- what completes the rest completes the text
 abbrev pub Onward : List ℕ → List ℕ → List Request → List Request → Type 0
-Onward text rest found requests = (kept : Kept) (given : List Request) → HasRead kept rest given → ReadsOn kept text found (requests ++ given)
+Onward text rest found requests = (kept : ReaderState) (given : List Request) → HasRead kept rest given → ReadsOn kept text found (requests ++ given)
 
 -- the start of a line stands for nothing
 pub fresh : StandsFor InLine [] []
@@ -63,7 +63,7 @@ stands-ended TooLong front rest is = cc
 stands-ended Ended front rest is = tt
 
 -- a reader that has met a quit takes what comes, and gives nothing
-pub feed-ended : (kept : Kept) (piece input : List ℕ) (before given : List Request) → is_ended kept.mode ≡ true
+pub feed-ended : (kept : ReaderState) (piece input : List ℕ) (before given : List Request) → is_ended kept.mode ≡ true
     → given ≡ [] → HasRead kept input before → HasRead kept (input ++ piece) (before ++ given)
 feed-ended kept piece input before given ended none read =
     subst (λ (rs : List Request). HasRead kept (input ++ piece) rs) (sym (ap (λ (rs : List Request). before ++ rs) none ∙ append-nil before)) (record {
@@ -74,7 +74,7 @@ feed-ended kept piece input before given ended none read =
     })
 
 -- a piece with which no request is whole
-pub feed-none : (kept : Kept) (mode : Mode) (front piece input : List ℕ) (before given : List Request)
+pub feed-none : (kept : ReaderState) (mode : Mode) (front piece input : List ℕ) (before given : List Request)
     → is_ended kept.mode ≡ false → is_ended mode ≡ false → given ≡ []
     → ((rest : List ℕ) → StandsFor kept.mode kept.front rest → StandsFor mode front (rest ++ piece))
     → HasRead kept input before → HasRead (record { mode = mode; front = front }) (input ++ piece) (before ++ given)
@@ -84,7 +84,7 @@ feed-none kept mode front piece input before given goes on none stands read =
     (read.ended ∙ goes) (has_read-none mode front (read.rest ++ piece) on (stands read.rest read.stands)))
 
 -- a piece with which a request is whole
-pub feed-whole : (kept now : Kept) (piece input : List ℕ) (before given : List Request) (request : Request) (taken : ℕ)
+pub feed-whole : (kept now : ReaderState) (piece input : List ℕ) (before given : List Request) (request : Request) (taken : ℕ)
     → is_ended kept.mode ≡ false
     → ((rest : List ℕ) → StandsFor kept.mode kept.front rest → IsRequest (rest ++ take taken piece) request)
     → ((input : List ℕ) → Begins input request (drop taken piece) → HasRead now input given) → HasRead kept input before

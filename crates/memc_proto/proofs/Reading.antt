@@ -1,6 +1,6 @@
 use Rattle.std.proofs.Common.{◌≡◌, ℕ, ◌||◌, Bool, true, false, List, [], ◌∷◌, ◌++◌, append_assoc, MatchBool, refl, sym, ap, ◌∙◌, subst}
 use Rattle.std.specs.List.{list_any}
-use Rattle.memc_proto.specs.Reader.{Kept, HasRead, StandsFor, is_ended}
+use Rattle.memc_proto.specs.Reader.{HasRead, ReaderState, StandsFor, is_ended}
 use Rattle.memc_proto.specs.Reads.{Begins, Reads, is_quit}
 use Rattle.memc_proto.specs.declared.mode.Mode.{Mode}
 use Rattle.memc_proto.specs.declared.mode.Mode.TheVariants.{Ended}
@@ -64,7 +64,7 @@ has_read-none mode front rest goes stands = record {
 }
 
 -- one more request before those that were read
-pub has_read-cons : (kept : Kept) (request : Request) (input after : List ℕ) (given : List Request)
+pub has_read-cons : (kept : ReaderState) (request : Request) (input after : List ℕ) (given : List Request)
     → Begins input request after → is_quit request ≡ false → HasRead kept after given
     → HasRead kept input (request ∷ given)
 has_read-cons kept request input after given begins goes read = record {
@@ -97,7 +97,7 @@ any_tail r requests true is none = let e : (true || list_any is_quit requests) �
 any_tail r requests false is none = (is, let e : (false || list_any is_quit requests) ≡ false = rw is at none in e)
 
 -- requests that were read before a piece came, and those that were read of the rest and the piece
-pub has_read-append : (kept : Kept) (before : List Request) (input rest piece : List ℕ) (given : List Request)
+pub has_read-append : (kept : ReaderState) (before : List Request) (input rest piece : List ℕ) (given : List Request)
     → Reads input before rest → list_any is_quit before ≡ false → HasRead kept (rest ++ piece) given
     → HasRead kept (input ++ piece) (before ++ given)
 has_read-append kept [] input rest piece given reads goes read = subst (λ (i : List ℕ). HasRead kept (i ++ piece) given) (sym reads.0) read

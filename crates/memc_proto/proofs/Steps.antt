@@ -5,10 +5,10 @@ use Rattle.std.proofs.Math.Seq.{take-append-add, take-length}
 use Rattle.std.proofs.lemmas.List.{length-append, length-drop, length-take-le, length-take, get_or-take, take-append-le}
 use Rattle.std.proofs.lemmas.Bool.Decides.{nat_tests}
 use Rattle.std.proofs.lemmas.List.Elements.{All-append}
-use Rattle.memc_proto.specs.Line.{line_of}
+use Rattle.memc_proto.specs.Line.{parsed_line}
 use Rattle.memc_proto.specs.Reader.{Waits, IsTooLong, StandsFor, is_ended}
 use Rattle.memc_proto.specs.Request.{IsPlain, IsLine, block_length, request_of}
-use Rattle.memc_proto.specs.Step.{IsWithin, IsStep, IsBlockStep}
+use Rattle.memc_proto.specs.Step.{IsBlockStep, IsReaderStep, IsStepWithin}
 use Rattle.memc_proto.specs.declared.line.Line.{Line}
 use Rattle.memc_proto.specs.declared.line.Line.TheVariants as line
 use Rattle.memc_proto.specs.declared.mode.Mode.{Mode}
@@ -59,7 +59,7 @@ front_at piece end n within here =
 
 waits_at : (front piece : List ℕ) (end : ℕ) (says : Line) (kept : List ℕ) → IsPlain front → end < length piece
     → NoneBelow 10 piece end → (slice_index piece end == 10) ≡ true → length front + end < 32768
-    → says ≡ line_of (front ++ take end piece) → kept ≡ drop (end + 1) piece → length (drop (end + 1) piece)
+    → says ≡ parsed_line (front ++ take end piece) → kept ≡ drop (end + 1) piece → length (drop (end + 1) piece)
     < block_length says → Waits says kept (front ++ piece)
 waits_at front piece end says kept plain within none here short read same less = record {
   line = front ++ take end piece;
@@ -72,7 +72,8 @@ waits_at front piece end says kept plain within none here short read same less =
 -- the step behind the end of a line is a step in the line
 pub line_step-end : (front piece : List ℕ) (end : ℕ) (says : Line) (step : Step) → IsPlain front → end < length piece
     → NoneBelow 10 piece end → (slice_index piece end == 10) ≡ true → length front + end < 32768
-    → says ≡ line_of (front ++ take end piece) → IsWithin piece step → IsBlockStep says piece (end + 1) step → IsStep InLine front front piece step
+    → says ≡ parsed_line (front ++ take end piece) → IsStepWithin piece step → IsBlockStep says piece (end + 1) step
+    → IsReaderStep InLine front front piece step
 line_step-end front piece end says (Whole request taken) plain within none here short read fits step = record {
   line = front ++ take end piece;
   block = take (block_length says) (drop (end + 1) piece);

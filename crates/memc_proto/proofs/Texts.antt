@@ -1,9 +1,9 @@
 use Rattle.std.proofs.Common.{◌≡◌, ◌≢◌, ℕ, ◌<◌, false, List, [], ◌∷◌, ◌++◌, length, get_or, append_assoc, add-zero, refl, sym, ap, ◌∙◌, subst, arith}
 use Rattle.std.proofs.lemmas.List.{length-append, get_or-append-add, get_or-take, length-take}
 use Rattle.std.proofs.lemmas.List.Elements.{All-tail}
-use Rattle.memc_proto.specs.Line.{line_of}
+use Rattle.memc_proto.specs.Line.{parsed_line}
 use Rattle.memc_proto.specs.Reader.{Waits, IsTooLong, StandsFor, is_ended}
-use Rattle.memc_proto.specs.Reads.{Begins, IsPartial}
+use Rattle.memc_proto.specs.Reads.{Begins, HasNoRequest}
 use Rattle.memc_proto.specs.Request.{IsPlain, block_length, request_of}
 use Rattle.memc_proto.specs.declared.line.Line.{Line}
 use Rattle.memc_proto.specs.declared.line.Line.TheVariants.{Stores, Skips}
@@ -36,10 +36,10 @@ begins-once input r s x y one other =
     sym (begins_line input r x one) ∙ begins_line input s y other in
     let parts = line_ends one.is.line other.is.line (one.is.block ++ x) (other.is.block ++ y) one.is.is_line.plain other.is.is_line.plain same in
     let long : length one.is.block ≡ length other.is.block = one.is.belongs
-    ∙ ap (λ (line : List ℕ). block_length (line_of line)) parts.0 ∙ sym other.is.belongs in
+    ∙ ap (λ (line : List ℕ). block_length (parsed_line line)) parts.0 ∙ sym other.is.belongs in
     let blocks = cut_same one.is.block other.is.block x y long parts.1 in (
-      one.is.asks ∙ ap (λ (line : List ℕ). request_of (line_of line) one.is.block) parts.0
-          ∙ ap (λ (block : List ℕ). request_of (line_of other.is.line) block) blocks.0 ∙ sym other.is.asks,
+      one.is.asks ∙ ap (λ (line : List ℕ). request_of (parsed_line line) one.is.block) parts.0
+          ∙ ap (λ (block : List ℕ). request_of (parsed_line other.is.line) block) blocks.0 ∙ sym other.is.asks,
       blocks.1,
     )
   where
@@ -63,29 +63,29 @@ ends_here bytes line more is = (
 )
 
 -- no whole request without a line end
-pub partial-plain : (rest : List ℕ) → IsPlain rest → IsPartial rest
+pub partial-plain : (rest : List ℕ) → IsPlain rest → HasNoRequest rest
 partial-plain rest plain request after b =
     let here = ends_here rest b.is.line (b.is.block ++ after) (begins_line rest request after b) in
     plain (length b.is.line) 0 here.0 here.1
 
-pub partial-too_long : (rest : List ℕ) → IsTooLong rest → IsPartial rest
+pub partial-too_long : (rest : List ℕ) → IsTooLong rest → HasNoRequest rest
 partial-too_long rest long request after b =
     let here = ends_here rest b.is.line (b.is.block ++ after) (begins_line rest request after b) in
     let short : length b.is.line < 32768 = b.is.is_line.short in
     let over : 32768 < length rest = long.long in
     long.plain (length b.is.line) 0 (omega (arith, length-take 32768 rest, here.0, short, over)) (get_or-take 32768 rest (length b.is.line) 0 short ∙ here.1)
 
-pub partial-waits : (says : Line) (block rest : List ℕ) → Waits says block rest → IsPartial rest
+pub partial-waits : (says : Line) (block rest : List ℕ) → Waits says block rest → HasNoRequest rest
 partial-waits says block rest waits request after b =
     let same : waits.line ++ 10 ∷ block ≡ b.is.line ++ 10 ∷ (b.is.block ++ after) = sym waits.whole ∙ begins_line rest request after b in
     let parts = line_ends waits.line b.is.line block (b.is.block ++ after) waits.is_line.plain b.is.is_line.plain same in
     let long : length b.is.block ≡ block_length says = b.is.belongs
-    ∙ ap (λ (line : List ℕ). block_length (line_of line)) (sym parts.0) ∙ ap block_length waits.said in
+    ∙ ap (λ (line : List ℕ). block_length (parsed_line line)) (sym parts.0) ∙ ap block_length waits.said in
     let short : length block < block_length says = waits.short in
     omega (arith, ap length parts.1, length-append b.is.block after)
 
 -- what is kept stands for a rest without a whole request at its front
-pub stands-partial : (mode : Mode) (front rest : List ℕ) → is_ended mode ≡ false → StandsFor mode front rest → IsPartial rest
+pub stands-partial : (mode : Mode) (front rest : List ℕ) → is_ended mode ≡ false → StandsFor mode front rest → HasNoRequest rest
 stands-partial InLine front rest goes stands = partial-plain rest (subst IsPlain (sym stands.0) stands.1)
 stands-partial (InBlock store) front rest goes stands = partial-waits (Stores store) front rest stands
 stands-partial (Skipping refusal left) front rest goes stands = partial-waits (Skips refusal stands.len) stands.block rest stands.waits

@@ -119,8 +119,8 @@ touch_line (key ∷ exptime ∷ last) = with_last last (whole (touch_of key expt
 touch_line _ = refused Unknown
 
 -- a number to add, or to take away
-unfoldable pub count_of : Bool → List ℕ → List ℕ → List (List ℕ) → Result Request Word
-count_of up key number last = do
+unfoldable pub counter_of : Bool → List ℕ → List ℕ → List (List ℕ) → Result Request Word
+counter_of up key number last = do
   key ← key_word key
   by ← number_word Number (2 ^ 64) number
   noreply ← last_word last
@@ -128,7 +128,7 @@ count_of up key number last = do
 
 -- `<key> <number> [noreply]`
 abbrev pub count_line : Bool → List (List ℕ) → Line
-count_line up (key ∷ number ∷ last) = with_last last (whole (count_of up key number last))
+count_line up (key ∷ number ∷ last) = with_last last (whole (counter_of up key number last))
 count_line up _ = refused Unknown
 
 -- the order that a process fail
@@ -173,5 +173,5 @@ said_by [] = refused Unknown
 said_by (name ∷ words) = named_line (command_of name) words
 
 -- what a line without its end says
-unfoldable pub line_of : List ℕ → Line
-line_of line = said_by (words_of (without_return line))
+unfoldable pub parsed_line : List ℕ → Line
+parsed_line line = said_by (words_of (without_return line))

@@ -1,6 +1,6 @@
 use Rattle.std.specs.Prelude.{ℕ, ◌≡◌, ◌+◌, ◌<◌, ◌≤◌, Bool, true, false, List, ◌∷◌, ◌++◌, length, take, ⊤}
 use Rattle.std.specs.List.{list_any}
-use Rattle.memc_proto.specs.Line.{line_of}
+use Rattle.memc_proto.specs.Line.{parsed_line}
 use Rattle.memc_proto.specs.Request.{IsPlain, IsLine, block_length}
 use Rattle.memc_proto.specs.Reads.{Reads, is_quit}
 use Rattle.memc_proto.specs.declared.line.Line.{Line}
@@ -10,7 +10,7 @@ use Rattle.memc_proto.specs.declared.mode.Mode.TheVariants.{InLine, InBlock, Ski
 use Rattle.memc_proto.specs.declared.request.Request.{Request}
 
 -- what a reader keeps between two pieces
-pub record Kept : Type 0 where
+pub record ReaderState : Type 0 where
   pub mode : Mode
   pub front : List ℕ
 
@@ -24,7 +24,7 @@ pub record Waits (says : Line) (block rest : List ℕ) : Type 0 where
   pub line : List ℕ
   pub whole : rest ≡ line ++ 10 ∷ block
   pub is_line : IsLine line
-  pub said : line_of line ≡ says
+  pub said : parsed_line line ≡ says
   pub short : length block < block_length says
 
 -- the rest is a refused line, and some of the bytes that it skips, of which so many are left
@@ -48,7 +48,7 @@ is_ended Ended = true
 is_ended _ = false
 
 -- a reader that keeps this was fed this input, and gave these requests
-pub record HasRead (kept : Kept) (input : List ℕ) (requests : List Request) : Type 0 where
+pub record HasRead (kept : ReaderState) (input : List ℕ) (requests : List Request) : Type 0 where
   pub rest : List ℕ
   pub reads : Reads input requests rest
   pub stands : StandsFor kept.mode kept.front rest

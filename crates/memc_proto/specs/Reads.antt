@@ -10,8 +10,8 @@ pub record Begins (input : List ℕ) (request : Request) (after : List ℕ) : Ty
   pub is : IsRequest text request
 
 -- an input has no whole request at its front
-abbrev pub IsPartial : List ℕ → Type 0
-IsPartial rest = (request : Request) (after : List ℕ) → ¬ (Begins rest request after)
+abbrev pub HasNoRequest : List ℕ → Type 0
+HasNoRequest rest = (request : Request) (after : List ℕ) → ¬ (Begins rest request after)
 
 -- whether a request ends the connection
 abbrev pub is_quit : Request → Bool
@@ -21,5 +21,5 @@ is_quit _ = false
 -- an input is read as these requests with this rest: it is their texts, one behind the other, and
 -- then the rest, which has no whole request at its front. After a quit nothing is read
 abbrev pub Reads : List ℕ → List Request → List ℕ → Type 0
-Reads input [] rest = (input ≡ rest) × IsPartial rest
+Reads input [] rest = (input ≡ rest) × HasNoRequest rest
 Reads input (request ∷ requests) rest = (after : List ℕ) × Begins input request after × MatchBool (is_quit request) ((requests ≡ []) × (after ≡ rest)) (Reads after requests rest)

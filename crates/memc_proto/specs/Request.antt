@@ -1,6 +1,6 @@
 use Rattle.std.specs.Prelude.{ℕ, ◌≡◌, ◌≢◌, ◌+◌, ◌<◌, List, [], ◌∷◌, ◌++◌, All, length, take, drop, if◌then◌else◌}
 use Rattle.std.specs.Str.{bytes_eq}
-use Rattle.memc_proto.specs.Line.{line_of}
+use Rattle.memc_proto.specs.Line.{parsed_line}
 use Rattle.memc_proto.specs.Store.{act_of}
 use Rattle.memc_proto.specs.declared.line.Line.{Line}
 use Rattle.memc_proto.specs.declared.line.Line.TheVariants.{Whole, Stores, Skips}
@@ -25,13 +25,13 @@ block_length (Stores store) = store.len + 2
 block_length (Skips _ len) = len
 
 -- what a store's data block makes of it: the call with the value, if a line end is behind the value
-abbrev pub stored : Store → List ℕ → Request
-stored store block = if bytes_eq (drop store.len block) (13 ∷ 10 ∷ []) then Change (act_of store (take store.len block)) store.noreply else Refused BadChunk
+abbrev pub store_request : Store → List ℕ → Request
+store_request store block = if bytes_eq (drop store.len block) (13 ∷ 10 ∷ []) then Change (act_of store (take store.len block)) store.noreply else Refused BadChunk
 
 -- the request of what a line says and the bytes behind it
 abbrev pub request_of : Line → List ℕ → Request
 request_of (Whole request) _ = request
-request_of (Stores store) block = stored store block
+request_of (Stores store) block = store_request store block
 request_of (Skips refusal _) _ = Refused refusal
 
 -- a text is one whole request: a line with its end, and the bytes that the line says belong to it
@@ -40,5 +40,5 @@ pub record IsRequest (text : List ℕ) (request : Request) : Type 0 where
   pub block : List ℕ
   pub whole : text ≡ line ++ 10 ∷ block
   pub is_line : IsLine line
-  pub belongs : length block ≡ block_length (line_of line)
-  pub asks : request ≡ request_of (line_of line) block
+  pub belongs : length block ≡ block_length (parsed_line line)
+  pub asks : request ≡ request_of (parsed_line line) block

@@ -1,6 +1,6 @@
 use Rattle.std.specs.Prelude.{ℕ, ◌≡◌, ◌+◌, ◌<◌, ◌≤◌, false, List, ◌++◌, length, take, drop, ⊤}
 use Rattle.memc_proto.specs.Request.{IsRequest, block_length, request_of}
-use Rattle.memc_proto.specs.Reader.{StandsFor, HasRead, Kept, is_ended}
+use Rattle.memc_proto.specs.Reader.{StandsFor, HasRead, ReaderState, is_ended}
 use Rattle.memc_proto.specs.declared.line.Line.{Line}
 use Rattle.memc_proto.specs.declared.line.Line.TheVariants.{Stores, Skips}
 use Rattle.memc_proto.specs.declared.mode.Mode.{Mode}
@@ -10,17 +10,17 @@ use Rattle.memc_proto.specs.declared.step.Step.{Step}
 use Rattle.memc_proto.specs.declared.step.Step.TheVariants.{Whole, Grows, Waits}
 
 -- a step takes no more bytes than there are
-abbrev pub IsWithin : List ℕ → Step → Type 0
-IsWithin piece (Whole _ taken) = taken ≤ length piece
-IsWithin piece Grows = ⊤
-IsWithin piece (Waits _ from) = from ≤ length piece
+abbrev pub IsStepWithin : List ℕ → Step → Type 0
+IsStepWithin piece (Whole _ taken) = taken ≤ length piece
+IsStepWithin piece Grows = ⊤
+IsStepWithin piece (Waits _ from) = from ≤ length piece
 
 -- what a piece makes of what is kept of a rest: a request is whole, or the piece is kept behind
 -- what is kept, or its last bytes are kept in another mode
-abbrev pub IsStep : Mode → List ℕ → List ℕ → List ℕ → Step → Type 0
-IsStep mode front rest piece (Whole request taken) = IsRequest (rest ++ take taken piece) request
-IsStep mode front rest piece Grows = StandsFor mode (front ++ piece) (rest ++ piece)
-IsStep mode front rest piece (Waits next from) = StandsFor next (drop from piece) (rest ++ piece) × (is_ended next ≡ false)
+abbrev pub IsReaderStep : Mode → List ℕ → List ℕ → List ℕ → Step → Type 0
+IsReaderStep mode front rest piece (Whole request taken) = IsRequest (rest ++ take taken piece) request
+IsReaderStep mode front rest piece Grows = StandsFor mode (front ++ piece) (rest ++ piece)
+IsReaderStep mode front rest piece (Waits next from) = StandsFor next (drop from piece) (rest ++ piece) × (is_ended next ≡ false)
 
 -- what is kept of a line's block
 abbrev pub KeepsBlock : Line → List ℕ → Mode → List ℕ → Type 0
@@ -35,7 +35,7 @@ IsBlockStep says piece at Grows = ⊥
 IsBlockStep says piece at (Waits mode from) = (length (drop at piece) < block_length says) × KeepsBlock says (drop at piece) mode (drop from piece)
 
 -- the text begins a line, and was read as these requests behind those found before
-pub record ReadsOn (kept : Kept) (text : List ℕ) (found requests : List Request) : Type 0 where
+pub record ReadsOn (kept : ReaderState) (text : List ℕ) (found requests : List Request) : Type 0 where
   pub given : List Request
   pub behind : requests ≡ found ++ given
   pub has_read : HasRead kept text given

@@ -24,10 +24,10 @@ abbrev pub ◌>>=◌ : {A B : Type 0} → Result A Word → (A → Result B Word
 (Err which) >>= f = Err which
 
 -- what was read, as it is read; want of memory may come at any time
-abbrev pub Gives : {A : Type 0} → Result A Fault → Result A Word → Type 0
-Gives (Ok x) read = read ≡ Ok x
-Gives (Err (Wrong which)) read = read ≡ Err which
-Gives (Err Want) read = ⊤
+abbrev pub GivesWord : {A : Type 0} → Result A Fault → Result A Word → Type 0
+GivesWord (Ok x) read = read ≡ Ok x
+GivesWord (Err (Wrong which)) read = read ≡ Err which
+GivesWord (Err Want) read = ⊤
 
 -- the value where there is one, else this word is wrong
 abbrev pub or_wrong : {A : Type 0} → Word → Option A → Result A Word

@@ -1,5 +1,5 @@
 ghost use Rattle.std.specs.Prelude.{◌≡◌, ◌^◌, map};
-ghost use Rattle.memc_proto.specs.Words.{Gives, if_below, key_word, number_word, exptime_word, last_word, process_word, keep_word, signed_of};
+ghost use Rattle.memc_proto.specs.Words.{GivesWord, if_below, key_word, number_word, exptime_word, last_word, process_word, keep_word, signed_of};
 ghost use Rattle.memc_table.specs.Numeral.{number_of};
 
 use crate::request::Word;
@@ -39,7 +39,7 @@ impl<T: Drop> From<AllocFailed<T>> for Fault {
 /// Reads a key.
 #[tactic(auto, unfolding(crate::specs::Words::key_word))]
 pub(crate) fn read_key(alloc: Global, word: &[u8]) -> Result<Key, Fault>
-    ensures { Gives result (key_word word.now) }
+    ensures { GivesWord result (key_word word.now) }
 {
     match Key::read(alloc, word) {
         Ok(key) => Ok(key),
@@ -51,7 +51,7 @@ pub(crate) fn read_key(alloc: Global, word: &[u8]) -> Result<Key, Fault>
 /// Reads a number word of 32 bits.
 #[tactic(auto, unfolding(crate::specs::Words::number_word))]
 pub(crate) fn read_u32(which: Word, word: &[u8]) -> Result<u32, Fault>
-    ensures { Gives result (number_word which (2 ^ 32) word.now) }
+    ensures { GivesWord result (number_word which (2 ^ 32) word.now) }
 {
     match u32_of(word) {
         Some(number) => Ok(number),
@@ -72,7 +72,7 @@ pub(crate) fn u32_of(word: &[u8]) -> Option<u32>
 /// Reads a number word of 64 bits.
 #[tactic(auto, unfolding(crate::specs::Words::number_word))]
 pub(crate) fn read_u64(which: Word, word: &[u8]) -> Result<u64, Fault>
-    ensures { Gives result (number_word which (2 ^ 64) word.now) }
+    ensures { GivesWord result (number_word which (2 ^ 64) word.now) }
 {
     match number(word) {
         Some(number) => Ok(number),
@@ -83,7 +83,7 @@ pub(crate) fn read_u64(which: Word, word: &[u8]) -> Result<u64, Fault>
 /// Reads an exptime: a number word with an optional minus sign.
 #[tactic(auto, unfolding(crate::specs::Words::exptime_word))]
 pub(crate) fn read_exptime(word: &[u8]) -> Result<i64, Fault>
-    ensures { Gives result (exptime_word word.now) }
+    ensures { GivesWord result (exptime_word word.now) }
 {
     match signed(word) {
         Some(expiry) => Ok(expiry),
@@ -94,7 +94,7 @@ pub(crate) fn read_exptime(word: &[u8]) -> Result<i64, Fault>
 /// Reads the last word of a line, if there is one: whether the answer is not to be written.
 #[tactic(auto, unfolding(crate::specs::Words::last_word))]
 pub(crate) fn read_last(words: &[&[u8]]) -> Result<bool, Fault>
-    ensures { Gives result (last_word (map (λ word. word.now) words.now)) }
+    ensures { GivesWord result (last_word (map (λ word. word.now) words.now)) }
 {
     match words {
         [] => Ok(false),
@@ -106,7 +106,7 @@ pub(crate) fn read_last(words: &[&[u8]]) -> Result<bool, Fault>
 /// Reads a process, whether or not a group has it.
 #[tactic(auto, unfolding(crate::specs::Words::process_word))]
 pub(crate) fn read_process(word: &[u8]) -> Result<ProcessId, Fault>
-    ensures { Gives result (process_word word.now) }
+    ensures { GivesWord result (process_word word.now) }
 {
     match word {
         [b'd', digits @ ..] => Ok(ProcessId::DataNode(read_u32(Word::Process, digits)?)),
@@ -118,7 +118,7 @@ pub(crate) fn read_process(word: &[u8]) -> Result<ProcessId, Fault>
 /// Reads how many messages each link keeps.
 #[tactic(auto, unfolding(crate::specs::Words::keep_word))]
 pub fn read_keep(word: &[u8]) -> Result<u32, Fault>
-    ensures { Gives result (keep_word word.now) }
+    ensures { GivesWord result (keep_word word.now) }
 {
     if word == b"all".as_slice() {
         return Ok(u32::MAX);

@@ -1,6 +1,6 @@
 ghost use Rattle.std.specs.Prelude.{◌≡◌, ℕ, ◌^◌, map, IfOk, Result};
-ghost use Rattle.memc_proto.specs.Words.{Gives, key_words, number_word};
-ghost use Rattle.memc_proto.specs.Line.{line_of, command_line, get_line, store_line, cas_line, delete_line, touch_line, count_line, fail_line, lone_line, sizes_of, store_of, delete_of, touch_of, count_of, fail_of, whole, storing, skipping, refused};
+ghost use Rattle.memc_proto.specs.Words.{GivesWord, key_words, number_word};
+ghost use Rattle.memc_proto.specs.Line.{parsed_line, command_line, get_line, store_line, cas_line, delete_line, touch_line, count_line, fail_line, lone_line, sizes_of, store_of, delete_of, touch_of, counter_of, fail_of, whole, storing, skipping, refused};
 
 use crate::command::{Command, command_named};
 use crate::field::{
@@ -26,7 +26,7 @@ pub struct Sizes {
 /// Reads a line without its end.
 #[tactic(auto, unfolding(crate::specs::Line::line_of))]
 pub(crate) fn read_line(alloc: Global, line: &[u8]) -> Result<Line, AllocError>
-    ensures { IfOk result (λ read. read ≡ line_of line.now) }
+    ensures { IfOk result (λ read. read ≡ parsed_line line.now) }
 {
     let words = words(alloc, without_return(line))?;
     match words.as_slice() {
@@ -74,7 +74,7 @@ fn lone(request: Request, words: &[&[u8]]) -> Line
 
 /// A line of no block, from what its words gave.
 fn whole(request: Result<Request, Fault>) -> Result<Line, AllocError>
-    ensures { (read : Result Request Word) → Gives request read → IfOk result (λ line. line ≡ whole read) }
+    ensures { (read : Result Request Word) → GivesWord request read → IfOk result (λ line. line ≡ whole read) }
 {
     match request {
         Ok(request) => Ok(Line::Whole(request)),
@@ -97,7 +97,7 @@ fn read_get(alloc: Global, with_cas: bool, words: &[&[u8]]) -> Result<Line, Allo
 }
 
 fn read_keys(alloc: Global, words: &[&[u8]]) -> Result<KeyList, Fault>
-    ensures { Gives result (key_words (map (λ word. word.now) words.now)) }
+    ensures { GivesWord result (key_words (map (λ word. word.now) words.now)) }
 {
     let mut keys = Vec::with_capacity(alloc, words.len())?;
     'words: for word in words {
@@ -133,7 +133,7 @@ fn read_cas(alloc: Global, words: &[&[u8]]) -> Result<Line, AllocError>
 
 #[tactic(auto, unfolding(crate::specs::Line::sizes_of))]
 fn read_sizes(flags: &[u8], exptime: &[u8], bytes: &[u8]) -> Result<Sizes, Fault>
-    ensures { Gives result (sizes_of flags.now exptime.now bytes.now) }
+    ensures { GivesWord result (sizes_of flags.now exptime.now bytes.now) }
 {
     Ok(Sizes {
         flags: read_u32(Word::Flags, flags)?,
@@ -152,7 +152,7 @@ fn store(
     cas: Result<u64, Fault>,
     last: &[&[u8]],
 ) -> Result<Store, Fault>
-    ensures { (read_sizes : Result Sizes Word) → (read_cas : Result ℕ Word) → Gives sizes read_sizes → Gives cas read_cas → Gives result (store_of verb key.now read_sizes read_cas (map (λ word. word.now) last.now)) }
+    ensures { (read_sizes : Result Sizes Word) → (read_cas : Result ℕ Word) → GivesWord sizes read_sizes → GivesWord cas read_cas → GivesWord result (store_of verb key.now read_sizes read_cas (map (λ word. word.now) last.now)) }
 {
     let key = read_key(alloc, key)?;
     let sizes = sizes?;
@@ -171,7 +171,7 @@ fn store(
 
 /// A line with a data block of so many bytes, from what its words gave.
 fn storing(bytes: &[u8], store: Result<Store, Fault>) -> Result<Line, AllocError>
-    ensures { (read : Result Store Word) → Gives store read → IfOk result (λ line. line ≡ storing (number_word Word.Bytes (2 ^ 32) bytes.now) read) }
+    ensures { (read : Result Store Word) → GivesWord store read → IfOk result (λ line. line ≡ storing (number_word Word.Bytes (2 ^ 32) bytes.now) read) }
 {
     match store {
         Ok(store) if store.len as usize <= LONGEST_VALUE => Ok(Line::Stores(store)),
@@ -206,7 +206,7 @@ fn read_delete(alloc: Global, words: &[&[u8]]) -> Result<Line, AllocError>
 
 #[tactic(auto, unfolding(crate::specs::Line::delete_of))]
 fn delete(alloc: Global, key: &[u8], last: &[&[u8]]) -> Result<Request, Fault>
-    ensures { Gives result (delete_of key.now (map (λ word. word.now) last.now)) }
+    ensures { GivesWord result (delete_of key.now (map (λ word. word.now) last.now)) }
 {
     let key = read_key(alloc, key)?;
     let noreply = read_last(last)?;
@@ -227,7 +227,7 @@ fn read_touch(alloc: Global, words: &[&[u8]]) -> Result<Line, AllocError>
 
 #[tactic(auto, unfolding(crate::specs::Line::touch_of))]
 fn touch(alloc: Global, key: &[u8], exptime: &[u8], last: &[&[u8]]) -> Result<Request, Fault>
-    ensures { Gives result (touch_of key.now exptime.now (map (λ word. word.now) last.now)) }
+    ensures { GivesWord result (touch_of key.now exptime.now (map (λ word. word.now) last.now)) }
 {
     let key = read_key(alloc, key)?;
     let expiry = read_exptime(exptime)?;
@@ -255,7 +255,7 @@ fn count(
     number: &[u8],
     last: &[&[u8]],
 ) -> Result<Request, Fault>
-    ensures { Gives result (count_of up key.now number.now (map (λ word. word.now) last.now)) }
+    ensures { GivesWord result (counter_of up key.now number.now (map (λ word. word.now) last.now)) }
 {
     let key = read_key(alloc, key)?;
     let by = read_u64(Word::Number, number)?;
@@ -279,7 +279,7 @@ fn read_fail(words: &[&[u8]]) -> Result<Line, AllocError>
 
 #[tactic(auto, unfolding(crate::specs::Line::fail_of))]
 fn fail(process: &[u8], keep: &[u8]) -> Result<Request, Fault>
-    ensures { Gives result (fail_of process.now keep.now) }
+    ensures { GivesWord result (fail_of process.now keep.now) }
 {
     Ok(Request::Fail {
         at: read_process(process)?,

@@ -19,9 +19,9 @@ pub struct Reader {
 }
 
 impl Model for Reader {
-    ghost use Rattle.memc_proto.specs.Reader.{Kept};
+    ghost use Rattle.memc_proto.specs.Reader.{ReaderState};
 
-    ghost Value = { Kept };
+    ghost Value = { ReaderState };
 
     ghost view = { λ r. record { mode = r.mode; front = r.front.items } };
 }

@@ -1,8 +1,8 @@
 ghost use Rattle.std.specs.Prelude.{ℕ, List, ◌≡◌, ◌+◌, ◌≤◌, ◌++◌, length, take, drop, false, [], IfOk};
-ghost use Rattle.memc_proto.specs.Line.{line_of};
-ghost use Rattle.memc_proto.specs.Request.{stored};
+ghost use Rattle.memc_proto.specs.Line.{parsed_line};
+ghost use Rattle.memc_proto.specs.Request.{store_request};
 ghost use Rattle.memc_proto.specs.Reader.{StandsFor, is_ended};
-ghost use Rattle.memc_proto.specs.Step.{IsWithin, IsStep, IsBlockStep};
+ghost use Rattle.memc_proto.specs.Step.{IsBlockStep, IsReaderStep, IsStepWithin};
 
 use crate::line::Line;
 use crate::mode::Mode;
@@ -35,8 +35,8 @@ pub(crate) fn first_step(
     piece: &[u8],
 ) -> Result<Step, AllocError>
     requires { is_ended mode.now ≡ false }
-    ensures within { IfOk result (IsWithin piece.now) }
-    ensures step { IfOk result (λ step. (rest : List ℕ) → StandsFor mode.now front.now rest → IsStep mode.now front.now rest piece.now step) }
+    ensures within { IfOk result (IsStepWithin piece.now) }
+    ensures step { IfOk result (λ step. (rest : List ℕ) → StandsFor mode.now front.now rest → IsReaderStep mode.now front.now rest piece.now step) }
 {
     match mode {
         Mode::InLine => line_step(alloc, front, piece),
@@ -52,8 +52,8 @@ pub(crate) fn first_step(
 
 /// The step in a line, of which `front` are the bytes so far.
 pub(crate) fn line_step(alloc: Global, front: &[u8], piece: &[u8]) -> Result<Step, AllocError>
-    ensures within { IfOk result (IsWithin piece.now) }
-    ensures step { IfOk result (λ step. StandsFor Mode.InLine front.now front.now → IsStep Mode.InLine front.now front.now piece.now step) }
+    ensures within { IfOk result (IsStepWithin piece.now) }
+    ensures step { IfOk result (λ step. StandsFor Mode.InLine front.now front.now → IsReaderStep Mode.InLine front.now front.now piece.now step) }
 {
     let room = LONGEST_LINE.saturating_sub(front.len());
     match memchr(b'\n', &piece[..piece.len().min(room)]) {
@@ -73,7 +73,7 @@ pub(crate) fn line_step(alloc: Global, front: &[u8], piece: &[u8]) -> Result<Ste
 
 /// Reads a line that came in two parts.
 fn read_joined(alloc: Global, front: &[u8], part: &[u8]) -> Result<Line, AllocError>
-    ensures { IfOk result (λ read. read ≡ line_of (front.now ++ part.now)) }
+    ensures { IfOk result (λ read. read ≡ parsed_line (front.now ++ part.now)) }
 {
     if front.is_empty() {
         return read_line(alloc, part);
@@ -93,7 +93,7 @@ fn joined(alloc: Global, front: &[u8], part: &[u8]) -> Result<Vec<u8>, AllocErro
 /// The step behind the end of a line, which is before the place `at` of the piece.
 fn after_line(alloc: Global, line: Line, piece: &[u8], at: usize) -> Result<Step, AllocError>
     requires { at ≤ length piece.now }
-    ensures within { IfOk result (IsWithin piece.now) }
+    ensures within { IfOk result (IsStepWithin piece.now) }
     ensures step { IfOk result (IsBlockStep line piece.now at) }
 {
     let left = piece.len() - at;
@@ -138,7 +138,7 @@ fn whole_block(
     part: &[u8],
 ) -> Result<Request, AllocError>
     requires { store.len ≤ length front.now + length part.now }
-    ensures { IfOk result (λ request. request ≡ stored store (front.now ++ part.now)) }
+    ensures { IfOk result (λ request. request ≡ store_request store (front.now ++ part.now)) }
 {
     let len = store.len as usize;
     let noreply = store.noreply;
@@ -156,8 +156,8 @@ fn whole_block(
 
 /// The step in a data block, of which `front` are the bytes so far.
 fn block_step(alloc: Global, store: &Store, front: &[u8], piece: &[u8]) -> Result<Step, AllocError>
-    ensures within { IfOk result (IsWithin piece.now) }
-    ensures step { IfOk result (λ step. (rest : List ℕ) → StandsFor (Mode.InBlock store.now) front.now rest → IsStep (Mode.InBlock store.now) front.now rest piece.now step) }
+    ensures within { IfOk result (IsStepWithin piece.now) }
+    ensures step { IfOk result (λ step. (rest : List ℕ) → StandsFor (Mode.InBlock store.now) front.now rest → IsReaderStep (Mode.InBlock store.now) front.now rest piece.now step) }
 {
     let missing = (store.len as usize + 2).saturating_sub(front.len());
     if piece.len() < missing {
@@ -171,8 +171,8 @@ fn block_step(alloc: Global, store: &Store, front: &[u8], piece: &[u8]) -> Resul
 
 /// The step in the bytes that a refused line skips.
 fn skip_step(refusal: Refusal, left: u64, piece: &[u8]) -> Step
-    ensures within { IsWithin piece.now result }
-    ensures step { (front rest : List ℕ) → StandsFor (Mode.Skipping refusal left) front rest → IsStep (Mode.Skipping refusal left) front rest piece.now result }
+    ensures within { IsStepWithin piece.now result }
+    ensures step { (front rest : List ℕ) → StandsFor (Mode.Skipping refusal left) front rest → IsReaderStep (Mode.Skipping refusal left) front rest piece.now result }
 {
     if (piece.len() as u64) < left {
         return Step::Waits {

@@ -17,11 +17,11 @@ key_of (Incr key _) = key
 key_of (Decr key _) = key
 
 -- the value that is brought, which has no byte where the act brings none
-abbrev pub value_of : Act → List ℕ
-value_of (Set _ _ _ value) = value
-value_of (Add _ _ _ value) = value
-value_of (Replace _ _ _ value) = value
-value_of (Cas _ _ _ _ value) = value
-value_of (Append _ value) = value
-value_of (Prepend _ value) = value
-value_of _ = []
+abbrev pub act_value : Act → List ℕ
+act_value (Set _ _ _ value) = value
+act_value (Add _ _ _ value) = value
+act_value (Replace _ _ _ value) = value
+act_value (Cas _ _ _ _ value) = value
+act_value (Append _ value) = value
+act_value (Prepend _ value) = value
+act_value _ = []

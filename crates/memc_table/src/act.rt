@@ -1,5 +1,5 @@
 ghost use Rattle.std.specs.Prelude.{◌≡◌, ◌<◌, All, IfOk};
-ghost use Rattle.memc_table.specs.Act.{value_of};
+ghost use Rattle.memc_table.specs.Act.{act_value};
 
 use group_types::{Key, Payload};
 use std::alloc::AllocError;
@@ -185,7 +185,7 @@ fn both(key: &Key, value: &Payload) -> Result<(Key, Payload), AllocError>
 
 /// The value that an act brings consists of bytes.
 pub fn values_are_bytes(act: &Act)
-    ensures { All (λ b. b < 256) (value_of act.now) }
+    ensures { All (λ b. b < 256) (act_value act.now) }
 {
     match act {
         Act::Set { value, .. } => are_bytes(value.bytes()),

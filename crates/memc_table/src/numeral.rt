@@ -1,5 +1,5 @@
 ghost use Rattle.std.specs.Prelude.{◌≡◌};
-ghost use Rattle.memc_table.specs.Numeral.{number_of, value_of};
+ghost use Rattle.memc_table.specs.Numeral.{number_of, numeral_value};
 
 /// The number of a numeral: 1 to 20 decimal digits that stand for a number below 2^64.
 pub fn number(bytes: &[u8]) -> Option<u64>
@@ -12,7 +12,7 @@ pub fn number(bytes: &[u8]) -> Option<u64>
 }
 
 fn value(digits: &[u8]) -> Option<u64>
-    ensures { result ≡ value_of digits.now }
+    ensures { result ≡ numeral_value digits.now }
 {
     let mut value: u64 = 0;
     'digits: for &digit in digits {

@@ -63,7 +63,7 @@ impl<G> MovingGateway<G> {
 
 impl<G: Keyed> MovingGateway<G> {
     ghost use Rattle.std.specs.Prelude.{◌≡◌, true, None, Some, IfSome, IsSome};
-    ghost use Rattle.front_end.specs.Gateway.{HasEnded, IsFree, KeepsOthers, LendsNone};
+    ghost use Rattle.front_end.specs.Gateway.{IsEndOf, IsNotOpen, KeepsOtherCalls, LendsNone};
     ghost use Rattle.moving_gateway.specs.Rules.{is_refused, moving_rules};
     ghost use Rattle.moving_gateway.specs.declared.call.MovingCall.TheVariants.{Inner, Refused};
 
@@ -85,10 +85,10 @@ impl<G: Keyed> MovingGateway<G> {
 
     // The end of a call of the inner gateway, if it has come, as it is told.
     fn take_inner(&mut self, call: &G::Call) -> Option<CallEnd>
-        ensures ended { IfSome result (λ end. HasEnded (moving_rules G.rules) self.old (Inner call.now) end self.new) }
-        ensures over { IsSome result → IsFree (moving_rules G.rules) self.new (Inner call.now) }
+        ensures ended { IfSome result (λ end. IsEndOf (moving_rules G.rules) self.old (Inner call.now) end self.new) }
+        ensures over { IsSome result → IsNotOpen (moving_rules G.rules) self.new (Inner call.now) }
         ensures free { IsSome result → ¬ (G.rules.lent self.new.inner call.now) }
-        ensures others { KeepsOthers (moving_rules G.rules) (Inner call.now) self.old self.new }
+        ensures others { KeepsOtherCalls (moving_rules G.rules) (Inner call.now) self.old self.new }
         ensures lends { LendsNone (moving_rules G.rules) self.old self.new }
         ensures still { result ≡ None → self.new ≡ self.old }
         ensures later { (moving_rules G.rules).later self.old self.new }
@@ -100,9 +100,9 @@ impl<G: Keyed> MovingGateway<G> {
 
     // The end of the call that was refused.
     fn take_refused(&mut self) -> Option<CallEnd>
-        ensures ended { IfSome result (λ end. HasEnded (moving_rules G.rules) self.old Refused end self.new) }
+        ensures ended { IfSome result (λ end. IsEndOf (moving_rules G.rules) self.old Refused end self.new) }
         ensures over { IsSome result → self.new.refused ≡ None }
-        ensures others { KeepsOthers (moving_rules G.rules) Refused self.old self.new }
+        ensures others { KeepsOtherCalls (moving_rules G.rules) Refused self.old self.new }
         ensures lends { LendsNone (moving_rules G.rules) self.old self.new }
         ensures still { result ≡ None → self.new ≡ self.old }
         ensures later { (moving_rules G.rules).later self.old self.new }

@@ -1,7 +1,7 @@
 // How cas numbers come in and are told.
 ghost use Rattle.std.specs.Prelude.{◌≡◌, ◌≤◌, IfOk};
 ghost use Rattle.group_types.specs.Lists.{at};
-ghost use Rattle.group_eras.specs.Told.{op_in};
+ghost use Rattle.group_eras.specs.Told.{op_for_era};
 ghost use Rattle.group_run.specs.Deciding.{is_get};
 ghost use Rattle.moving_gateway.specs.Told.{end_told, item_told};
 
@@ -28,7 +28,7 @@ pub(crate) fn base_of(bases: &[u64], partition: u32) -> u64
 /// The op as the inner gateway makes it, of a group of k partitions: the base is taken off the cas number that it brings.
 pub(crate) fn lowered(bases: &[u64], k: u32, op: Op) -> Result<Op, AllocError>
     requires { 1 ≤ k }
-    ensures { IfOk result (λ lowered. lowered ≡ op_in bases.now k op) }
+    ensures { IfOk result (λ lowered. lowered ≡ op_for_era bases.now k op) }
 {
     match op.act() {
         Act::Cas {

@@ -15,7 +15,7 @@ IsCount (Ok Waits) room = ⊤
 IsCount (Err e) room = ⊤
 
 -- a read within its room, whose length stays
-pub record IsWithin {E : Type 0} (result : Result Reading E) (before now : List ℕ) : Type 0 where
+pub record IsReadWithin {E : Type 0} (result : Result Reading E) (before now : List ℕ) : Type 0 where
   pub same : length now ≡ length before
   pub count : IsCount result (length now)
 

@@ -43,7 +43,7 @@ impl<X: Read + Write> TryStream for TryEdge<X> {
     ghost use Rattle.std.specs.Io.KnownBytes.{WriteAppends};
     ghost use Rattle.edge_io.specs.Faults.{HasCause};
     ghost use Rattle.edge_io.specs.Moving.{Input, WriteMoves};
-    ghost use Rattle.outbox.specs.Trying.{IsWithin, TryConsumes, TryTakes};
+    ghost use Rattle.outbox.specs.Trying.{IsReadWithin, TryConsumes, TryTakes};
 
     ghost input = { λ s. record { taken = s.incoming.bytes; ended = s.ended; left = None } };
 
@@ -52,7 +52,7 @@ impl<X: Read + Write> TryStream for TryEdge<X> {
     ghost faults = { λ s. s.faults };
 
     fn try_read(&mut self, into: &mut [u8]) -> Result<Reading, Failed>
-        ensures bound { IsWithin result into.old into.new }
+        ensures bound { IsReadWithin result into.old into.new }
         ensures bytes { TryTakes (record { taken = self.old.incoming.bytes; ended = self.old.ended; left = None })
             (record { taken = self.new.incoming.bytes; ended = self.new.ended; left = None }) result into.new }
         ensures inner { TryConsumes (X.remaining self.old.inner) (X.remaining self.new.inner) result into.new }

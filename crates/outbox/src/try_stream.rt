@@ -2,7 +2,7 @@ ghost use Rattle.std.specs.Prelude.{◌≡◌, ℕ, ◌<◌, List, length};
 ghost use Rattle.std.specs.Io.{WritesAtMost};
 ghost use Rattle.edge_io.specs.Faults.{HasCause};
 ghost use Rattle.edge_io.specs.Moving.{Input, WriteMoves};
-ghost use Rattle.outbox.specs.Trying.{IsWithin, TryTakes};
+ghost use Rattle.outbox.specs.Trying.{IsReadWithin, TryTakes};
 
 use crate::reading::Reading;
 use edge_io::Failed;
@@ -21,7 +21,7 @@ pub trait TryStream {
     /// Moves the next bytes into the front of `into`, as far as they are there. `Failed` leaves the bytes still to come.
     fn try_read(&mut self, into: &mut [u8]) -> Result<Reading, Failed>
         requires room { 0 < length into.old }
-        ensures bound { IsWithin result into.old into.new }
+        ensures bound { IsReadWithin result into.old into.new }
         ensures bytes { TryTakes (input self.old) (input self.new) result into.new }
         ensures held { held self.new ≡ held self.old }
         ensures cause { HasCause (faults self.old) (faults self.new) result };

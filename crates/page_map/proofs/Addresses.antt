@@ -18,7 +18,7 @@ use Rattle.page_map.specs.Loans.{rewritten, with_page}
 use Rattle.page_map.proofs.Places.{look_up-rewritten}
 use Rattle.field_byte.specs.Field.{product}
 use Rattle.std.specs.List.{between}
-use Rattle.page_map.specs.Pages.{Contents, page_in, byte_of, byte_in, HasPage, AddsProduct, numbers_in, look_up}
+use Rattle.page_map.specs.Pages.{PageContents, page_in, byte_of, byte_in, HasPage, AddsProduct, numbers_in, look_up}
 
 pub scale_one : (xs : List ℕ) → AreBytes xs → scale 1 xs ≡ xs
 scale_one xs bytes = same_number_lists _ _ (length-scale 1 xs) (λ k below. get_or-scale 1 xs k ∙ product_one_l (get_or xs k 0) (bytes k))
@@ -33,7 +33,8 @@ in_block a j block some within =
     (same, omega (arith, here))
 
 -- the byte at an address is that of its page
-pub byte_in_piece : (c : Contents) (a j : ℕ) → 0 < c.block → a % c.block + j < c.block → byte_in c (a + j) ≡ byte_of (page_in c (a / c.block)) (a % c.block + j)
+pub byte_in_piece : (c : PageContents) (a j : ℕ) → 0 < c.block → a % c.block + j < c.block
+    → byte_in c (a + j) ≡ byte_of (page_in c (a / c.block)) (a % c.block + j)
 byte_in_piece c a j some within =
     let is = in_block a j c.block some within in
     ap₂ (λ b i. byte_of (page_in c b) i) is.0 is.1
@@ -72,7 +73,7 @@ module _ (a k : ℕ) (xs ys : List ℕ) (long : length ys ≡ k) (within : a + k
       ∙ (get_or-drop (a + k) xs (j - (a + k)) 0 ∙ ap (λ i. get_or xs i 0) place)))
 
 -- one more piece is read
-pub read_more : (c : Contents) (at done len k : ℕ) (old piece : List ℕ) → 0 < c.block → (at + done) % c.block + len
+pub read_more : (c : PageContents) (at done len k : ℕ) (old piece : List ℕ) → 0 < c.block → (at + done) % c.block + len
     ≤ c.block → done + len ≤ length old → length piece ≡ k → k ≡ len
     → ((i : ℕ) → i < length piece → get_or piece i 0 ≡ byte_of (page_in c ((at + done) / c.block)) ((at + done) % c.block + i))
     → ((j : ℕ) → j < done → get_or old j 0 ≡ byte_in c (at + j)) → (j : ℕ) → j < done + len → get_or (put_mid done k old piece) j 0 ≡ byte_in c (at + j)
@@ -87,7 +88,7 @@ read_more c at done len k old piece some fits within long same is before j below
 ]
 
 -- what is found after a page was written over by as many bytes
-module _ (c : Contents) (b : ℕ) (page bytes : List ℕ) (there : page_in c b ≡ Some page) (long : length bytes ≡ length page) where
+module _ (c : PageContents) (b : ℕ) (page bytes : List ℕ) (there : page_in c b ≡ Some page) (long : length bytes ≡ length page) where
   written : page_in (with_page c b bytes) b ≡ Some bytes
   written = look_up-rewritten c.pages b bytes b ∙ (rw there (grind (arith, nat_tests, ap Some (overwritten_whole page bytes long))))
 
@@ -113,7 +114,7 @@ numbers_rewritten [] b bytes = refl
 numbers_rewritten (p ∷ ps) b bytes = grind (arith, nat_tests, numbers_rewritten ps b bytes)
 
 -- one more piece is added
-module _ (start now : Contents) (at coef : ℕ) (bytes : List ℕ) (done len k : ℕ) (page dst : List ℕ)
+module _ (start now : PageContents) (at coef : ℕ) (bytes : List ℕ) (done len k : ℕ) (page dst : List ℕ)
     (some : 0 < now.block) (fits : (at + done) % now.block + len ≤ now.block) (within : done + len ≤ length bytes) (same : k ≡ len)
     (there : page_in now ((at + done) / now.block) ≡ Some page) (long : length page ≡ now.block)
     (is : dst ≡ add_bytes (take k (drop ((at + done) % now.block) page)) (scale coef (between done (done + len) bytes)))
@@ -127,7 +128,7 @@ module _ (start now : Contents) (at coef : ℕ) (bytes : List ℕ) (done len k :
   abbrev bytes' : List ℕ
   bytes' = put_mid from k page dst
 
-  abbrev pub after : Contents
+  abbrev pub after : PageContents
   after = with_page now number bytes'
 
   src_long : length (between done (done + len) bytes) ≡ len
@@ -215,11 +216,11 @@ there_if_listed [] b listed = absurd (omega (arith, listed.1))
 there_if_listed (p ∷ ps) b (zero, within, here) = grind (arith, nat_tests, here)
 there_if_listed (p ∷ ps) b (suc k, within, here) = grind (arith, nat_tests, there_if_listed ps b (k, omega (arith, within), here))
 
-pub still_there : (old new : Contents) (b : ℕ) → numbers_in new ≡ numbers_in old → HasPage old b → HasPage new b
+pub still_there : (old new : PageContents) (b : ℕ) → numbers_in new ≡ numbers_in old → HasPage old b → HasPage new b
 still_there old new b same there = there_if_listed new.pages b (subst (λ ns. Contains ns b) (sym same) (listed_if_there old.pages b there))
 
 -- the same where the length of a block goes by another name
-pub add_more_by : (start now : Contents) (at coef : ℕ) (bytes : List ℕ) (done len k : ℕ) (page dst : List ℕ) (block : ℕ) → now.block ≡ block
+pub add_more_by : (start now : PageContents) (at coef : ℕ) (bytes : List ℕ) (done len k : ℕ) (page dst : List ℕ) (block : ℕ) → now.block ≡ block
     → 0 < block → (at + done) % block + len ≤ block → done + len ≤ length bytes → k ≡ len → page_in now ((at + done) / block) ≡ Some page → length page ≡ block
     → dst ≡ add_bytes (take k (drop ((at + done) % block) page)) (scale coef (between done (done + len) bytes))
     → AddsProduct start now at coef bytes done

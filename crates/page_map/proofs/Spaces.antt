@@ -9,19 +9,19 @@ use Rattle.std.proofs.lemmas.Grind.{same_number_lists}
 use Rattle.field_byte.specs.Vectors.{add_bytes, scale}
 use Rattle.field_byte.proofs.Vectors.{length-add_bytes, length-scale, get_or-add_bytes, get_or-scale}
 use Rattle.group_types.specs.declared.run.Run.{Run}
-use Rattle.page_map.specs.Pages.{Contents, AddsProduct, HasPages, MakesZeros, Meets, SameDimensions, byte_in, byte_of, numbers_in, page_in, no_pages}
-use Rattle.page_map.specs.Spaces.{bytes_of, AllMade, MakesOnly}
+use Rattle.page_map.specs.Pages.{PageContents, AddsProduct, HasPages, MakesZeros, Meets, SameDimensions, byte_in, byte_of, numbers_in, page_in, no_pages}
+use Rattle.page_map.specs.Spaces.{AllMade, MakesOnly, page_bytes}
 use Rattle.page_map.proofs.Addresses.{put_mid, length_mid, mid_below, mid_at, mid_above, listed_if_there, there_if_listed}
 use Rattle.page_map.proofs.Unions.{meets_between, same_or_earlier}
 
-pub length-bytes_of : (c : Contents) → length (bytes_of c) ≡ c.blocks * c.block
+pub length-bytes_of : (c : PageContents) → length (page_bytes c) ≡ c.blocks * c.block
 length-bytes_of c = length-map-range_with_len (byte_in c) 0 (c.blocks * c.block)
 
-pub get_or-bytes_of : (c : Contents) (k : ℕ) → k < c.blocks * c.block → get_or (bytes_of c) k 0 ≡ byte_in c k
+pub get_or-bytes_of : (c : PageContents) (k : ℕ) → k < c.blocks * c.block → get_or (page_bytes c) k 0 ≡ byte_in c k
 get_or-bytes_of c k below = get_or-map-range_with_len (byte_in c) 0 (c.blocks * c.block) k k 0 below (omega arith)
 
 -- spaces of the same bytes
-pub same_bytes : (old new : Contents) → SameDimensions old new → ((a : ℕ) → byte_in new a ≡ byte_in old a) → bytes_of new ≡ bytes_of old
+pub same_bytes : (old new : PageContents) → SameDimensions old new → ((a : ℕ) → byte_in new a ≡ byte_in old a) → page_bytes new ≡ page_bytes old
 same_bytes old new same each =
     let long : new.blocks * new.block ≡ old.blocks * old.block = ap₂ (λ x y. x * y) same.blocks same.block in
     let new_long = length-bytes_of new in
@@ -29,31 +29,31 @@ same_bytes old new same each =
     (λ k below. get_or-bytes_of new k (omega arith) ∙ (each k ∙ sym (get_or-bytes_of old k (omega (arith, long)))))
 
 -- without a page all bytes are zero
-pub bytes_of_none : (blocks block : ℕ) → bytes_of (no_pages blocks block) ≡ replicate (blocks * block) 0
+pub bytes_of_none : (blocks block : ℕ) → page_bytes (no_pages blocks block) ≡ replicate (blocks * block) 0
 bytes_of_none blocks block =
     let long = length-bytes_of (no_pages blocks block) in
     same_number_lists _ _ (long ∙ sym (length-replicate (blocks * block) 0))
     (λ k below. get_or-bytes_of (no_pages blocks block) k (omega arith) ∙ sym (get_or-replicate (blocks * block) k 0 0 (omega arith)))
 
 -- what is read is the space's part
-pub bytes_read : (c : Contents) (at : ℕ) (into : List ℕ) → at + length into ≤ c.blocks * c.block
+pub bytes_read : (c : PageContents) (at : ℕ) (into : List ℕ) → at + length into ≤ c.blocks * c.block
     → ((k : ℕ) → k < length into → get_or into k 0 ≡ byte_in c (at + k))
-    → into ≡ take (length into) (drop at (bytes_of c))
+    → into ≡ take (length into) (drop at (page_bytes c))
 bytes_read c at into within each =
     let long = length-bytes_of c in
-    let part = length-take (length into) (drop at (bytes_of c)) in
-    let rest = length-drop at (bytes_of c) in
+    let part = length-take (length into) (drop at (page_bytes c)) in
+    let rest = length-drop at (page_bytes c) in
     same_number_lists _ _ (omega arith) (λ k below.
     each k below ∙ (sym (get_or-bytes_of c (at + k) (omega arith))
-    ∙ (sym (get_or-drop at (bytes_of c) k 0) ∙ sym (get_or-take (length into) (drop at (bytes_of c)) k 0 below))))
+    ∙ (sym (get_or-drop at (page_bytes c) k 0) ∙ sym (get_or-take (length into) (drop at (page_bytes c)) k 0 below))))
 
 -- a product added byte by byte is the sum of lists
-pub bytes_added : (old new : Contents) (at coef : ℕ) (bytes : List ℕ) → at + length bytes ≤ old.blocks * old.block
+pub bytes_added : (old new : PageContents) (at coef : ℕ) (bytes : List ℕ) → at + length bytes ≤ old.blocks * old.block
     → AddsProduct old new at coef bytes (length bytes)
-    → bytes_of new ≡ take at (bytes_of old) ++ add_bytes (take (length (scale coef bytes)) (drop at (bytes_of old)))
-    (scale coef bytes) ++ drop (at + length (scale coef bytes)) (bytes_of old)
+    → page_bytes new ≡ take at (page_bytes old) ++ add_bytes (take (length (scale coef bytes)) (drop at (page_bytes old)))
+    (scale coef bytes) ++ drop (at + length (scale coef bytes)) (page_bytes old)
 bytes_added old new at coef bytes within is =
-    let s = bytes_of old in
+    let s = page_bytes old in
     let n = length (scale coef bytes) in
     let n_is : n ≡ length bytes = length-scale coef bytes in
     let part = take n (drop at s) in
@@ -64,7 +64,7 @@ bytes_added old new at coef bytes within is =
     let part_long : length part ≡ n = omega (arith, length-take n (drop at s), length-drop at s) in
     let sum_long : length sum ≡ n = length-add_bytes part (scale coef bytes) part_long ∙ part_long in
     let room : at + n ≤ length s = omega arith in
-    let whole : bytes_of new ≡ put_mid at n s sum =
+    let whole : page_bytes new ≡ put_mid at n s sum =
     same_number_lists _ _ (omega (arith, length_mid at n s sum sum_long room))
     (λ k below. get_or-bytes_of new k (omega arith) ∙ elim (cases_lt k at) [
       | inl lower ↦ is.others k (inl lower) ∙ (sym (get_or-bytes_of old k (omega arith)) ∙ sym (mid_below at n s sum sum_long room k lower))
@@ -102,7 +102,7 @@ zero_byte n i = elim (cases_lt i n) [
 ]
 
 -- reserving changes no byte
-pub byte_reserved : (old new : Contents) (at len : ℕ) → 0 < old.block → SameDimensions old new
+pub byte_reserved : (old new : PageContents) (at len : ℕ) → 0 < old.block → SameDimensions old new
     → MakesZeros old new at len → (a : ℕ) → byte_in new a ≡ byte_in old a
 byte_reserved old new at len long same made a = rw same.block (byte (page_in old (a / old.block)) refl)
   where
@@ -115,26 +115,26 @@ byte_reserved old new at len long same made a = rw same.block (byte (page_in old
       | inr apart ↦ ap (λ o. byte_of o (a % old.block)) (made.others (a / old.block) apart)
     ]
 
-pub made_after : (old new : Contents) (run : Run) → MakesZeros old new run.at run.len → MakesOnly old.block run (numbers_in old) (numbers_in new)
+pub made_after : (old new : PageContents) (run : Run) → MakesZeros old new run.at run.len → MakesOnly old.block run (numbers_in old) (numbers_in new)
 made_after old new run made = record {
   kept = λ b listed. let there = there_if_listed old.pages b listed in listed_if_there new.pages b (ap is_some (made.there b there) ∙ there);
   others = λ b apart listed. let there = there_if_listed new.pages b listed in listed_if_there old.pages b (sym (ap is_some (made.others b apart)) ∙ there);
 }
 
-pub all_listed : (c : Contents) (run : Run) → HasPages c run.at run.len → AllMade c.block run (numbers_in c)
+pub all_listed : (c : PageContents) (run : Run) → HasPages c run.at run.len → AllMade c.block run (numbers_in c)
 all_listed c run there a from below = listed_if_there c.pages (a / c.block) (there a from below)
 
-pub all_found : (c : Contents) (block at len : ℕ) → c.block ≡ block
+pub all_found : (c : PageContents) (block at len : ℕ) → c.block ≡ block
     → ((a : ℕ) → at ≤ a → a < at + len → Contains (numbers_in c) (a / block)) → HasPages c at len
 all_found c block at len same made a from below =
     there_if_listed c.pages (a / c.block) (subst (λ b. Contains (numbers_in c) (a / b)) (sym same) (made a from below))
 
-pub ready_at : (old new : Contents) (run : Run) {E : Type 0} (r : Result (Unit {0}) E) → new.block ≡ old.block
+pub ready_at : (old new : PageContents) (run : Run) {E : Type 0} (r : Result (Unit {0}) E) → new.block ≡ old.block
     → OnOk r (HasPages new run.at run.len) → OnOk r (AllMade old.block run (numbers_in new))
 ready_at old new run (Ok _) same there = rw (← same) (all_listed new run there)
 ready_at old new run (Err _) same there = tt
 
-pub made_at : (old new : Contents) (run : Run) {E : Type 0} (r : Result (Unit {0}) E)
+pub made_at : (old new : PageContents) (run : Run) {E : Type 0} (r : Result (Unit {0}) E)
     → OnOk r (MakesZeros old new run.at run.len) → OnOk r (MakesOnly old.block run (numbers_in old) (numbers_in new))
 made_at old new run (Ok _) made = made_after old new run made
 made_at old new run (Err _) made = tt

@@ -8,7 +8,7 @@ use Rattle.std.proofs.lemmas.List.{get_or_append_left, get_or_at, length-append}
 use Rattle.std.proofs.lemmas.Bool.{cases_eq, cases_lt, true≢false}
 use Rattle.std.proofs.lemmas.Bool.Decides.{nat_tests}
 use Rattle.page_map.specs.declared.page.Page.{Page}
-use Rattle.page_map.specs.Pages.{Contents, no_pages, look_up, page_in, made_in, HasPage, SameDimensions, PlacesOnly}
+use Rattle.page_map.specs.Pages.{PageContents, no_pages, look_up, page_in, pages_made, HasPage, SameDimensions, PlacesOnly}
 use Rattle.page_map.specs.Pages.{MakesZeros, IsTakenOut, IsUnion, AreMissing, HasPages}
 use Rattle.page_map.specs.Order.{page_at, ArePages}
 use Rattle.page_map.proofs.Places.{look_up_absent}
@@ -54,7 +54,7 @@ taken_out blocks block room room' old new (Some p) pages is =
     }
 
 -- a loop's fact: fresh pages of zeros for the blocks from `first` to below `next` that have none
-pub record AreFresh (old fresh : Contents) (first next : ℕ) : Type 0 where
+pub record AreFresh (old fresh : PageContents) (first next : ℕ) : Type 0 where
   pub dimensions : SameDimensions old fresh
   pub from : first ≤ next
   pub zero : (b : ℕ) → first ≤ b → b < next → page_in old b ≡ None → page_in fresh b ≡ Some (replicate old.block 0)
@@ -62,7 +62,7 @@ pub record AreFresh (old fresh : Contents) (first next : ℕ) : Type 0 where
   pub before : (b : ℕ) → b < first → page_in fresh b ≡ None
   pub after : (b : ℕ) → next ≤ b → page_in fresh b ≡ None
 
-pub fresh_skipped : (old fresh : Contents) (first next : ℕ) → AreFresh old fresh first next → HasPage old next → AreFresh old fresh first (next + 1)
+pub fresh_skipped : (old fresh : PageContents) (first next : ℕ) → AreFresh old fresh first next → HasPage old next → AreFresh old fresh first (next + 1)
 fresh_skipped old fresh first next is has = record {
   dimensions = is.dimensions;
   from = omega (arith, is.from);
@@ -75,7 +75,7 @@ fresh_skipped old fresh first next is has = record {
   after = λ b past. is.after b (omega arith);
 }
 
-pub fresh_placed : (old fresh new : Contents) (first next : ℕ) → AreFresh old fresh first next → page_in old next ≡ None
+pub fresh_placed : (old fresh new : PageContents) (first next : ℕ) → AreFresh old fresh first next → page_in old next ≡ None
     → PlacesOnly fresh new next (replicate old.block 0) → SameDimensions fresh new → AreFresh old new first (next + 1)
 fresh_placed old fresh new first next is none placed same = record {
   dimensions = record { blocks = same.blocks ∙ is.dimensions.blocks; block = same.block ∙ is.dimensions.block };
@@ -108,7 +108,7 @@ meets_between at last block b some from to le = elim (cases_lt (b * block) at) [
 pub block_within : (a blocks block : ℕ) → 0 < block → a < blocks * block → a / block < blocks
 block_within a blocks block some within = (div-lt_iff_lt-mul some).1 within
 
-pub missing_nowhere : (old : Contents) (at len : ℕ) → len ≡ 0 → AreMissing old (no_pages old.blocks old.block) at len
+pub missing_nowhere : (old : PageContents) (at len : ℕ) → len ≡ 0 → AreMissing old (no_pages old.blocks old.block) at len
 missing_nowhere old at len none = record {
   zero = λ b meets _. absurd (omega (arith, none, meets.1, meets.2));
   there = λ b _. refl;
@@ -116,7 +116,7 @@ missing_nowhere old at len none = record {
   dimensions = record { blocks = refl; block = refl };
 }
 
-pub missing_after : (old fresh : Contents) (at len : ℕ) → 0 < old.block → 0 < len
+pub missing_after : (old fresh : PageContents) (at len : ℕ) → 0 < old.block → 0 < len
     → AreFresh old fresh (at / old.block) ((at + len - 1) / old.block + 1) → AreMissing old fresh at len
 missing_after old fresh at len long some is = record {
   zero = λ b meets none.
@@ -142,16 +142,16 @@ or_else None o = o
 or_else (Some x) o = Some x
 
 -- a loop's fact: what the others had is here or still there
-pub record AreMoving (all start others now : Contents) : Type 0 where
+pub record AreMoving (all start others now : PageContents) : Type 0 where
   pub union : (b : ℕ) → or_else (page_in others b) (page_in now b) ≡ or_else (page_in all b) (page_in start b)
   pub apart : (b : ℕ) → HasPage others b → page_in now b ≡ None
-  pub room : now.room + made_in all ≡ start.room + made_in others
-  pub enough : made_in others ≤ now.room
+  pub room : now.room + pages_made all ≡ start.room + pages_made others
+  pub enough : pages_made others ≤ now.room
   pub from : SameDimensions start now
   pub to : SameDimensions now others
 
-pub moving_at_first : (all start : Contents) → ((b : ℕ) → HasPage all b → page_in start b ≡ None)
-    → made_in all ≤ start.room → SameDimensions start all → AreMoving all start all start
+pub moving_at_first : (all start : PageContents) → ((b : ℕ) → HasPage all b → page_in start b ≡ None)
+    → pages_made all ≤ start.room → SameDimensions start all → AreMoving all start all start
 moving_at_first all start apart enough same = record {
   union = λ b. refl;
   apart = apart;
@@ -161,7 +161,7 @@ moving_at_first all start apart enough same = record {
   to = same;
 }
 
-pub moving_more : (all start others now others' now' : Contents) (p : Page) → AreMoving all start others now
+pub moving_more : (all start others now others' now' : PageContents) (p : Page) → AreMoving all start others now
     → IsTakenOut others others' p → PlacesOnly now now' p.number p.bytes → SameDimensions now now'
     → now'.room ≡ now.room - 1
     → AreMoving all start others' now'
@@ -184,14 +184,14 @@ moving_more all start others now others' now' p is taken placed same room = reco
   to = record { blocks = taken.dimensions.blocks ∙ (is.to.blocks ∙ sym same.blocks); block = taken.dimensions.block ∙ (is.to.block ∙ sym same.block) };
 }
 
-no_page : (c : Contents) (b : ℕ) → made_in c ≡ 0 → page_in c b ≡ None
+no_page : (c : PageContents) (b : ℕ) → pages_made c ≡ 0 → page_in c b ≡ None
 no_page c b none = look_up_absent c.pages b (λ j below. absurd (omega arith))
 
 first_of : (o o' : Option (List ℕ)) → IsSome o → or_else o o' ≡ o
 first_of None o' some = absurd (true≢false (sym some))
 first_of (Some x) o' some = refl
 
-pub moved : (all start others now : Contents) → AreMoving all start others now → made_in others ≡ 0 → IsUnion all start now
+pub moved : (all start others now : PageContents) → AreMoving all start others now → pages_made others ≡ 0 → IsUnion all start now
 moved all start others now is none =
     let here : (b : ℕ) → page_in now b ≡ or_else (page_in all b) (page_in start b) =
     λ b. subst (λ o. or_else o (page_in now b) ≡ or_else (page_in all b) (page_in start b)) (no_page others b none)
@@ -202,7 +202,7 @@ moved all start others now is none =
     }
 
 -- what a range lacks, taken over, is what reserving it makes
-pub reserved : (old fresh now new : Contents) (at len : ℕ) → AreMissing old fresh at len
+pub reserved : (old fresh now new : PageContents) (at len : ℕ) → AreMissing old fresh at len
     → ((b : ℕ) → page_in now b ≡ page_in old b) → IsUnion fresh now new → MakesZeros old new at len
 reserved old fresh now new at len missing same union = record {
   zero = λ b meets none. let is = missing.zero b meets none in union.added b (ap is_some is) ∙ is;
@@ -210,10 +210,10 @@ reserved old fresh now new at len missing same union = record {
   others = λ b apart. union.kept b (missing.others b apart) ∙ same b;
 }
 
-pub missing_apart : (old fresh : Contents) (at len b : ℕ) → AreMissing old fresh at len → HasPage fresh b → page_in old b ≡ None
+pub missing_apart : (old fresh : PageContents) (at len b : ℕ) → AreMissing old fresh at len → HasPage fresh b → page_in old b ≡ None
 missing_apart old fresh at len b missing has = none_unless (page_in old b) (λ there. some_not_none (page_in fresh b) has (missing.there b there))
 
-pub all_there : (old new : Contents) (at len : ℕ) → new.block ≡ old.block → MakesZeros old new at len → HasPages new at len
+pub all_there : (old new : PageContents) (at len : ℕ) → new.block ≡ old.block → MakesZeros old new at len → HasPages new at len
 all_there old new at len same made a from below = rw same (met (page_in old (a / old.block)) refl)
   where
     met : (o : Option (List ℕ)) → page_in old (a / old.block) ≡ o → HasPage new (a / old.block)

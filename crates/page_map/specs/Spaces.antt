@@ -3,11 +3,11 @@ use Rattle.std.specs.Prelude.{ℕ, ◌+◌, ◌*◌, ◌/◌, ◌<◌, ◌≤◌
 use Rattle.std.specs.List.{range_with_len}
 use Rattle.group_types.specs.Dimensions.{Dimensions, space_of}
 use Rattle.group_types.specs.declared.run.Run.{Run}
-use Rattle.page_map.specs.Pages.{Contents, Meets, byte_in}
+use Rattle.page_map.specs.Pages.{Meets, PageContents, byte_in}
 
 -- the bytes at all addresses
-abbrev pub bytes_of : Contents → List ℕ
-bytes_of c = map (byte_in c) (range_with_len 0 (c.blocks * c.block))
+abbrev pub page_bytes : PageContents → List ℕ
+page_bytes c = map (byte_in c) (range_with_len 0 (c.blocks * c.block))
 
 -- the run lies in a space of this shape
 abbrev pub LiesIn : Run → Dimensions → Type 0

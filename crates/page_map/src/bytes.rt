@@ -2,7 +2,7 @@ ghost use Rattle.std.specs.Prelude.{◌≡◌, ◌+◌, ◌*◌, ◌≤◌, Each
 ghost use Rattle.field_byte.specs.Vectors.{add_bytes, scale};
 ghost use Rattle.erasure_code.specs.Spaces.{bytes_at};
 ghost use Rattle.page_map.specs.Pages.{AddsProduct, HasPages, byte_in, byte_of};
-ghost use Rattle.page_map.specs.Spaces.{bytes_of};
+ghost use Rattle.page_map.specs.Spaces.{page_bytes};
 
 use crate::Pages;
 use field_byte::Split;
@@ -31,7 +31,7 @@ impl Pages {
     /// The `len` bytes from `at` on.
     pub fn range(&self, at: u32, len: u32) -> Result<ByteList, AllocError>
         requires { at + len ≤ self.now.blocks * self.now.block }
-        ensures bytes { IfOk result (λ bytes. bytes ≡ bytes_at at len (bytes_of self.now)) }
+        ensures bytes { IfOk result (λ bytes. bytes ≡ bytes_at at len (page_bytes self.now)) }
         ensures length { IfOk result (λ bytes. length bytes ≡ len) }
     {
         let mut bytes = vec![in self.alloc(); 0u8; len as usize]?;

@@ -20,10 +20,10 @@ pub struct Pages {
 
 impl Model for Pages {
     ghost use Rattle.std.specs.Prelude.{◌+◌, ◌≤◌, vec_len, vec_capacity};
-    ghost use Rattle.page_map.specs.Pages.{Contents};
+    ghost use Rattle.page_map.specs.Pages.{PageContents};
     ghost use Rattle.page_map.specs.Order.{ArePages};
 
-    ghost Value = { Contents };
+    ghost Value = { PageContents };
 
     ghost view = { λ p. record { blocks = p.blocks; block = p.block; pages = p.pages.items; room = p.room } };
 
@@ -31,7 +31,7 @@ impl Model for Pages {
 }
 
 impl Pages {
-    ghost use Rattle.page_map.specs.Pages.{ArePageDimensions, Contents, HasPage, IsTakenOut, PlacesOnly, SameDimensions, made_in, no_pages, numbers_in, page_in};
+    ghost use Rattle.page_map.specs.Pages.{ArePageDimensions, HasPage, IsTakenOut, PageContents, PlacesOnly, SameDimensions, no_pages, numbers_in, page_in, pages_made};
     ghost use Rattle.page_map.specs.Loans.{LendsPage};
 
     /// No page of `blocks` blocks of `block` bytes.
@@ -49,7 +49,7 @@ impl Pages {
 
     /// How many pages there are. No two have one number.
     pub fn made(&self) -> u32
-        ensures count { result ≡ made_in self.now }
+        ensures count { result ≡ pages_made self.now }
         ensures rising { IsStrictlyIncreasing (numbers_in self.now) }
     {
         self.pages.len() as u32
@@ -104,7 +104,7 @@ impl Pages {
         requires absent { page_in self.old number ≡ None }
         requires whole { length bytes ≡ self.old.block }
         ensures pages { PlacesOnly self.old self.new number bytes }
-        ensures made { made_in self.new ≡ made_in self.old + 1 }
+        ensures made { pages_made self.new ≡ pages_made self.old + 1 }
         ensures room { self.new.room ≡ self.old.room - 1 }
         ensures dimensions { SameDimensions self.old self.new }
     {
@@ -145,7 +145,7 @@ impl Pages {
 
     // Takes a page out, if there is one.
     pub(crate) fn pop(&mut self) -> Option<Page>
-        ensures none { IfNone result (made_in self.old ≡ 0) }
+        ensures none { IfNone result (pages_made self.old ≡ 0) }
         ensures page { IfSome result (IsTakenOut self.old self.new) }
     {
         self.pages.pop()

@@ -1,6 +1,6 @@
 ghost use Rattle.std.specs.Prelude.{◌≡◌, ◌+◌, ◌-◌, ◌*◌, ◌<◌, ◌≤◌, None, IfOk, IsOk, IsTrue, OnOk, OnErr, ℕ, replicate};
 ghost use Rattle.std.specs.List.Sorted.{IsStrictlyIncreasing};
-ghost use Rattle.page_map.specs.Pages.{AreMissing, HasPage, HasPages, IsUnion, MakesZeros, SameDimensions, byte_in, made_in, numbers_in, page_in};
+ghost use Rattle.page_map.specs.Pages.{AreMissing, HasPage, HasPages, IsUnion, MakesZeros, SameDimensions, byte_in, numbers_in, page_in, pages_made};
 
 use crate::Pages;
 use group_types::ByteList;
@@ -86,10 +86,10 @@ impl Pages {
     // Takes over the pages of others, of blocks that have none here.
     fn add_all(&mut self, others: Pages)
         requires apart { (b : ℕ) → HasPage others b → page_in self.old b ≡ None }
-        requires room { made_in others ≤ self.old.room }
+        requires room { pages_made others ≤ self.old.room }
         requires dimensions { SameDimensions self.old others }
         ensures pages { IsUnion others self.old self.new }
-        ensures room { self.new.room ≡ self.old.room - made_in others }
+        ensures room { self.new.room ≡ self.old.room - pages_made others }
         ensures dimensions { SameDimensions self.old self.new }
     {
         let mut others = others;

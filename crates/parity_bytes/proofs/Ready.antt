@@ -7,10 +7,11 @@ use Rattle.group_message.specs.declared.update.Body.TheVariants.{Put, Remove, To
 use Rattle.group_message.specs.declared.update.Update.{Update}
 use Rattle.group_run.specs.Fitting.{Writes}
 use Rattle.page_map.specs.Spaces.{AllMade}
-use Rattle.parity_space.specs.Space.{CanBeAdded, Space}
+use Rattle.parity_space.specs.Space.{CanBeAdded, CodedSpace}
 
 -- a value can be added once the pages of its run are made
-pub put_ready : (s : Dimensions) (space : Space) (body : Body) (flags : ℕ) (until : Option ℕ) (run : Run) (delta : List ℕ) → body ≡ Put flags until run delta
+pub put_ready : (s : Dimensions) (space : CodedSpace) (body : Body) (flags : ℕ) (until : Option ℕ) (run : Run) (delta : List ℕ)
+    → body ≡ Put flags until run delta
     → space.shape ≡ s → Writes (space_of s) body → AllMade space.shape.block run space.made → CanBeAdded s space.made body
 put_ready s space body flags until run delta is shape writes made =
     let fits = subst (Writes (space_of s)) is writes in

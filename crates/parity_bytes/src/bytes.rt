@@ -33,13 +33,13 @@ pub struct ParityBytes {
 }
 
 impl Model for ParityBytes {
-    ghost use Rattle.parity_bytes.specs.Bytes.{AreOf, Holding, process_of};
+    ghost use Rattle.parity_bytes.specs.Bytes.{ArePartsOf, ParityHolding, parity_process_of};
 
-    ghost Value = { Holding };
+    ghost Value = { ParityHolding };
 
-    ghost view = { λ b. record { shape = b.shape; made = b.space.made; process = process_of b.shape b.number b.space.bytes b.rows.state b.sessions.state } };
+    ghost view = { λ b. record { shape = b.shape; made = b.space.made; process = parity_process_of b.shape b.number b.space.bytes b.rows.state b.sessions.state } };
 
-    ghost invariant = { λ b. AreOf b.shape b.number b.space b.rows b.sessions };
+    ghost invariant = { λ b. ArePartsOf b.shape b.number b.space b.rows b.sessions };
 }
 
 impl ParityBytes {
@@ -95,9 +95,9 @@ impl ParityBytes {
 }
 
 impl Beneath for ParityBytes {
-    ghost use Rattle.parity_bytes.specs.Bytes.{storage_of};
+    ghost use Rattle.parity_bytes.specs.Bytes.{storage_of_bytes};
 
-    ghost storage = { λ b. storage_of b };
+    ghost storage = { λ b. storage_of_bytes b };
 
     fn name(&self) -> ProcessId {
         ProcessId::ParityNode(self.number)

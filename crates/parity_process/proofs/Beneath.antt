@@ -9,23 +9,23 @@ use Rattle.group_run.specs.Process.{Process}
 use Rattle.group_run.specs.Replica.{empty_replica}
 use Rattle.group_run.specs.Rows.{begin_copy, copy_begun, copy_in, leader_forgotten}
 use Rattle.head_service.specs.Serving.{Serving, serving}
-use Rattle.parity_bytes.specs.Bytes.{Holding, IsReady, Stays}
-use Rattle.parity_process.specs.Standing.{IsOver}
+use Rattle.parity_bytes.specs.Bytes.{BytesAreReady, ParityHolding, Stays}
+use Rattle.parity_process.specs.Standing.{BytesAreBeneath}
 
 -- bytes that stay beneath a process's partitions
-pub over-stays : (v : Serving) (old new : Holding) → Stays old new → IsOver v old → IsOver v new
+pub over-stays : (v : Serving) (old new : ParityHolding) → Stays old new → BytesAreBeneath v old → BytesAreBeneath v new
 over-stays v old new stays over = record {
   shape = stays.shape ∙ over.shape;
   name = stays.name ∙ over.name;
   blocks = stays.partitions ∙ over.blocks;
   ready = λ d within. by d stays.shape stays.made (over.ready d within);
 } where
-  by : (d : ℕ) → new.shape ≡ old.shape → new.made ≡ old.made → All (IsReady old d) (at empty_replica v.replicas d).log
-      → All (IsReady new d) (at empty_replica v.replicas d).log
+  by : (d : ℕ) → new.shape ≡ old.shape → new.made ≡ old.made → All (BytesAreReady old d) (at empty_replica v.replicas d).log
+      → All (BytesAreReady new d) (at empty_replica v.replicas d).log
   by d shape made all =
-      subst (λ (pages : List ℕ). All (IsReady (record { shape = new.shape; made = pages; process = new.process }) d)
+      subst (λ (pages : List ℕ). All (BytesAreReady (record { shape = new.shape; made = pages; process = new.process }) d)
       (at empty_replica v.replicas d).log) (sym made)
-      (subst (λ (s : Dimensions). All (IsReady (record { shape = s; made = old.made; process = new.process }) d)
+      (subst (λ (s : Dimensions). All (BytesAreReady (record { shape = s; made = old.made; process = new.process }) d)
       (at empty_replica v.replicas d).log) (sym shape) all)
 
 module _ (v : Serving) (b : Process) where

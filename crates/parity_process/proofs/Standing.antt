@@ -27,66 +27,68 @@ use Rattle.head_service.specs.Serving.{Serving, serving}
 use Rattle.process_service.specs.Standing.{at_start}
 use Rattle.head_service.specs.declared.ask.Asking.TheVariants.{Need}
 use Rattle.head_service.specs.declared.step.CallStep as answered
-use Rattle.process_service.specs.Steps.{IsAsked, called, stepped}
+use Rattle.process_service.specs.Steps.{IsCallAsked, called, machine_step}
 use Rattle.process_service.specs.declared.step.Step.{Step}
 use Rattle.leader_role.specs.Sound.{IsOfGroup, CanLead}
 use Rattle.leader_role.proofs.Laws.{asked-sound, collected-sound, opening, received-sound}
-use Rattle.parity_bytes.specs.Bytes.{Holding, IsReady}
+use Rattle.parity_bytes.specs.Bytes.{BytesAreReady, ParityHolding}
 use Rattle.parity_process.specs.Opening.{HeadsOne}
-use Rattle.parity_process.specs.Standing.{IsOver, IsReadyFor}
+use Rattle.parity_process.specs.Standing.{BytesAreBeneath, BytesAreReadyFor}
 
 -- the bytes at the start
-abbrev pub no_bytes : Dimensions → ℕ → Holding
+abbrev pub no_bytes : Dimensions → ℕ → ParityHolding
 no_bytes s number = record { shape = s; made = []; process = opening_process s (ParityNode number) }
 
-opening-ready : (s : Dimensions) (number : ℕ) → IsShape s → number < s.m → IsReadyFor (at_start s (ParityNode number)) (no_bytes s number)
+opening-ready : (s : Dimensions) (number : ℕ) → IsShape s → number < s.m → BytesAreReadyFor (at_start s (ParityNode number)) (no_bytes s number)
 opening-ready s number limits within = record {
   over = record {
     shape = refl;
     name = refl;
     blocks = length-replicate s.k _;
-    ready = λ d inside. subst (λ (r : Replica). All (IsReady (no_bytes s number) d) r.log)
-        (sym (at-replicate empty_replica s.k d)) (All-nil (IsReady (no_bytes s number) d));
+    ready = λ d inside. subst (λ (r : Replica). All (BytesAreReady (no_bytes s number) d) r.log)
+        (sym (at-replicate empty_replica s.k d)) (All-nil (BytesAreReady (no_bytes s number) d));
   };
   sound = opening s number limits within;
 }
 
 -- at the start nothing has to be ready
-pub starts-ready : (s : Dimensions) (number : ℕ) (v : Serving) (h : Holding) → IsShape s → number < s.m
-    → v ≡ at_start s (ParityNode number) → h ≡ no_bytes s number → IsReadyFor v h
+pub starts-ready : (s : Dimensions) (number : ℕ) (v : Serving) (h : ParityHolding) → IsShape s → number < s.m
+    → v ≡ at_start s (ParityNode number) → h ≡ no_bytes s number → BytesAreReadyFor v h
 starts-ready s number v h limits within service bytes =
-    subst (λ (x : Serving). IsReadyFor x h) (sym service)
-    (subst (λ (x : Holding). IsReadyFor (at_start s (ParityNode number)) x) (sym bytes) (opening-ready s number limits within))
+    subst (λ (x : Serving). BytesAreReadyFor x h) (sym service)
+    (subst (λ (x : ParityHolding). BytesAreReadyFor (at_start s (ParityNode number)) x) (sym bytes) (opening-ready s number limits within))
 
 -- the bytes are beneath the same replicas
-same-replicas : (v w : Serving) (h : Holding) → w.shape ≡ v.shape → w.name ≡ v.name → w.replicas ≡ v.replicas → IsOver v h → IsOver w h
+same-replicas : (v w : Serving) (h : ParityHolding) → w.shape ≡ v.shape → w.name ≡ v.name → w.replicas ≡ v.replicas → BytesAreBeneath v h → BytesAreBeneath w h
 same-replicas v w h shape name replicas over = record {
   shape = over.shape ∙ sym shape;
   name = over.name ∙ sym name;
   blocks = over.blocks ∙ ap (λ (s : Dimensions). s.k) (sym shape);
-  ready = λ d within. subst (λ (rs : List Replica). All (IsReady h d) (at empty_replica rs d).log) (sym replicas)
+  ready = λ d within. subst (λ (rs : List Replica). All (BytesAreReady h d) (at empty_replica rs d).log) (sym replicas)
       (over.ready d (subst (λ (s : Dimensions). d < s.k) shape within));
 }
 
 -- a process that this one became, over bytes that are beneath it
-pub became : (v w : Serving) (g h : Holding) (q : Process) → w.shape ≡ v.shape → IsOver w h → q ≡ serving w h.process → CanLead v.shape q → IsReadyFor w h
+pub became : (v w : Serving) (g h : ParityHolding) (q : Process) → w.shape ≡ v.shape → BytesAreBeneath w h → q ≡ serving w h.process → CanLead v.shape q
+    → BytesAreReadyFor w h
 became v w g h q shape over is sound = record {
   over = over;
   sound = subst (λ (s : Dimensions). CanLead s (serving w h.process)) (sym shape) (subst (CanLead v.shape) is sound);
 }
 
-pub collected-ready : (v w : Serving) (h : Holding) (caller call : ℕ) (answer : Answer) → w.shape ≡ v.shape → w.name ≡ v.name → w.replicas ≡ v.replicas
-    → collect_from caller call (serving v h.process) (range_with_len 0 v.shape.k) ≡ only answer (serving w h.process) → IsReadyFor v h → IsReadyFor w h
+pub collected-ready : (v w : Serving) (h : ParityHolding) (caller call : ℕ) (answer : Answer) → w.shape ≡ v.shape → w.name ≡ v.name → w.replicas ≡ v.replicas
+    → collect_from caller call (serving v h.process) (range_with_len 0 v.shape.k) ≡ only answer (serving w h.process) → BytesAreReadyFor v h
+    → BytesAreReadyFor w h
 collected-ready v w h caller call answer shape name replicas is ready =
     let all : List ℕ = range_with_len 0 v.shape.k in
     became v w h h (collect_from caller call (serving v h.process) all).step.process shape (same-replicas v w h shape name replicas ready.over)
     (ap (λ (step : CallStep). step.step.process) is) (collected-sound v.shape caller call (serving v h.process) all ready.sound)
 
 -- a process that received a message, or wanted memory for it
-pub received-ready : (v w : Serving) (g h : Holding) (from : ProcessId) (m : Message) (result : Result Step AllocError) → IsReadyFor v g
-    → Fits v.shape from m (serving v g.process) → IsOfGroup v.shape m (serving v g.process) → w.shape ≡ v.shape → IsOver w h
-    → IfOk result (λ step. receive v.shape from m (serving v g.process) ≡ stepped (serving w h.process) step)
-    → OnErr result (w ≡ v) → OnErr result (h.process ≡ g.process) → IsReadyFor w h
+pub received-ready : (v w : Serving) (g h : ParityHolding) (from : ProcessId) (m : Message) (result : Result Step AllocError) → BytesAreReadyFor v g
+    → Fits v.shape from m (serving v g.process) → IsOfGroup v.shape m (serving v g.process) → w.shape ≡ v.shape → BytesAreBeneath w h
+    → IfOk result (λ step. receive v.shape from m (serving v g.process) ≡ machine_step (serving w h.process) step)
+    → OnErr result (w ≡ v) → OnErr result (h.process ≡ g.process) → BytesAreReadyFor w h
 received-ready v w g h from m (Ok step) ready fits group shape over is same_service same_bytes =
     became v w g h (receive v.shape from m (serving v g.process)).process shape over (ap (λ (x : ProcessStep). x.process) is)
     (received-sound v.shape from m (serving v g.process) ready.sound fits group)
@@ -94,8 +96,8 @@ received-ready v w g h from m (Err e) ready fits group shape over is same_servic
     became v w g h (serving v g.process) shape over (sym (ap₂ serving same_service same_bytes)) ready.sound
 
 -- a process that was asked
-pub asked-ready : (v w : Serving) (g h : Holding) (name : CallName) (op : Asked) → IsReadyFor v g → w.shape ≡ v.shape → IsOver w h
-    → (ask_process v.shape name op (serving v g.process)).step.process ≡ serving w h.process → IsReadyFor w h
+pub asked-ready : (v w : Serving) (g h : ParityHolding) (name : CallName) (op : Asked) → BytesAreReadyFor v g → w.shape ≡ v.shape → BytesAreBeneath w h
+    → (ask_process v.shape name op (serving v g.process)).step.process ≡ serving w h.process → BytesAreReadyFor w h
 asked-ready v w g h name op ready shape over is =
     became v w g h (ask_process v.shape name op (serving v g.process)).step.process shape over is
     (asked-sound v.shape name op (serving v g.process) ready.sound)
@@ -107,7 +109,7 @@ headed s block d None p name op None there is = absurd (cc (ap (λ (step : CallS
 headed s block d (Some oldest) p name op None there is = absurd (cc (ap (λ (step : CallStep). step.answer) is))
 headed s block d oldest p name op (Some h) there is = ap is_some there
 
-pub needs-headed : (v : Serving) (h : Holding) (block : ℕ) (oldest : Option Oldest) (name : CallName) (op : Asked) → IsReadyFor v h
+pub needs-headed : (v : Serving) (h : ParityHolding) (block : ℕ) (oldest : Option Oldest) (name : CallName) (op : Asked) → BytesAreReadyFor v h
     → ask_process v.shape name op (serving v h.process) ≡ retry_block v.shape block oldest (serving v h.process) → HeadsOne v
 needs-headed v h block oldest name op ready is =
     let d : ℕ = home_of (key_of op.act) v.shape.k in (
@@ -117,12 +119,12 @@ needs-headed v h block oldest name op ready is =
     )
 
 -- a process that needed a block for a call, and opened a session for it, or not, or wanted memory for it
-pub retried-ready : (v v2 w : Serving) (g g2 h : Holding) (name : CallName) (op : Asked) (block : ℕ)
-    (result : Result answered.CallStep AllocError) → IsReadyFor v g
-    → v2.shape ≡ v.shape → IsAsked v.shape name op (serving v g.process) (Need block) (serving v2 g2.process) → w.shape ≡ v2.shape → IsOver w h
+pub retried-ready : (v v2 w : Serving) (g g2 h : ParityHolding) (name : CallName) (op : Asked) (block : ℕ)
+    (result : Result answered.CallStep AllocError) → BytesAreReadyFor v g
+    → v2.shape ≡ v.shape → IsCallAsked v.shape name op (serving v g.process) (Need block) (serving v2 g2.process) → w.shape ≡ v2.shape → BytesAreBeneath w h
     → IfOk result (λ step. retry_block v2.shape block (oldest_inherited (serving v2 g2.process) (range_with_len 0 v2.shape.k)) (serving v2 g2.process)
     ≡ called (serving w h.process) step)
-    → OnErr result (w ≡ v2) → OnErr result (h.process ≡ g2.process) → IsReadyFor w h
+    → OnErr result (w ≡ v2) → OnErr result (h.process ≡ g2.process) → BytesAreReadyFor w h
 retried-ready v v2 w g g2 h name op block (Ok step) ready shape asked shape2 over is same_service same_bytes =
     asked-ready v w g h name op ready (shape2 ∙ shape) over (ap (λ (x : CallStep). x.step.process) (asked.0
     ∙ ap₂ (λ (s : Dimensions) (x : Process). retry_block s block (oldest_inherited x (range_with_len 0 s.k)) x) (sym shape) (sym asked.1) ∙ is))

@@ -22,11 +22,11 @@ use Rattle.block_sessions.specs.Opened.{AreLost}
 use Rattle.head_service.specs.Serving.{Serving, serving}
 use Rattle.leader_role.specs.Sound.{CanLead}
 use Rattle.leader_role.proofs.Laws.{among-rows, can-start, none-next}
-use Rattle.parity_bytes.specs.Bytes.{Holding}
+use Rattle.parity_bytes.specs.Bytes.{ParityHolding}
 use Rattle.parity_bytes.specs.Starting.{begun_if, session_begun, takes_next}
 use Rattle.parity_process.specs.Marking.{copy_taken}
 use Rattle.parity_process.specs.Opening.{AreMarkable, AreUnmarked, HeadsOne}
-use Rattle.parity_process.specs.Standing.{IsReadyFor}
+use Rattle.parity_process.specs.Standing.{BytesAreReadyFor}
 use Rattle.parity_process.proofs.Beneath.{begin-beneath}
 use Rattle.parity_process.proofs.Marks.{mark-taken, takes-own}
 
@@ -153,7 +153,7 @@ begun-beneath v b leader block lost rows is_lost is_rows =
     by false = refl
 
 -- a start of a session, of what its parts give
-module _ (v : Serving) (b : Holding) (leader number block : ℕ) (lost rows : List ℕ) (ready : IsReadyFor v b)
+module _ (v : Serving) (b : ParityHolding) (leader number block : ℕ) (lost rows : List ℕ) (ready : BytesAreReadyFor v b)
     (heads : HeadsOne v) (named : b.process.name ≡ ParityNode leader)
     (is_next : number ≡ suc b.process.as_leader.last_session) (is_lost : lost ≡ lost_of v.shape (serving v b.process))
     (is_rows : rows ≡ rows_of v.shape (serving v b.process)) where

@@ -23,6 +23,6 @@ pub record FitsParity (s : Dimensions) (from : ProcessId) (m : Message) (p : Pro
   pub group : IsOfGroup s m p
 
 -- a number up to which a replica can be applied, and was not before
-pub record IsWithin (r : Replica) (n : ℕ) : Type 0 where
+pub record CanBeApplied (r : Replica) (n : ℕ) : Type 0 where
   pub above : r.applied ≤ n
   pub issued : n ≤ last_of r

@@ -18,5 +18,5 @@ abbrev pub copy_taken : Dimensions → ℕ → ℕ → ℕ → ℕ → Process �
 copy_taken s leader number d n p = let q : Process = apply_to s d n p in copy_marked s d n (copy_in q.as_row.copies leader number) q
 
 -- the message that brings a copy to its leader
-abbrev pub row_of : Dimensions → Copy → Sent
-row_of s copy = record { to = ParityNode copy.leader; message = tells.Row (session_of copy.leader copy.number) copy.bytes (marks_of s copy) }
+abbrev pub row_message : Dimensions → Copy → Sent
+row_message s copy = record { to = ParityNode copy.leader; message = tells.Row (session_of copy.leader copy.number) copy.bytes (marks_of s copy) }

@@ -2,13 +2,13 @@
 use Rattle.head_service.specs.Serving.{Serving, serving}
 use Rattle.process_service.specs.Standing.{IsBeneath}
 use Rattle.leader_role.specs.Sound.{CanLead}
-use Rattle.parity_bytes.specs.Bytes.{Holding, storage_of}
+use Rattle.parity_bytes.specs.Bytes.{ParityHolding, storage_of_bytes}
 
 -- these bytes are beneath the process's partitions
-abbrev pub IsOver : Serving → Holding → Type 0
-IsOver v b = IsBeneath v (storage_of b)
+abbrev pub BytesAreBeneath : Serving → ParityHolding → Type 0
+BytesAreBeneath v b = IsBeneath v (storage_of_bytes b)
 
 -- the bytes are beneath its partitions, and it can lead
-pub record IsReadyFor (v : Serving) (b : Holding) : Type 0 where
-  pub over : IsOver v b
+pub record BytesAreReadyFor (v : Serving) (b : ParityHolding) : Type 0 where
+  pub over : BytesAreBeneath v b
   pub sound : CanLead v.shape (serving v b.process)

@@ -5,10 +5,10 @@ ghost use Rattle.group_run.specs.Fitting.{NoticeFits};
 ghost use Rattle.group_run.specs.Receiving.{death_known, notice_comes};
 ghost use Rattle.group_run.specs.Rows.{leader_forgotten};
 ghost use Rattle.head_service.specs.Serving.{serving};
-ghost use Rattle.process_service.specs.Steps.{stepped};
+ghost use Rattle.process_service.specs.Steps.{machine_step};
 ghost use Rattle.parity_bytes.specs.Bytes.{Stays};
 ghost use Rattle.parity_process.specs.Closing.{ceases_if, closed_if};
-ghost use Rattle.parity_process.specs.Standing.{IsOver};
+ghost use Rattle.parity_process.specs.Standing.{BytesAreBeneath};
 
 use group_types::ProcessId;
 use head_service::Sent;
@@ -26,12 +26,12 @@ pub fn notice(
     bytes: &mut ParityBytes,
 ) -> Result<Step, AllocError>
     requires fits { NoticeFits service.old.shape (serving service.old bytes.old.process) dead }
-    requires over { IsOver service.old bytes.old }
+    requires over { BytesAreBeneath service.old bytes.old }
     ensures shape { service.new.shape ≡ service.old.shape }
-    ensures over { IsOver service.new bytes.new }
+    ensures over { BytesAreBeneath service.new bytes.new }
     ensures pages { bytes.new.made ≡ bytes.old.made }
     ensures step { IfOk result (λ step. notice_comes service.old.shape dead (serving service.old bytes.old.process)
-        ≡ stepped (serving service.new bytes.new.process) step) }
+        ≡ machine_step (serving service.new bytes.new.process) step) }
     ensures service_err { OnErr result (service.new ≡ service.old) }
     ensures bytes_err { OnErr result (bytes.new.process ≡ bytes.old.process) }
 {
@@ -52,7 +52,7 @@ fn tell(
 ) -> Result<(), AllocError>
     requires process { IsProcess service.now.shape dead }
     requires news { knows_dead service.now.known dead ≡ false }
-    requires over { IsOver service.now bytes.now }
+    requires over { BytesAreBeneath service.now bytes.now }
     ensures { OnOk result (sent.new.items ≡ sent.old.items
         ++ ceases_if service.now.shape bytes.now.process.as_leader.sessions (death_known dead (serving service.now bytes.now.process))) }
 {

@@ -6,12 +6,12 @@ ghost use Rattle.group_run.specs.Leaders.{mark_comes, row_comes};
 ghost use Rattle.group_run.specs.Replica.{empty_replica, up_to};
 ghost use Rattle.group_run.specs.Rows.{accepts_mark, parity_number};
 ghost use Rattle.row_copies.specs.Laws.{handed_on};
-ghost use Rattle.row_copies.specs.Row.{IsWhole};
+ghost use Rattle.row_copies.specs.Row.{IsWholeCopy};
 ghost use Rattle.head_service.specs.Serving.{Serving, serving};
-ghost use Rattle.process_service.specs.Steps.{stepped};
+ghost use Rattle.process_service.specs.Steps.{machine_step};
 ghost use Rattle.parity_bytes.specs.Bytes.{Stays};
-ghost use Rattle.parity_process.specs.Marking.{WaitForOwnRow, copy_taken, row_of};
-ghost use Rattle.parity_process.specs.Standing.{IsOver};
+ghost use Rattle.parity_process.specs.Marking.{WaitForOwnRow, copy_taken, row_message};
+ghost use Rattle.parity_process.specs.Standing.{BytesAreBeneath};
 
 use group_message::{Message, Session};
 use group_types::{Partition, ProcessId, Rank, Shape};
@@ -46,14 +46,14 @@ pub fn receive_mark(
         mark.session.number mark.rank.0 mark.partition.0 ≡ true
         → MarkFits service.old.shape (serving service.old bytes.old.process) mark.session mark.block mark.partition.0
         mark.number }
-    requires over { IsOver service.old bytes.old }
+    requires over { BytesAreBeneath service.old bytes.old }
     requires own { WaitForOwnRow bytes.old.process }
     ensures shape { service.new.shape ≡ service.old.shape }
-    ensures over { IsOver service.new bytes.new }
+    ensures over { BytesAreBeneath service.new bytes.new }
     ensures pages { bytes.new.made ≡ bytes.old.made }
     ensures step { IfOk result (λ step. mark_comes service.old.shape (parity_number mark.session.leader)
         mark.session.number mark.rank.0 mark.block
-        mark.partition.0 mark.number (serving service.old bytes.old.process) ≡ stepped (serving service.new bytes.new.process) step) }
+        mark.partition.0 mark.number (serving service.old bytes.old.process) ≡ machine_step (serving service.new bytes.new.process) step) }
     ensures wanted { OnErr result (accepts_mark (serving service.old bytes.old.process)
         (parity_number mark.session.leader) mark.session.number mark.rank.0 mark.partition.0 ≡ true) }
     ensures service_err { OnErr result (service.new ≡ service.old) }
@@ -76,7 +76,7 @@ fn accepts(leader: u32, mark: Mark, service: &Service, bytes: &ParityBytes) -> b
     requires fits { accepts_mark (serving service.now bytes.now.process) leader mark.session.number mark.rank.0
         mark.partition.0 ≡ true
         → (leader < service.now.shape.m) × (mark.partition.0 < service.now.shape.k) }
-    requires over { IsOver service.now bytes.now }
+    requires over { BytesAreBeneath service.now bytes.now }
     ensures value { result ≡ accepts_mark (serving service.now bytes.now.process) leader mark.session.number mark.rank.0
         mark.partition.0 }
 {
@@ -112,13 +112,13 @@ pub fn take(
     requires empty { room.items ≡ [] }
     requires fits { length (up_to mark.number (at empty_replica service.old.replicas mark.partition.0))
         ≤ vec_capacity room }
-    requires over { IsOver service.old bytes.old }
+    requires over { BytesAreBeneath service.old bytes.old }
     ensures shape { service.new.shape ≡ service.old.shape }
-    ensures over { IsOver service.new bytes.new }
+    ensures over { BytesAreBeneath service.new bytes.new }
     ensures pages { bytes.new.made ≡ bytes.old.made }
     ensures name { bytes.new.process.name ≡ bytes.old.process.name }
     ensures own { WaitForOwnRow bytes.old.process → WaitForOwnRow bytes.new.process }
-    ensures whole { IfSome result (IsWhole service.old.shape) }
+    ensures whole { IfSome result (IsWholeCopy service.old.shape) }
     ensures leader { IfSome result (λ copy. copy.leader ≡ leader) }
     ensures taken { copy_taken service.old.shape leader mark.session.number mark.partition.0 mark.number
         (serving service.old bytes.old.process)
@@ -151,7 +151,7 @@ impl Letter {
 // A copy whose marks are all there goes to its leader, and the process's own to its session. It takes no memory.
 fn hand_on(copy: Option<Copy>, letter: Letter, shape: Shape, bytes: &mut ParityBytes) -> Vec<Sent>
     requires shape { shape ≡ bytes.old.shape }
-    requires whole { IfSome copy (IsWhole shape) }
+    requires whole { IfSome copy (IsWholeCopy shape) }
     requires stamp { letter.stamp ≡ replicate shape.k 0 }
     requires empty { letter.sent.items ≡ [] }
     requires room { 1 ≤ vec_capacity letter.sent }
@@ -172,7 +172,7 @@ fn hand_on(copy: Option<Copy>, letter: Letter, shape: Shape, bytes: &mut ParityB
 
 /// The process's own copy goes to its session. It takes no memory.
 pub fn finish_own(copy: Copy, bytes: &mut ParityBytes)
-    requires whole { IsWhole bytes.old.shape copy }
+    requires whole { IsWholeCopy bytes.old.shape copy }
     requires leader { bytes.old.process.name ≡ ParityNode copy.leader }
     requires own { WaitForOwnRow bytes.old.process }
     ensures stays { Stays bytes.old bytes.new }
@@ -186,11 +186,11 @@ pub fn finish_own(copy: Copy, bytes: &mut ParityBytes)
 
 // The message that brings a copy to its leader.
 fn post(copy: Copy, letter: Letter, shape: Shape) -> Vec<Sent>
-    requires whole { IsWhole shape copy }
+    requires whole { IsWholeCopy shape copy }
     requires stamp { letter.stamp ≡ replicate shape.k 0 }
     requires empty { letter.sent.items ≡ [] }
     requires room { 1 ≤ vec_capacity letter.sent }
-    ensures { result.items ≡ row_of shape copy ∷ [] }
+    ensures { result.items ≡ row_message shape copy ∷ [] }
 {
     let Letter {
         mut stamp,

@@ -8,10 +8,10 @@ ghost use Rattle.group_run.specs.Leaders.{lost_of, own_mark, rows_of, session_st
 ghost use Rattle.group_run.specs.Process.{Process};
 ghost use Rattle.group_run.specs.Rows.{accepts_mark, copy_in};
 ghost use Rattle.head_service.specs.Serving.{serving};
-ghost use Rattle.process_service.specs.Steps.{called, stepped};
+ghost use Rattle.process_service.specs.Steps.{called, machine_step};
 ghost use Rattle.parity_process.specs.Marking.{WaitForOwnRow};
 ghost use Rattle.parity_process.specs.Opening.{AreMarkable, HeadsOne, Opens};
-ghost use Rattle.parity_process.specs.Standing.{IsOver, IsReadyFor};
+ghost use Rattle.parity_process.specs.Standing.{BytesAreBeneath, BytesAreReadyFor};
 
 use crate::marking::{Mark, finish_own, take};
 use group_calls::{Answer, Cause};
@@ -32,12 +32,12 @@ pub fn retry(
     service: &mut Service,
     bytes: &mut ParityBytes,
 ) -> Result<CallStep, AllocError>
-    requires ready { IsReadyFor service.old bytes.old }
+    requires ready { BytesAreReadyFor service.old bytes.old }
     requires heads { HeadsOne service.old }
     requires block { block < service.old.shape.blocks }
     requires sessions { bytes.old.process.as_leader.last_session < 2 ^ 62 }
     ensures shape { service.new.shape ≡ service.old.shape }
-    ensures over { IsOver service.new bytes.new }
+    ensures over { BytesAreBeneath service.new bytes.new }
     ensures pages { bytes.new.made ≡ bytes.old.made }
     ensures step { IfOk result (λ step. retry_block service.old.shape block
         (oldest_inherited (serving service.old bytes.old.process) (range_with_len 0 service.old.shape.k))
@@ -72,15 +72,15 @@ fn start(
     service: &mut Service,
     bytes: &mut ParityBytes,
 ) -> Result<Step, AllocError>
-    requires ready { IsReadyFor service.old bytes.old }
+    requires ready { BytesAreReadyFor service.old bytes.old }
     requires heads { HeadsOne service.old }
     requires block { block < service.old.shape.blocks }
     requires sessions { bytes.old.process.as_leader.last_session < 2 ^ 62 }
     ensures shape { service.new.shape ≡ service.old.shape }
-    ensures over { IsOver service.new bytes.new }
+    ensures over { BytesAreBeneath service.new bytes.new }
     ensures pages { bytes.new.made ≡ bytes.old.made }
     ensures step { IfOk result (λ step. start_session service.old.shape block (serving service.old bytes.old.process)
-        ≡ stepped (serving service.new bytes.new.process) step) }
+        ≡ machine_step (serving service.new bytes.new.process) step) }
     ensures service_err { OnErr result (service.new ≡ service.old) }
     ensures bytes_err { OnErr result (bytes.new.process ≡ bytes.old.process) }
 {
@@ -157,9 +157,9 @@ fn mark_own(
     requires leader { leader < service.old.shape.m }
     requires markable { at 0 bytes.old.process.as_row.ceased leader < number
         → AreMarkable service.old.shape leader number block lost.now (serving service.old bytes.old.process) }
-    requires over { IsOver service.old bytes.old }
+    requires over { BytesAreBeneath service.old bytes.old }
     ensures shape { service.new.shape ≡ service.old.shape }
-    ensures over { IsOver service.new bytes.new }
+    ensures over { BytesAreBeneath service.new bytes.new }
     ensures pages { bytes.new.made ≡ bytes.old.made }
     ensures step { for_each lost.now (own_mark service.old.shape leader number block)
         (serving service.old bytes.old.process)
@@ -183,14 +183,14 @@ fn mark_at(
     bytes: &mut ParityBytes,
 )
     requires partition { partition.0 < service.old.shape.k }
-    requires over { IsOver service.old bytes.old }
+    requires over { BytesAreBeneath service.old bytes.old }
     requires leader { bytes.old.process.name ≡ ParityNode leader }
     requires own { WaitForOwnRow bytes.old.process }
     requires takes { accepts_mark (serving service.old bytes.old.process) leader number
         (at 0 service.old.ranks partition.0) partition.0 ≡ true }
     requires copied { is_some (copy_in bytes.old.process.as_row.copies leader number) ≡ true }
     ensures shape { service.new.shape ≡ service.old.shape }
-    ensures over { IsOver service.new bytes.new }
+    ensures over { BytesAreBeneath service.new bytes.new }
     ensures pages { bytes.new.made ≡ bytes.old.made }
     ensures step { own_mark service.old.shape leader number block partition.0 (serving service.old bytes.old.process)
         ≡ quiet (serving service.new bytes.new.process) }

@@ -12,12 +12,12 @@ ghost use Rattle.group_run.specs.Process.{opening_process};
 ghost use Rattle.group_run.specs.Receiving as machine;
 ghost use Rattle.group_run.specs.Replica.{callers, last_of};
 ghost use Rattle.group_run.specs.World.{flush_process};
-ghost use Rattle.head_service.specs.Acting.{name_of};
+ghost use Rattle.head_service.specs.Acting.{name_of_call};
 ghost use Rattle.head_service.specs.Paging.{MakesNoneOf};
 ghost use Rattle.process_service.specs.Current.{is_current};
 ghost use Rattle.process_service.specs.Noticing.{waiting};
 ghost use Rattle.process_service.specs.Paging.{CallMisses, MessageMisses};
-ghost use Rattle.process_service.specs.Steps.{called, stepped};
+ghost use Rattle.process_service.specs.Steps.{called, machine_step};
 ghost use Rattle.process_service.specs.Wanting.{AskWants};
 ghost use Rattle.parity_process.specs.Opening.{CallOpens};
 ghost use Rattle.leader_role.specs.Sound.{IsOfGroup};
@@ -49,14 +49,14 @@ pub struct ParityProcess {
 }
 
 impl Model for ParityProcess {
-    ghost use Rattle.parity_process.specs.Standing.{IsReadyFor};
+    ghost use Rattle.parity_process.specs.Standing.{BytesAreReadyFor};
     ghost use Rattle.process_service.specs.Standing.{Standing, standing};
 
     ghost Value = { Standing };
 
     ghost view = { λ p. standing p.service p.bytes.process p.bytes.made };
 
-    ghost invariant = { λ p. IsReadyFor p.service p.bytes };
+    ghost invariant = { λ p. BytesAreReadyFor p.service p.bytes };
 }
 
 impl ParityProcess {
@@ -81,10 +81,10 @@ impl ParityProcess {
         requires sessions { self.old.process.as_leader.last_session < 2 ^ 62 }
         ensures shape { self.new.shape ≡ self.old.shape }
         ensures pages { MakesNoneOf (CallMisses self.old.shape op.now self.old.process) self.old.made self.new.made }
-        ensures step { IfOk result (λ step. ask_process self.old.shape (name_of call) op.now self.old.process
+        ensures step { IfOk result (λ step. ask_process self.old.shape (name_of_call call) op.now self.old.process
             ≡ called self.new.process step) }
         ensures wanted { OnErr result (AskWants self.old.shape op.now self.old.process
-            ⊎ CallOpens self.old.shape (name_of call) op.now self.old.process) }
+            ⊎ CallOpens self.old.shape (name_of_call call) op.now self.old.process) }
         ensures err { OnErr result (self.new.process ≡ self.old.process) }
     {
         match self.service.ask(call, op, &mut self.bytes)? {
@@ -129,7 +129,7 @@ impl ParityProcess {
         ensures shape { self.new.shape ≡ self.old.shape }
         ensures pages { MakesNoneOf (MessageMisses self.old.shape.block message.now) self.old.made self.new.made }
         ensures step { IfOk result (λ step. machine.receive self.old.shape from message.now self.old.process
-            ≡ stepped self.new.process step) }
+            ≡ machine_step self.new.process step) }
         ensures wanted { OnErr result (is_current self.old.process message.now ≡ true) }
         ensures err { OnErr result (self.new.process ≡ self.old.process) }
     {

@@ -10,9 +10,9 @@ ghost use Rattle.head_service.specs.Serving.{Serving, serving};
 ghost use Rattle.process_service.specs.Current.{is_current};
 ghost use Rattle.process_service.specs.Paging.{MessageMisses};
 ghost use Rattle.process_service.specs.Standing.{is_under};
-ghost use Rattle.process_service.specs.Steps.{stepped};
+ghost use Rattle.process_service.specs.Steps.{machine_step};
 ghost use Rattle.parity_bytes.specs.Bytes.{Stays};
-ghost use Rattle.parity_process.specs.Standing.{IsOver, IsReadyFor};
+ghost use Rattle.parity_process.specs.Standing.{BytesAreBeneath, BytesAreReadyFor};
 
 use crate::closing::notice;
 use crate::marking::{Mark, receive_mark};
@@ -31,13 +31,13 @@ pub fn receive(
     bytes: &mut ParityBytes,
 ) -> Result<Step, AllocError>
     requires fits { Fits service.old.shape from message.now (serving service.old bytes.old.process) }
-    requires ready { IsReadyFor service.old bytes.old }
+    requires ready { BytesAreReadyFor service.old bytes.old }
     ensures shape { service.new.shape ≡ service.old.shape }
-    ensures over { IsOver service.new bytes.new }
+    ensures over { BytesAreBeneath service.new bytes.new }
     ensures pages { MakesNoneOf (MessageMisses service.old.shape.block message.now) bytes.old.made bytes.new.made }
     ensures step { IfOk result (λ step. machine.receive service.old.shape from message.now
         (serving service.old bytes.old.process)
-        ≡ stepped (serving service.new bytes.new.process) step) }
+        ≡ machine_step (serving service.new bytes.new.process) step) }
     ensures wanted { OnErr result (is_current (serving service.old bytes.old.process) message.now ≡ true) }
     ensures service_err { OnErr result (service.new ≡ service.old) }
     ensures bytes_err { OnErr result (bytes.new.process ≡ bytes.old.process) }
@@ -117,13 +117,13 @@ fn acknowledge(
 ) -> Result<Step, AllocError>
     requires from { IsProcess service.old.shape from }
     requires partition { partition.0 < service.old.shape.k }
-    requires over { IsOver service.old bytes.old }
+    requires over { BytesAreBeneath service.old bytes.old }
     ensures shape { service.new.shape ≡ service.old.shape }
-    ensures over { IsOver service.new bytes.new }
+    ensures over { BytesAreBeneath service.new bytes.new }
     ensures pages { bytes.new.made ≡ bytes.old.made }
     ensures step { IfOk result (λ step. machine.receive service.old.shape from (tells.Ack rank partition number)
         (serving service.old bytes.old.process)
-        ≡ stepped (serving service.new bytes.new.process) step) }
+        ≡ machine_step (serving service.new bytes.new.process) step) }
     ensures wanted { OnErr result (is_under rank.0 (at None service.old.heads partition.0) ≡ true) }
     ensures service_err { OnErr result (service.new ≡ service.old) }
     ensures bytes_err { OnErr result (bytes.new.process ≡ bytes.old.process) }

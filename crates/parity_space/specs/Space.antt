@@ -6,19 +6,19 @@ use Rattle.group_message.specs.declared.update.Body.TheVariants.{Put, Remove, To
 use Rattle.field_byte.specs.Vectors.{scale}
 use Rattle.erasure_code.specs.Code.{coefficient}
 use Rattle.erasure_code.specs.Spaces.{added_at}
-use Rattle.page_map.specs.Pages.{Contents, numbers_in}
-use Rattle.page_map.specs.Spaces.{bytes_of, AllMade, LiesIn}
+use Rattle.page_map.specs.Pages.{PageContents, numbers_in}
+use Rattle.page_map.specs.Spaces.{AllMade, LiesIn, page_bytes}
 
 -- its shape, the number of its process, its bytes, and the numbers of the blocks whose pages were made
-pub record Space : Type 0 where
+pub record CodedSpace : Type 0 where
   pub shape : Dimensions
   pub number : ℕ
   pub bytes : List ℕ
   pub made : List ℕ
 
 -- the space of this shape and process that these pages hold
-abbrev pub space_in : Dimensions → ℕ → Contents → Space
-space_in shape i pages = record { shape = shape; number = i; bytes = bytes_of pages; made = numbers_in pages }
+abbrev pub parity_space_in : Dimensions → ℕ → PageContents → CodedSpace
+parity_space_in shape i pages = record { shape = shape; number = i; bytes = page_bytes pages; made = numbers_in pages }
 
 -- a coefficient for each partition
 pub record ArePrepared (shape : Dimensions) (number : ℕ) (coefs : List ℕ) : Type 0 where
@@ -33,7 +33,7 @@ CanBeAdded shape made Remove = Unit {0}
 CanBeAdded shape made (Touch _) = Unit {0}
 
 -- a space after an update: the product of its difference and the coefficient is added at its run
-abbrev pub with_update : ℕ → Body → List ℕ → List ℕ
-with_update coef (Put _ _ run delta) space = added_at run.at (scale coef delta) space
-with_update coef Remove space = space
-with_update coef (Touch _) space = space
+abbrev pub with_update_added : ℕ → Body → List ℕ → List ℕ
+with_update_added coef (Put _ _ run delta) space = added_at run.at (scale coef delta) space
+with_update_added coef Remove space = space
+with_update_added coef (Touch _) space = space

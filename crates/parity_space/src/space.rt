@@ -4,7 +4,7 @@ ghost use Rattle.group_types.specs.Dimensions.{space_of};
 ghost use Rattle.erasure_code.specs.Code.{coefficient};
 ghost use Rattle.erasure_code.specs.Spaces.{bytes_at};
 ghost use Rattle.page_map.specs.Spaces.{AllMade, LiesIn, MakesOnly};
-ghost use Rattle.parity_space.specs.Space.{ArePrepared, CanBeAdded, with_update};
+ghost use Rattle.parity_space.specs.Space.{ArePrepared, CanBeAdded, with_update_added};
 
 use cauchy_code::coefficient;
 use field_byte::Split;
@@ -25,11 +25,11 @@ pub struct ParitySpace {
 
 impl Model for ParitySpace {
     ghost use Rattle.std.specs.Prelude.{◌≡◌};
-    ghost use Rattle.parity_space.specs.Space.{ArePrepared, Space, space_in};
+    ghost use Rattle.parity_space.specs.Space.{ArePrepared, CodedSpace, parity_space_in};
 
-    ghost Value = { Space };
+    ghost Value = { CodedSpace };
 
-    ghost view = { λ s. space_in s.shape s.number s.pages };
+    ghost view = { λ s. parity_space_in s.shape s.number s.pages };
 
     ghost invariant = { λ s. ArePrepared s.shape s.number s.coefs.items × (s.pages.blocks ≡ s.shape.blocks) × (s.pages.block ≡ s.shape.block) × (s.pages.room ≡ 0) };
 }
@@ -79,7 +79,7 @@ impl ParitySpace {
         requires ready { CanBeAdded self.old.shape self.old.made update.now.body }
         ensures shape { self.new.shape ≡ self.old.shape }
         ensures number { self.new.number ≡ self.old.number }
-        ensures bytes { self.new.bytes ≡ with_update (coefficient self.old.shape.m self.old.number d.0) update.now.body self.old.bytes }
+        ensures bytes { self.new.bytes ≡ with_update_added (coefficient self.old.shape.m self.old.number d.0) update.now.body self.old.bytes }
         ensures made { self.new.made ≡ self.old.made }
     {
         match &update.body {

@@ -12,8 +12,8 @@ use Rattle.group_types.specs.Dimensions.{space_of}
 use Rattle.group_message.specs.declared.kept.Kept.{Kept}
 use Rattle.group_message.specs.declared.update.Update.{Update}
 use Rattle.item_index.specs.Keys.{Keys}
-use Rattle.request_log.specs.Logged.{Logged}
-use Rattle.run_alloc.specs.Free.{Space}
+use Rattle.request_log.specs.Logged.{LogState}
+use Rattle.run_alloc.specs.Free.{AddressSpace}
 use Rattle.run_alloc.specs.Free as alloc
 use Rattle.group_run.specs.Free.{in_run, in_some_run, is_free}
 use Rattle.std.specs.List.{list_any}
@@ -21,9 +21,9 @@ use Rattle.group_types.specs.Lists.{put, same_key}
 use Rattle.group_run.specs.Replica.{Items, Replica, empty_replica, applied_to, callers, item_settled, run_of, with_log, with_update}
 use Rattle.group_run.specs.Fitting.{AllCanCome, CanCome, Writes}
 use Rattle.partition_replica.specs.Inside.{PartsAgree, items_in, replica_in}
-use Rattle.partition_replica.specs.Moves.{Gives, Takes}
-use Rattle.partition_replica.specs.Sound.{IsSound, log_runs, owners}
-use Rattle.partition_replica.specs.State.{State, HasRoom, is_among, is_needed}
+use Rattle.partition_replica.specs.Moves.{GivesAddresses, TakesAddresses}
+use Rattle.partition_replica.specs.Sound.{IsSoundReplica, log_runs, owners}
+use Rattle.partition_replica.specs.State.{HasRoom, ReplicaState, is_among, is_needed}
 use Rattle.partition_replica.proofs.Indices.{set_put}
 use Rattle.partition_replica.proofs.Keys.{number_on-each}
 use Rattle.partition_replica.proofs.Sound.{sound_at_start, takeable, sound_with, free_with, sound_with_all}
@@ -34,8 +34,8 @@ use Rattle.partition_replica.proofs.Sound.{settled_first}
 abbrev pub AreReady : List (List ℕ) → List Update → Type 0
 AreReady ready log = All (λ u. is_among ready u.key ≡ true) log
 
-pub agrees_at_start : (s : State) (space : Space) → s.replica ≡ empty_replica → s.room.spare ≡ 0
-    → space.size ≡ space_of s.shape → ((a : ℕ) → alloc.is_free space a ≡ nat_lt a (space_of s.shape))
+pub agrees_at_start : (s : ReplicaState) (space : AddressSpace) → s.replica ≡ empty_replica → s.room.spare ≡ 0
+    → space.size ≡ space_of s.shape → ((a : ℕ) → alloc.is_free_address space a ≡ nat_lt a (space_of s.shape))
     → PartsAgree s space 0
 agrees_at_start s space start none size free =
     subst (λ (r : Replica). PartsAgree (record s { replica = r }) space 0) (sym start) (record {
@@ -51,9 +51,9 @@ agrees_at_start s space start none size free =
       all_free true = refl
       all_free false = refl
 
-pub agrees_received : (s : State) (u : Update) (old new : Space) (fit : ℕ) → PartsAgree s old fit
+pub agrees_received : (s : ReplicaState) (u : Update) (old new : AddressSpace) (fit : ℕ) → PartsAgree s old fit
     → CanCome (space_of s.shape) s.replica u → HasRoom s.room (u ∷ [])
-    → Takes old new (λ a. in_some_run a (run_of u.body)) 1
+    → TakesAddresses old new (λ a. in_some_run a (run_of u.body)) 1
     → PartsAgree (record s { replica = with_update u s.replica; room = record s.room { spare = s.room.spare - 1 } }) new (fit - 1)
 agrees_received s u old new fit agree come room taken = record {
   sound = sound_with _ s.replica u agree.sound come;
@@ -70,7 +70,7 @@ length-put [] i x lt = absurd (omega arith)
 length-put (y ∷ ys) zero x lt = refl
 length-put (y ∷ ys) (suc i) x lt = ap suc (length-put ys i x (omega arith))
 
-module _ {s : State} {u : Update} {us : List Update} {old : Space} {fit : ℕ}
+module _ {s : ReplicaState} {u : Update} {us : List Update} {old : AddressSpace} {fit : ℕ}
     (sorted : T (is_sorted (slice_cmp nat_cmp) s.replica.items)) (first : s.replica.log ≡ u ∷ us)
     (agree : PartsAgree s old fit) where
   -- the update is ready to be settled
@@ -83,7 +83,7 @@ module _ {s : State} {u : Update} {us : List Update} {old : Space} {fit : ℕ}
   pub first_caller : u.caller < length s.replica.kept
   first_caller = rw agree.callers (All-head (λ v. v.caller < callers) u us (subst (All (λ v. v.caller < callers)) first agree.sound.callers))
 
-  pub agrees_settled : (new : Space) → Gives old new (λ a. in_some_run a u.frees) 1
+  pub agrees_settled : (new : AddressSpace) → GivesAddresses old new (λ a. in_some_run a u.frees) 1
       → PartsAgree (record s { replica = applied_to (s.replica.applied + 1) s.replica }) new fit
   agrees_settled new given = record {
     sound = sound_settled _ s.replica u us sorted first agree.sound;
@@ -97,7 +97,7 @@ module _ {s : State} {u : Update} {us : List Update} {old : Space} {fit : ℕ}
   }
 
 -- the parts after the first update is settled
-pub replica_settled : (old new : Keys (List ℕ)) (log rest : Logged Update) (kept : List (Option Kept)) (u : Update)
+pub replica_settled : (old new : Keys (List ℕ)) (log rest : LogState Update) (kept : List (Option Kept)) (u : Update)
     → log.updates ≡ u ∷ rest.updates → rest.applied ≡ log.applied + 1
     → items_in new ≡ item_settled u (items_in old) → u.caller < length kept
     → replica_in new rest (slice_set kept u.caller (Some (record { call = u.call; outcome = u.outcome })))
@@ -113,7 +113,7 @@ still_ready items log old new tidied ready left k d lt = left _ ∙ both _ _ _ _
   both : (a b c e : Bool) → a ≡ true → e ≡ true → (a && (not b || (c || e))) ≡ true
   both a b c e is needed = rw (is, needed, or-true c, or-true (not b)) refl
 
-pub agrees_tidied : (s : State) (space : Space) (fit : ℕ) (ready : List (List ℕ)) (key : List ℕ) → PartsAgree s space fit
+pub agrees_tidied : (s : ReplicaState) (space : AddressSpace) (fit : ℕ) (ready : List (List ℕ)) (key : List ℕ) → PartsAgree s space fit
     → ((q : List ℕ) → is_among ready q ≡ (is_among s.room.ready q && (not (same_key key q) || is_needed s.replica.items s.replica.log q)))
     → PartsAgree (record s { room = record s.room { ready = ready } }) space fit
 agrees_tidied s space fit ready key agree left = record {
@@ -127,24 +127,25 @@ agrees_tidied s space fit ready key agree left = record {
 }
 
 -- the free runs once the log is dropped
-free_middle : {s : State} {old middle : Space} {fit : ℕ} → PartsAgree s old fit
-    → Gives old middle (λ a. list_any (in_run a) (log_runs s.replica.log)) (length s.replica.log)
-    → (a : ℕ) → alloc.is_free middle a ≡ is_free (space_of s.shape) (with_log [] s.replica) a
+free_middle : {s : ReplicaState} {old middle : AddressSpace} {fit : ℕ} → PartsAgree s old fit
+    → GivesAddresses old middle (λ a. list_any (in_run a) (log_runs s.replica.log)) (length s.replica.log)
+    → (a : ℕ) → alloc.is_free_address middle a ≡ is_free (space_of s.shape) (with_log [] s.replica) a
 free_middle {s = s} agree gives a = gives.free a ∙ ap (λ b. b || list_any (in_run a) (log_runs s.replica.log))
     (agree.free a) ∙ sym (free_emptied _ s.replica agree.sound a)
 
-module _ {s : State} {old : Space} {fit : ℕ} (us : List Update) (agree : PartsAgree s old fit)
+module _ {s : ReplicaState} {old : AddressSpace} {fit : ℕ} (us : List Update) (agree : PartsAgree s old fit)
     (come : AllCanCome (space_of s.shape) (with_log [] s.replica) us) where
-  sound_adopted : IsSound (space_of s.shape) (with_log us s.replica)
+  sound_adopted : IsSoundReplica (space_of s.shape) (with_log us s.replica)
   sound_adopted = sound_with_all _ (with_log [] s.replica) us (sound_emptied _ s.replica agree.sound) come
 
-  module _ {middle : Space} (gives : Gives old middle (λ a. list_any (in_run a) (log_runs s.replica.log)) (length s.replica.log)) where
-    pub adopted_takeable : (a : ℕ) → owners a (log_runs us) ≤ (if alloc.is_free middle a then 1 else 0)
+  module _ {middle : AddressSpace} (gives : GivesAddresses old middle (λ a. list_any (in_run a) (log_runs s.replica.log)) (length s.replica.log)) where
+    pub adopted_takeable : (a : ℕ) → owners a (log_runs us) ≤ (if alloc.is_free_address middle a then 1 else 0)
     adopted_takeable a = rw (free_middle agree gives a) (takeable _ s.replica us sound_adopted a)
 
-    pub agrees_adopted : (new : Space) (ready tidy : List (List ℕ)) (dropped : List ℕ → Bool) → HasRoom (record { spare = s.room.spare; ready = ready }) us
+    pub agrees_adopted : (new : AddressSpace) (ready tidy : List (List ℕ)) (dropped : List ℕ → Bool)
+        → HasRoom (record { spare = s.room.spare; ready = ready }) us
         → ((q : List ℕ) → is_among tidy q ≡ (is_among ready q && (not (dropped q) || is_needed s.replica.items us q)))
-        → Takes middle new (λ a. list_any (in_run a) (log_runs us)) (length us)
+        → TakesAddresses middle new (λ a. list_any (in_run a) (log_runs us)) (length us)
         → PartsAgree (record s { replica = with_log us s.replica; room = record { spare = 0; ready = tidy } }) new 0
     agrees_adopted new ready tidy dropped room left takes = record {
       sound = sound_adopted;

@@ -10,13 +10,13 @@ use Rattle.group_message.specs.declared.update.Body.{Body}
 use Rattle.group_message.specs.declared.update.Body.TheVariants.{Put, Remove, Touch}
 use Rattle.group_message.specs.declared.update.Update.{Update}
 use Rattle.item_index.specs.declared.slot.Slot.{Slot}
-use Rattle.item_index.specs.Keys.{Keys, slot_of}
+use Rattle.item_index.specs.Keys.{Keys, entry_slot}
 use Rattle.request_log.specs.Logged.{IsNumbered}
 use Rattle.group_run.specs.Replica.{Items, Replica, applied_to, freed_by, item_settled, items_after, last_of, run_in, slot_after, slot_in}
 use Rattle.law_updates.proofs.Keys.{key-eq, slot_in-with}
 use Rattle.partition_replica.proofs.Keys.{equal, slot_in-items_in}
 use Rattle.partition_replica.specs.Inside.{items_in}
-use Rattle.partition_replica.specs.Coming.{freed_from, run_after, run_behind, run_on, runs_behind}
+use Rattle.partition_replica.specs.Coming.{freed_from, item_run_on, run_after, run_behind, runs_behind}
 
 after_run : (n : ℕ) (body : Body) (old : Option Slot) → option_map run_in (slot_after n body old) ≡ run_after body (option_map run_in old)
 after_run n (Put flags until run delta) old = refl
@@ -24,13 +24,13 @@ after_run n Remove old = refl
 after_run n (Touch until) None = refl
 after_run n (Touch until) (Some slot) = refl
 
-pub run_settled : (u : Update) (items : Items) (key : List ℕ) → run_on (item_settled u items) key ≡ run_behind key u (run_on items key)
+pub run_settled : (u : Update) (items : Items) (key : List ℕ) → item_run_on (item_settled u items) key ≡ run_behind key u (item_run_on items key)
 run_settled u items key =
     ap (option_map run_in) (slot_in-with u.key key (slot_after u.number u.body (slot_in items u.key)) items) ∙ by (same_key u.key key) refl where
       by : (b : Bool) → same_key u.key key ≡ b
           → option_map run_in (if b then slot_after u.number u.body (slot_in items u.key) else slot_in items key)
-          ≡ (if b then run_after u.body (run_on items key) else run_on items key)
-      by true same = after_run u.number u.body (slot_in items u.key) ∙ ap (λ (k : List ℕ). run_after u.body (run_on items k)) (key-eq u.key key same)
+          ≡ (if b then run_after u.body (item_run_on items key) else item_run_on items key)
+      by true same = after_run u.number u.body (slot_in items u.key) ∙ ap (λ (k : List ℕ). run_after u.body (item_run_on items k)) (key-eq u.key key same)
       by false other = refl
 
 -- keys whose ends differ
@@ -40,7 +40,7 @@ ends_differ one other alike same differ = by (same_key one other) refl where
   by true is = sym differ ∙ same (key-eq one other is)
   by false is = refl
 
-pub runs_settled : (us : List Update) (items : Items) (key : List ℕ) → run_on (items_after items us) key ≡ runs_behind key us (run_on items key)
+pub runs_settled : (us : List Update) (items : Items) (key : List ℕ) → item_run_on (items_after items us) key ≡ runs_behind key us (item_run_on items key)
 runs_settled [] items key = refl
 runs_settled (u ∷ us) items key = runs_settled us (item_settled u items) key ∙ ap (runs_behind key us) (run_settled u items key)
 
@@ -76,9 +76,9 @@ module _ (n : ℕ) (key : List ℕ) where
       rw out (runs_to_is k us (base + 1) (run_behind key u old) numbered.1 (omega arith))
 
 pub run_once_is : (n : ℕ) (r : Replica) (key : List ℕ) → IsNumbered (λ u. u.number) r.applied r.log
-    → runs_to n key r.log (run_on r.items key) ≡ run_on (applied_to n r).items key
+    → runs_to n key r.log (item_run_on r.items key) ≡ item_run_on (applied_to n r).items key
 run_once_is n r key numbered =
-    runs_to_is n key (n - r.applied) r.log r.applied (run_on r.items key) numbered refl ∙ sym (runs_settled (take (n - r.applied) r.log) r.items key)
+    runs_to_is n key (n - r.applied) r.log r.applied (item_run_on r.items key) numbered refl ∙ sym (runs_settled (take (n - r.applied) r.log) r.items key)
 
 items_after-append : (items : Items) (xs ys : List Update) → items_after (items_after items xs) ys ≡ items_after items (xs ++ ys)
 items_after-append items [] ys = refl
@@ -93,6 +93,6 @@ pub items_last : (n : ℕ) (r : Replica) → n ≡ last_of r → (applied_to n r
 items_last n r last = ap (items_after r.items) (take_all (n - r.applied) r.log (omega (arith, last)))
 
 -- the run of the entry that an index lends
-pub run_lent : (index : Keys (List ℕ)) (key : List ℕ) (slot : Option Slot) → slot ≡ slot_of equal index key
-    → option_map run_in slot ≡ run_on (items_in index) key
+pub run_lent : (index : Keys (List ℕ)) (key : List ℕ) (slot : Option Slot) → slot ≡ entry_slot equal index key
+    → option_map run_in slot ≡ item_run_on (items_in index) key
 run_lent index key slot is = ap (option_map run_in) (is ∙ sym (slot_in-items_in index key))

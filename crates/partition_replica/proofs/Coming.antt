@@ -16,7 +16,7 @@ use Rattle.request_log.specs.Logged.{IsNumbered}
 use Rattle.group_run.specs.Free.{in_run, in_some_run, is_free}
 use Rattle.group_run.specs.Replica.{Items, Replica, applied_to, item_settled, items_after, kept_after, run_of, slot_after, slot_in, with_log, with_slot}
 use Rattle.partition_replica.specs.Coming.{is_returned, once_applied}
-use Rattle.partition_replica.specs.Sound.{IsSound, log_runs}
+use Rattle.partition_replica.specs.Sound.{IsSoundReplica, log_runs}
 use Rattle.partition_replica.proofs.Owners.{any_log, any_written}
 use Rattle.partition_replica.proofs.Sound.{free_emptied, free_settled, settled_first, sound_settled}
 
@@ -34,9 +34,9 @@ after k r =
     record { items = items_after r.items first; applied = r.applied + length first; log = drop k r.log; kept = kept_after r.kept first }
 
 -- soundness asks for items and log alone
-same_parts : (space : ℕ) (r q : Replica) → r.items ≡ q.items → r.log ≡ q.log → IsSound space r → IsSound space q
+same_parts : (space : ℕ) (r q : Replica) → r.items ≡ q.items → r.log ≡ q.log → IsSoundReplica space r → IsSoundReplica space q
 same_parts space r q items log sound =
-    subst (λ (x : Replica). IsSound space (record q { items = x.items; log = x.log })) (λ i. record q { items = items i; log = log i })
+    subst (λ (x : Replica). IsSoundReplica space (record q { items = x.items; log = x.log })) (λ i. record q { items = items i; log = log i })
     (record { runs = sound.runs; frees = sound.frees; writes = sound.writes; callers = sound.callers })
 
 assoc : (a b c : Bool) → ((a || b) || c) ≡ (a || (b || c))
@@ -52,7 +52,7 @@ abbrev is_freed : List Update → ℕ → Bool
 is_freed us a = list_any (λ u. in_some_run a u.frees) us
 
 module _ (space : ℕ) where
-  module _ (u : Update) (us : List Update) (r : Replica) (sorted : Sorted r.items) (sound : IsSound space (with_log (u ∷ us) r)) where
+  module _ (u : Update) (us : List Update) (r : Replica) (sorted : Sorted r.items) (sound : IsSoundReplica space (with_log (u ∷ us) r)) where
     -- with the first update settled
     abbrev next : Replica
     next = record { items = item_settled u r.items; applied = r.applied + 1; log = us; kept = kept_after r.kept (u ∷ []) }
@@ -63,20 +63,21 @@ module _ (space : ℕ) where
     next_sorted : Sorted next.items
     next_sorted = sorted_with u.key (slot_after u.number u.body (slot_in r.items u.key)) r.items sorted
 
-    next_sound : IsSound space next
-    next_sound = subst (λ (q : Replica). IsSound space q) next_is (sound_settled space (with_log (u ∷ us) r) u us sorted refl sound)
+    next_sound : IsSoundReplica space next
+    next_sound = subst (λ (q : Replica). IsSoundReplica space q) next_is (sound_settled space (with_log (u ∷ us) r) u us sorted refl sound)
 
     next_free : (a : ℕ) → is_free space next a ≡ (is_free space (with_log (u ∷ us) r) a || in_some_run a u.frees)
     next_free a = sym (ap (λ (q : Replica). is_free space q a) next_is) ∙ free_settled space (with_log (u ∷ us) r) u us sorted refl sound a
 
-  sound_after : (k : ℕ) (log : List Update) (r : Replica) → Sorted r.items → IsSound space (with_log log r) → IsSound space (after k (with_log log r))
+  sound_after : (k : ℕ) (log : List Update) (r : Replica) → Sorted r.items → IsSoundReplica space (with_log log r)
+      → IsSoundReplica space (after k (with_log log r))
   sound_after zero log r sorted sound = same_parts space (with_log log r) (after 0 (with_log log r)) refl refl sound
   sound_after (suc k) [] r sorted sound = same_parts space (with_log [] r) (after (suc k) (with_log [] r)) refl refl sound
   sound_after (suc k) (u ∷ us) r sorted sound =
       same_parts space (after k (next u us r sorted sound)) (after (suc k) (with_log (u ∷ us) r)) refl refl
       (sound_after k us (next u us r sorted sound) (next_sorted u us r sorted sound) (next_sound u us r sorted sound))
 
-  free_after : (k : ℕ) (log : List Update) (r : Replica) → Sorted r.items → IsSound space (with_log log r)
+  free_after : (k : ℕ) (log : List Update) (r : Replica) → Sorted r.items → IsSoundReplica space (with_log log r)
       → (a : ℕ) → is_free space (after k (with_log log r)) a ≡ (is_free space (with_log log r) a || is_freed (take k log) a)
   free_after zero log r sorted sound a = or_none _
   free_after (suc k) [] r sorted sound a = or_none _
@@ -85,10 +86,10 @@ module _ (space : ℕ) where
       ∙ ap (λ (b : Bool). b || is_freed (take k us) a) (next_free u us r sorted sound a)
       ∙ assoc (is_free space (with_log (u ∷ us) r) a) (in_some_run a u.frees) (is_freed (take k us) a)
 
-  pub sound_applied : (n : ℕ) (r : Replica) → Sorted r.items → IsSound space r → IsSound space (applied_to n r)
+  pub sound_applied : (n : ℕ) (r : Replica) → Sorted r.items → IsSoundReplica space r → IsSoundReplica space (applied_to n r)
   sound_applied n r sorted sound = sound_after (n - r.applied) r.log r sorted sound
 
-  free_dropped : (n : ℕ) (r : Replica) → Sorted r.items → IsSound space r
+  free_dropped : (n : ℕ) (r : Replica) → Sorted r.items → IsSoundReplica space r
       → (a : ℕ)
       → is_free space (with_log [] (applied_to n r)) a
       ≡ (is_free space r a || (is_freed (take (n - r.applied) r.log) a || list_any (in_run a) (log_runs (drop (n - r.applied) r.log))))
@@ -130,7 +131,7 @@ module _ (drops : Bool) (n a : ℕ) where
       ∙ sym (assoc (in_some_run a u.frees) (is_freed (take k us) a) (is_dropped drops (drop k us) a)))
 
 -- an address is free then if it is free now, or comes back
-pub free_once : (space : ℕ) (drops : Bool) (n : ℕ) (r : Replica) → Sorted r.items → IsSound space r → IsNumbered (λ u. u.number) r.applied r.log
+pub free_once : (space : ℕ) (drops : Bool) (n : ℕ) (r : Replica) → Sorted r.items → IsSoundReplica space r → IsNumbered (λ u. u.number) r.applied r.log
     → (a : ℕ) → is_free space (once_applied drops n r) a ≡ (is_free space r a || is_returned drops n r.log a)
 free_once space false n r sorted sound numbered a =
     free_after space (n - r.applied) r.log r sorted sound a
@@ -143,7 +144,7 @@ free_once space true n r sorted sound numbered a =
     ∙ sym (returned_parts true n a (n - r.applied) r.log r.applied numbered refl))
 
 -- what is free now is free then
-pub free_stays : (space : ℕ) (drops : Bool) (n : ℕ) (r : Replica) → Sorted r.items → IsSound space r
+pub free_stays : (space : ℕ) (drops : Bool) (n : ℕ) (r : Replica) → Sorted r.items → IsSoundReplica space r
     → (a : ℕ) → is_free space r a ≡ true → is_free space (once_applied drops n r) a ≡ true
 free_stays space false n r sorted sound a free =
     free_after space (n - r.applied) r.log r sorted sound a

@@ -7,12 +7,12 @@ use Rattle.group_types.specs.Dimensions.{space_of}
 use Rattle.group_types.specs.declared.run.Run.{Run}
 use Rattle.group_message.specs.declared.update.Update.{Update}
 use Rattle.request_log.specs.Logged.{IsNumbered}
-use Rattle.run_alloc.specs.Free.{AllFree, Space}
+use Rattle.run_alloc.specs.Free.{AddressSpace, AllFree}
 use Rattle.run_alloc.specs.Free as alloc
 use Rattle.group_run.specs.Free.{in_run, in_some_run, is_free}
 use Rattle.partition_replica.specs.Coming.{is_returned, once_applied, returned_by}
 use Rattle.partition_replica.specs.Inside.{PartsAgree}
-use Rattle.partition_replica.specs.State.{State}
+use Rattle.partition_replica.specs.State.{ReplicaState}
 use Rattle.partition_replica.proofs.Coming.{Sorted, free_once, free_stays}
 
 -- between the updates whose runs were looked at and those that are left
@@ -62,27 +62,27 @@ neither false false c is x y = is
 neither true b c is x y = cc
 neither false true c is x y = cc
 
-module _ {s : State} {runs : Space} {fit : ℕ} (agree : PartsAgree s runs fit) (sorted : Sorted s.replica.items)
+module _ {s : ReplicaState} {runs : AddressSpace} {fit : ℕ} (agree : PartsAgree s runs fit) (sorted : Sorted s.replica.items)
     (numbered : IsNumbered (λ u. u.number) s.replica.applied s.replica.log)
     (drops : Bool) (n at to back : ℕ) (reaches : at ≤ to) where
-  free_is : (a : ℕ) → is_free (space_of s.shape) (once_applied drops n s.replica) a ≡ (alloc.is_free runs a || is_returned drops n s.replica.log a)
+  free_is : (a : ℕ) → is_free (space_of s.shape) (once_applied drops n s.replica) a ≡ (alloc.is_free_address runs a || is_returned drops n s.replica.log a)
   free_is a =
       free_once (space_of s.shape) drops n s.replica sorted agree.sound numbered a
       ∙ ap (λ (b : Bool). b || is_returned drops n s.replica.log a) (sym (agree.free a))
 
   -- nothing is free from there on now: what comes back
-  pub part_none : alloc.is_free runs to ≡ false → to - at ≡ 0 → (back ≡ 0 → is_returned drops n s.replica.log at ≡ false) → back ≡ 0
+  pub part_none : alloc.is_free_address runs to ≡ false → to - at ≡ 0 → (back ≡ 0 → is_returned drops n s.replica.log at ≡ false) → back ≡ 0
       → is_free (space_of s.shape) (once_applied drops n s.replica) at ≡ false
   part_none ends none back_none zero =
       let here : to ≡ at = omega arith in
-      neither _ _ _ (free_is at) (ap (alloc.is_free runs) (sym here) ∙ ends) (back_none zero)
+      neither _ _ _ (free_is at) (ap (alloc.is_free_address runs) (sym here) ∙ ends) (back_none zero)
 
   pub part_back : AllFree (is_returned drops n s.replica.log) at back → AllFree (is_free (space_of s.shape) (once_applied drops n s.replica)) at back
-  part_back held a low high = other (alloc.is_free runs a) _ _ (free_is a) (held a low high)
+  part_back held a low high = other (alloc.is_free_address runs a) _ _ (free_is a) (held a low high)
 
 -- what is free from there on now is free then
-pub part_free : {s : State} {runs : Space} {fit : ℕ} → PartsAgree s runs fit → Sorted s.replica.items
-    → (drops : Bool) (n at to : ℕ) → AllFree (alloc.is_free runs) at (to - at)
+pub part_free : {s : ReplicaState} {runs : AddressSpace} {fit : ℕ} → PartsAgree s runs fit → Sorted s.replica.items
+    → (drops : Bool) (n at to : ℕ) → AllFree (alloc.is_free_address runs) at (to - at)
     → AllFree (is_free (space_of s.shape) (once_applied drops n s.replica)) at (to - at)
 part_free {s} agree sorted drops n at to free a low high =
     free_stays (space_of s.shape) drops n s.replica sorted agree.sound a (sym (agree.free a) ∙ free a low high)

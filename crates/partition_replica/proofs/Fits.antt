@@ -16,8 +16,8 @@ use Rattle.run_alloc.proofs.Spread.{in_run-true, in_run-inside}
 use Rattle.group_run.specs.Fitting.{AllCanCome, CanCome, Writes}
 use Rattle.group_run.specs.Free.{in_run, in_some_run, is_free}
 use Rattle.group_run.specs.Replica.{Items, Replica, applied_to, freed_by, items_after, last_of, run_of, slot_in, with_log}
-use Rattle.partition_replica.specs.Coming.{IsWritten, freed_from, run_on, runs_behind}
-use Rattle.partition_replica.specs.Sound.{IsSound, log_runs}
+use Rattle.partition_replica.specs.Coming.{IsWritten, freed_from, item_run_on, runs_behind}
+use Rattle.partition_replica.specs.Sound.{IsSoundReplica, log_runs}
 use Rattle.partition_replica.proofs.Behind.{freed_is, items_last, items_whole, runs_settled}
 use Rattle.partition_replica.proofs.Sound.{free_refilled, sound_emptied, sound_with_all}
 
@@ -70,7 +70,7 @@ module _ (space : ℕ) (q : Replica) where
   list_goes us i u can lt is tells goes come = come_next us i u lt is come (tells.0 goes)
 
 -- an update that is written, in place of the parts of `CanCome`
-module _ (space : ℕ) (q : Replica) (u : Update) (left : Option Run) (is : left ≡ run_on (items_after q.items q.log) u.key) where
+module _ (space : ℕ) (q : Replica) (u : Update) (left : Option Run) (is : left ≡ item_run_on (items_after q.items q.log) u.key) where
   frees_is : freed_from u.body left ≡ freed_by u.body (slot_in (items_after q.items q.log) u.key)
   frees_is = ap (freed_from u.body) is ∙ sym (freed_is u.body (slot_in (items_after q.items q.log) u.key))
 
@@ -95,7 +95,7 @@ writes_inside space Remove writes = tt
 writes_inside space (Touch until) writes = tt
 
 -- where updates wait that can come in place of the log, the free addresses are those that none of them takes
-module _ (space : ℕ) (q : Replica) (earlier : List Update) (sound : IsSound space q) (come : AllCanCome space (with_log [] q) earlier) where
+module _ (space : ℕ) (q : Replica) (earlier : List Update) (sound : IsSoundReplica space q) (come : AllCanCome space (with_log [] q) earlier) where
   behind_free : (a : ℕ) → is_free space (with_log earlier q) a ≡ (is_free space (with_log [] q) a && not (list_any (in_run a) (log_runs earlier)))
   behind_free a =
       free_refilled space q earlier (sound_with_all space (with_log [] q) earlier (sound_emptied space q sound) come) a
@@ -143,10 +143,10 @@ module _ (space : ℕ) (q : Replica) (earlier : List Update) (sound : IsSound sp
 
 -- the run that earlier updates leave, once everything up to a number is applied
 pub left_behind : (key : List ℕ) (q : Replica) (earlier : List Update) (left old : Option Run) → left ≡ runs_behind key earlier old
-    → old ≡ run_on q.items key → left ≡ run_on (items_after q.items earlier) key
+    → old ≡ item_run_on q.items key → left ≡ item_run_on (items_after q.items earlier) key
 left_behind key q earlier left old is was = is ∙ ap (runs_behind key earlier) was ∙ sym (runs_settled earlier q.items key)
 
 -- what the whole log leaves, as the run is read once everything is applied
 pub left_last : (n last : ℕ) (r : Replica) (key : List ℕ) → last ≡ last_of r
-    → run_on (applied_to last r).items key ≡ run_on (items_after (applied_to n r).items (applied_to n r).log) key
-left_last n last r key is = ap (λ (items : Items). run_on items key) (items_last last r is ∙ sym (items_whole n r))
+    → item_run_on (applied_to last r).items key ≡ item_run_on (items_after (applied_to n r).items (applied_to n r).log) key
+left_last n last r key is = ap (λ (items : Items). item_run_on items key) (items_last last r is ∙ sym (items_whole n r))

@@ -24,7 +24,7 @@ use Rattle.group_types.specs.Lists.{same_key}
 use Rattle.group_run.specs.Replica.{number_on, slot_in, with_slot}
 use Rattle.item_index.specs.declared.slot.Slot.{Slot}
 use Rattle.item_index.specs.AsMap.{as_map}
-use Rattle.item_index.specs.Keys.{Keys, slot_of, is_ready}
+use Rattle.item_index.specs.Keys.{Keys, entry_slot, is_ready}
 use Rattle.item_index.proofs.AsMap.{get-as_map, as_map-same, as_map-insert, as_map-remove}
 use Rattle.request_log.specs.Logged.{find_last}
 use Rattle.item_index.proofs.Ready.{is_ready-from_slot}
@@ -50,16 +50,16 @@ pub swapped : (a b : List ℕ) → same_key a b ≡ same_key b a
 swapped a b = (eq_by_cmp_equiv nat_list_cmp_total).symm a b
 
 -- the item on a key is the slot of its entry
-pub slot_in-items_in : (index : Keys (List ℕ)) (key : List ℕ) → slot_in (items_in index) key ≡ slot_of equal index key
+pub slot_in-items_in : (index : Keys (List ℕ)) (key : List ℕ) → slot_in (items_in index) key ≡ entry_slot equal index key
 slot_in-items_in index key = sym (map.get-entries (as_map (slice_cmp nat_cmp) index) key) ∙ get-as_map nat_list_cmp_total equal equal_is index key
 
 -- what entries leave unchanged
-pub items_in-same : (old new : Keys (List ℕ)) → ((q : List ℕ) → slot_of equal new q ≡ slot_of equal old q) → items_in new ≡ items_in old
+pub items_in-same : (old new : Keys (List ℕ)) → ((q : List ℕ) → entry_slot equal new q ≡ entry_slot equal old q) → items_in new ≡ items_in old
 items_in-same old new slots = ap map.entries (as_map-same nat_list_cmp_total equal equal_is tied old new slots)
 
 -- an entry that is put, or taken away
 pub items_in-put : (old new : Keys (List ℕ)) (key : List ℕ) (slot : Slot)
-    → ((q : List ℕ) → slot_of equal new q ≡ (if equal key q then Some slot else slot_of equal old q))
+    → ((q : List ℕ) → entry_slot equal new q ≡ (if equal key q then Some slot else entry_slot equal old q))
     → items_in new ≡ with_slot key (Some slot) (items_in old)
 items_in-put old new key slot slots =
     ap map.entries (as_map-insert nat_list_cmp_total equal equal_is tied old new key slot slots)
@@ -84,15 +84,15 @@ entries-remove m key =
       turned false false same found = refl
 
 pub items_in-remove : (old new : Keys (List ℕ)) (key : List ℕ)
-    → ((q : List ℕ) → slot_of equal new q ≡ (if equal key q then None else slot_of equal old q))
+    → ((q : List ℕ) → entry_slot equal new q ≡ (if equal key q then None else entry_slot equal old q))
     → items_in new ≡ with_slot key None (items_in old)
 items_in-remove old new key slots = ap map.entries (as_map-remove nat_list_cmp_total equal equal_is tied old new key slots) ∙ entries-remove _ key
 
 -- no item is on the key, so none can be taken away
-pub with_none : (index : Keys (List ℕ)) (key : List ℕ) → slot_of equal index key ≡ None → items_in index ≡ with_slot key None (items_in index)
+pub with_none : (index : Keys (List ℕ)) (key : List ℕ) → entry_slot equal index key ≡ None → items_in index ≡ with_slot key None (items_in index)
 with_none index key none = items_in-remove index index key (λ q. unchanged (equal key q) q refl) where
-  unchanged : (b : Bool) (q : List ℕ) → equal key q ≡ b → slot_of equal index q ≡ (if equal key q then None else slot_of equal index q)
-  unchanged true q same = rw same (ap (slot_of equal index) (sym (tied key q (equal_order key q same))) ∙ none)
+  unchanged : (b : Bool) (q : List ℕ) → equal key q ≡ b → entry_slot equal index q ≡ (if equal key q then None else entry_slot equal index q)
+  unchanged true q same = rw same (ap (entry_slot equal index) (sym (tied key q (equal_order key q same))) ∙ none)
   unchanged false q other = rw other refl
 
 contained : (index : Keys (List ℕ)) (key : List ℕ) → set.contains (set.from_list {R = slice_cmp nat_cmp} (keys_of index)) key ≡ is_ready equal index key
@@ -140,7 +140,7 @@ waits_as_found log key found is = sym (is_there found ∙ ap is_some (is ∙ num
 -- a key that has an item is ready
 with_item : (index : Keys (List ℕ)) (key : List ℕ) → is_some (slot_in (items_in index) key) ≡ true → is_among (ready_in index) key ≡ true
 with_item index key some =
-    ready_in-is index key ∙ is_ready-from_slot equal index key (is_there (slot_of equal index key) ∙ ap is_some (sym (slot_in-items_in index key)) ∙ some)
+    ready_in-is index key ∙ is_ready-from_slot equal index key (is_there (entry_slot equal index key) ∙ ap is_some (sym (slot_in-items_in index key)) ∙ some)
 
 module _ (old : Keys (List ℕ)) (log : List Update) (key q : List ℕ) where
   -- whether a key is ready still, once another is tidied
@@ -156,13 +156,13 @@ module _ (old : Keys (List ℕ)) (log : List Update) (key q : List ℕ) where
 
   -- a key that no update waits on is ready afterwards only if it has an item
   pub ready_in-tidy : (new : Keys (List ℕ)) → is_some (number_on log key) ≡ false
-      → is_ready equal new q ≡ (if equal key q then is_some (slot_of equal old q) else is_ready equal old q)
+      → is_ready equal new q ≡ (if equal key q then is_some (entry_slot equal old q) else is_ready equal old q)
       → is_among (ready_in new) q ≡ left
   ready_in-tidy new none tidied = ready_in-is new q ∙ tidied
       ∙ elim (equal key q) as
-      (λ b. equal key q ≡ b → (if b then is_some (slot_of equal old q) else is_ready equal old q) ≡ left) [
+      (λ b. equal key q ≡ b → (if b then is_some (entry_slot equal old q) else is_ready equal old q) ≡ left) [
         | true ↦ λ same.
-            is_there (slot_of equal old q) ∙ ap is_some (sym (slot_in-items_in old q))
+            is_there (entry_slot equal old q) ∙ ap is_some (sym (slot_in-items_in old q))
             ∙ item_left same (ap (λ (k : List ℕ). is_some (number_on log k)) (sym (tied key q (equal_order key q same))) ∙ none) _ refl
         | false ↦ λ other. sym (ready_in-is old q) ∙ other_left other
       ] refl

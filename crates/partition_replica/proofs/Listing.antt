@@ -20,7 +20,7 @@ use Rattle.std.proofs.lemmas.Map.Keys.{IsDistinct-IsPermutation, IsDistinct-head
 use Rattle.std.proofs.lemmas.Map.Views.{Contains-from_lookup, lookup-from_Contains}
 use Rattle.item_index.specs.declared.slot.Slot.{Slot}
 use Rattle.item_index.specs.AsMap.{as_map}
-use Rattle.item_index.specs.Keys.{Keys, count_of, IsListing}
+use Rattle.item_index.specs.Keys.{Keys, entry_count, IsListing}
 use Rattle.item_index.proofs.Listing.{length-listing}
 use Rattle.partition_replica.specs.Inside.{items_in}
 use Rattle.partition_replica.proofs.Keys.{equal, equal_is, slot_in-items_in, tied}
@@ -115,7 +115,7 @@ items_sorted index xs ys listing moved up =
     (λ q. find_lookup q ys ∙ same_lookup xs ys q listing.once again moved ∙ listing.slots q ∙ sym (slot_in-items_in index q))
 
 -- as many keys have an entry as there are items
-pub count-items_in : (index : Keys (List ℕ)) → IsDistinct equal (keys_of index) → count_of index ≡ length (items_in index)
+pub count-items_in : (index : Keys (List ℕ)) → IsDistinct equal (keys_of index) → entry_count index ≡ length (items_in index)
 count-items_in index distinct = sym (length-listing equal equal_laws index distinct (items_in index) (record {
   once = once_sorted (items_in index) (map.entries_sorted (as_map order index));
   slots = λ q. sym (find_lookup q (items_in index)) ∙ slot_in-items_in index q;

@@ -8,7 +8,7 @@ use Rattle.group_message.specs.declared.update.Update.{Update}
 use Rattle.run_alloc.proofs.Spread.{in_run-true, in_run-inside}
 use Rattle.group_run.specs.Free.{in_run, in_some_run}
 use Rattle.group_run.specs.Replica.{run_of}
-use Rattle.partition_replica.specs.Coming.{AreClear}
+use Rattle.partition_replica.specs.Coming.{ShareNoAddress}
 use Rattle.partition_replica.specs.Sound.{log_runs}
 use Rattle.partition_replica.proofs.Owners.{any_log, any_written}
 
@@ -33,7 +33,7 @@ meet_is x y n is first = (
   (λ meet. let ends = meet_ends x y meet in grind (arith, nat_tests, is, ends.1)),
 )
 
-pub clear_is : (x y : Run) (r : Bool) → IsTrue r ↔ Meet x y → IsTrue (not r) ↔ AreClear (Some x) (Some y)
+pub clear_is : (x y : Run) (r : Bool) → IsTrue r ↔ Meet x y → IsTrue (not r) ↔ ShareNoAddress (Some x) (Some y)
 clear_is x y true meets =
     ((λ test. absurd (true≢false (sym test))), (λ clear. absurd (true≢false (sym (meets.0 refl).2 ∙ clear (meets.0 refl).0 (meets.0 refl).1))))
 clear_is x y false meets =

@@ -12,7 +12,7 @@ use Rattle.item_index.specs.declared.slot.Slot.{Slot}
 use Rattle.std.specs.Prelude.{is_some}
 use Rattle.group_types.specs.Lists.{same_key}
 use Rattle.group_run.specs.Replica.{Items, Replica, item_settled, number_on, slot_after, slot_in, with_slot}
-use Rattle.partition_replica.specs.State.{State, GrowsFor, IsTidyBut, is_among, is_needed, is_touched}
+use Rattle.partition_replica.specs.State.{GrowsFor, IsTidyBut, ReplicaState, is_among, is_needed, is_touched}
 use Rattle.partition_replica.proofs.Keys.{swapped, tied}
 
 -- the key of an update is touched
@@ -98,13 +98,13 @@ other_slot key q None items other =
 other_slot key q (Some slot) items other =
     find-put (slice_cmp nat_cmp) nat_list_cmp_total q key slot items ∙ ap (λ (b : Bool). cond b (Some slot) (slot_in items q)) (swapped q key ∙ other)
 
-pub tidy_reserved : (s t : State) (us : List Update) (owed : List ℕ → Bool) → t.replica ≡ s.replica
+pub tidy_reserved : (s t : ReplicaState) (us : List Update) (owed : List ℕ → Bool) → t.replica ≡ s.replica
     → GrowsFor s.room t.room us → IsTidyBut s owed → IsTidyBut t (λ q. owed q || is_touched us q)
 tidy_reserved s t us owed same grows tidy q is =
     subst (λ (r : Replica). (is_needed r.items r.log q || (owed q || is_touched us q)) ≡ true) (sym same)
     (reserve_test (is_among s.room.ready q) (is_touched us q) (is_needed s.replica.items s.replica.log q) (owed q) (grows.ready q is) (tidy q))
 
-pub tidy_received : (s : State) (u : Update) (owed : List ℕ → Bool) → IsTidyBut s owed → (q : List ℕ) → is_among s.room.ready q ≡ true
+pub tidy_received : (s : ReplicaState) (u : Update) (owed : List ℕ → Bool) → IsTidyBut s owed → (q : List ℕ) → is_among s.room.ready q ≡ true
     → (is_needed s.replica.items (s.replica.log ++ u ∷ []) q || owed q) ≡ true
 tidy_received s u owed tidy q is = keeps (is_some (slot_in s.replica.items q)) _ _ (owed q) (number_pushed s.replica.log u q) (tidy q is) where
   keeps : (slot old new o : Bool) → (old ≡ true → new ≡ true) → ((slot || old) || o) ≡ true → ((slot || new) || o) ≡ true
@@ -113,7 +113,7 @@ tidy_received s u owed tidy q is = keeps (is_some (slot_in s.replica.items q)) _
   keeps false false true o from held = refl
   keeps false false false o from held = held
 
-pub tidy_settled : (s : State) (u : Update) (us : List Update) (owed : List ℕ → Bool) → s.replica.log ≡ u ∷ us
+pub tidy_settled : (s : ReplicaState) (u : Update) (us : List Update) (owed : List ℕ → Bool) → s.replica.log ≡ u ∷ us
     → IsTidyBut s owed → (q : List ℕ) → is_among s.room.ready q ≡ true
     → (is_needed (item_settled u s.replica.items) us q || (owed q || is_touched (u ∷ []) q)) ≡ true
 tidy_settled s u us owed first tidy q is =
@@ -127,7 +127,7 @@ tidy_settled s u us owed first tidy q is =
       alone true = refl
       alone false = refl
 
-pub tidy_adopted : (s : State) (ready : List (List ℕ)) (log : List Update) (owed : List ℕ → Bool)
+pub tidy_adopted : (s : ReplicaState) (ready : List (List ℕ)) (log : List Update) (owed : List ℕ → Bool)
     → ((q : List ℕ) → is_among ready q ≡ (is_among s.room.ready q && (not (is_touched s.replica.log q) || is_needed s.replica.items log q)))
     → IsTidyBut s owed → (q : List ℕ) → is_among ready q ≡ true → (is_needed s.replica.items log q || owed q) ≡ true
 tidy_adopted s ready log owed kept tidy q is =
@@ -135,7 +135,7 @@ tidy_adopted s ready log owed kept tidy q is =
     (is_some (slot_in s.replica.items q)) (is_some (number_on s.replica.log q)) (owed q) (is_some (number_on log q))
     (kept q) (touched_number s.replica.log q) (tidy q) is
 
-pub tidy_tidied : (s : State) (ready : List (List ℕ)) (key : List ℕ) (owed : List ℕ → Bool)
+pub tidy_tidied : (s : ReplicaState) (ready : List (List ℕ)) (key : List ℕ) (owed : List ℕ → Bool)
     → ((q : List ℕ) → is_among ready q ≡ (is_among s.room.ready q && (not (same_key key q) || is_needed s.replica.items s.replica.log q)))
     → IsTidyBut s owed → (q : List ℕ) → is_among ready q ≡ true → (is_needed s.replica.items s.replica.log q || (owed q && not (same_key key q))) ≡ true
 tidy_tidied s ready key owed kept tidy q is =

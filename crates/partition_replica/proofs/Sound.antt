@@ -22,7 +22,7 @@ use Rattle.group_run.specs.Replica.{Items, Replica, empty_replica, callers, slot
 use Rattle.group_run.specs.Replica.{kept_after, applied_to, with_update, with_log}
 use Rattle.group_run.specs.Replica.{freed_by}
 use Rattle.group_run.specs.Fitting.{Writes, CanCome, AllCanCome}
-use Rattle.partition_replica.specs.Sound.{log_runs, runs_of, owners, AreApart, FreeTheirs, IsSound}
+use Rattle.partition_replica.specs.Sound.{log_runs, runs_of, owners, AreDisjointRuns, FreeTheirs, IsSoundReplica}
 use Rattle.partition_replica.proofs.Owners.{weight, has, held, found_most, written, count_log, count_all}
 use Rattle.partition_replica.proofs.Owners.{written-append, any_item, any_log, any_written, weight-in_run, freed_held}
 use Rattle.partition_replica.proofs.Owners.{settled_count, freed_owned, outside, none_outside, all_inside, none_behind}
@@ -31,13 +31,13 @@ use Rattle.partition_replica.proofs.Owners.{settled_count, freed_owned, outside,
 abbrev taken : Replica → ℕ → ℕ
 taken r a = held (in_run a) r.items + written (in_run a) r.log
 
-all_inside_space : (space : ℕ) (r : Replica) → IsSound space r → held (outside space) r.items + written (outside space) r.log ≡ 0
+all_inside_space : (space : ℕ) (r : Replica) → IsSoundReplica space r → held (outside space) r.items + written (outside space) r.log ≡ 0
 all_inside_space space r sound = sym (count_all (outside space) r.items r.log) ∙ none_outside space (runs_of r) sound.runs.inside
 
-taken_once : (space : ℕ) (r : Replica) → IsSound space r → (a : ℕ) → taken r a ≤ 1
+taken_once : (space : ℕ) (r : Replica) → IsSoundReplica space r → (a : ℕ) → taken r a ≤ 1
 taken_once space r sound a = omega (arith, count_all (in_run a) r.items r.log, sound.runs.apart a)
 
-taken_inside : (space : ℕ) (r : Replica) → IsSound space r → (a : ℕ) → 1 ≤ taken r a → a < space
+taken_inside : (space : ℕ) (r : Replica) → IsSoundReplica space r → (a : ℕ) → 1 ≤ taken r a → a < space
 taken_inside space r sound a some = decide (cases_lt a space) where
   decide : (a < space) ⊎ (space ≤ a) → a < space
   decide (inl below) = below
@@ -50,7 +50,7 @@ taken_inside space r sound a some = decide (cases_lt a space) where
       ))
 
 are_apart : (space : ℕ) (r : Replica) → held (outside space) r.items + written (outside space) r.log ≡ 0
-    → ((a : ℕ) → taken r a ≤ 1) → AreApart space (runs_of r)
+    → ((a : ℕ) → taken r a ≤ 1) → AreDisjointRuns space (runs_of r)
 are_apart space r inside once = record {
   inside = all_inside space (runs_of r) (count_all (outside space) r.items r.log ∙ inside);
   apart = λ a. omega (arith, count_all (in_run a) r.items r.log, once a);
@@ -61,12 +61,12 @@ one_test : (t f : Bool) (m n : ℕ) → (f ≡ true → 1 ≤ m + n) → (t && n
 one_test t true m n some = let one = some refl in grind (arith, nat_tests)
 one_test t false m n some = grind (arith, nat_tests)
 
-free_untaken : (space : ℕ) (r : Replica) → IsSound space r → (a : ℕ) → is_free space r a ≡ (nat_lt a space && (taken r a == 0))
+free_untaken : (space : ℕ) (r : Replica) → IsSoundReplica space r → (a : ℕ) → is_free space r a ≡ (nat_lt a space && (taken r a == 0))
 free_untaken space r sound a =
     rw (any_item (in_run a) r.items, any_written a r.log)
     (one_test (nat_lt a space) _ (held (in_run a) r.items) (written (in_run a) r.log) (freed_owned a r.items r.log sound.frees))
 
-pub sound_at_start : (space : ℕ) → IsSound space empty_replica
+pub sound_at_start : (space : ℕ) → IsSoundReplica space empty_replica
 sound_at_start space = record {
   runs = record { inside = All-nil (λ run. run.at + run.len ≤ space); apart = λ a. omega arith };
   frees = tt;
@@ -75,10 +75,10 @@ sound_at_start space = record {
 }
 
 -- in a sound replica the free addresses are those of the space that no run has
-pub free_unowned : (space : ℕ) (r : Replica) → IsSound space r → (a : ℕ) → is_free space r a ≡ (nat_lt a space && (owners a (runs_of r) == 0))
+pub free_unowned : (space : ℕ) (r : Replica) → IsSoundReplica space r → (a : ℕ) → is_free space r a ≡ (nat_lt a space && (owners a (runs_of r) == 0))
 free_unowned space r sound a = rw (count_all (in_run a) r.items r.log) (free_untaken space r sound a)
 
-free_is : (space : ℕ) (r : Replica) → IsSound space r → (a : ℕ) → is_free space r a ≡ true → taken r a ≡ 0
+free_is : (space : ℕ) (r : Replica) → IsSoundReplica space r → (a : ℕ) → is_free space r a ≡ true → taken r a ≡ 0
 free_is space r sound a free =
     let test : (nat_lt a space && (taken r a == 0)) ≡ true = sym (free_untaken space r sound a) ∙ free in
     grind (arith, nat_tests)
@@ -98,14 +98,14 @@ new_inside space (Put flags until run delta) writes = let le = writes.inside in 
 new_inside space Remove writes = refl
 new_inside space (Touch until) writes = refl
 
-module _ (space : ℕ) (r : Replica) (u : Update) (sound : IsSound space r) (can : CanCome space r u) where
+module _ (space : ℕ) (r : Replica) (u : Update) (sound : IsSoundReplica space r) (can : CanCome space r u) where
   new_once : (a : ℕ) → taken r a + weight (in_run a) (run_of u.body) ≤ 1
   new_once a = rw (weight-in_run a (run_of u.body)) (split (in_some_run a (run_of u.body)) refl) where
     split : (b : Bool) → in_some_run a (run_of u.body) ≡ b → taken r a + cond b 1 0 ≤ 1
     split true is = omega (arith, free_is space r sound a (new_free space r (run_of u.body) can.free a is))
     split false is = omega (arith, taken_once space r sound a)
 
-  pub sound_with : IsSound space (with_update u r)
+  pub sound_with : IsSoundReplica space (with_update u r)
   sound_with = record {
     runs = are_apart space (with_update u r)
         (omega (arith, written-append (outside space) r.log (u ∷ []), all_inside_space space r sound, new_inside space u.body can.writes))
@@ -128,13 +128,14 @@ module _ (space : ℕ) (r : Replica) (u : Update) (sound : IsSound space r) (can
         test t true i w = grind (arith, nat_tests)
         test t false i w = grind (arith, nat_tests)
 
-pub sound_with_all : (space : ℕ) (r : Replica) (us : List Update) → IsSound space r → AllCanCome space r us → IsSound space (with_log (r.log ++ us) r)
-sound_with_all space r [] sound can = subst (λ (l : List Update). IsSound space (with_log l r)) (sym (append-nil r.log)) sound
+pub sound_with_all : (space : ℕ) (r : Replica) (us : List Update) → IsSoundReplica space r → AllCanCome space r us
+    → IsSoundReplica space (with_log (r.log ++ us) r)
+sound_with_all space r [] sound can = subst (λ (l : List Update). IsSoundReplica space (with_log l r)) (sym (append-nil r.log)) sound
 sound_with_all space r (u ∷ us) sound can =
-    subst (λ (l : List Update). IsSound space (with_log l r)) (append_assoc r.log (u ∷ []) us)
+    subst (λ (l : List Update). IsSoundReplica space (with_log l r)) (append_assoc r.log (u ∷ []) us)
     (sound_with_all space (with_update u r) us (sound_with space r u sound can.0) can.1)
 
-pub sound_emptied : (space : ℕ) (r : Replica) → IsSound space r → IsSound space (with_log [] r)
+pub sound_emptied : (space : ℕ) (r : Replica) → IsSoundReplica space r → IsSoundReplica space (with_log [] r)
 sound_emptied space r sound = record {
   runs = are_apart space (with_log [] r) (omega (arith, all_inside_space space r sound)) (λ a. omega (arith, taken_once space r sound a));
   frees = tt;
@@ -143,17 +144,17 @@ sound_emptied space r sound = record {
 }
 
 -- the run of an item lies in the space
-pub item_inside : (space : ℕ) (r : Replica) → IsSound space r → (key : List ℕ) → IfSome (slot_in r.items key) (λ slot. slot.at + slot.len ≤ space)
+pub item_inside : (space : ℕ) (r : Replica) → IsSoundReplica space r → (key : List ℕ) → IfSome (slot_in r.items key) (λ slot. slot.at + slot.len ≤ space)
 item_inside space r sound key = inside (slot_in r.items key) (omega (arith, found_most (outside space) key r.items, all_inside_space space r sound)) where
   inside : (found : Option Slot) → has (outside space) found ≡ 0 → IfSome found (λ slot. slot.at + slot.len ≤ space)
   inside None none = tt
   inside (Some slot) none = grind (arith, nat_tests)
 
-pub log_inside : (space : ℕ) (r : Replica) → IsSound space r → All (λ run. run.at + run.len ≤ space) (log_runs r.log)
+pub log_inside : (space : ℕ) (r : Replica) → IsSoundReplica space r → All (λ run. run.at + run.len ≤ space) (log_runs r.log)
 log_inside space r sound = all_inside space (log_runs r.log) (omega (arith, count_log (outside space) r.log, all_inside_space space r sound))
 
 -- no address is in two runs of the log, and one that is free in none
-pub givable : (space : ℕ) (r : Replica) → IsSound space r → (a : ℕ) → owners a (log_runs r.log) ≤ (if is_free space r a then 0 else 1)
+pub givable : (space : ℕ) (r : Replica) → IsSoundReplica space r → (a : ℕ) → owners a (log_runs r.log) ≤ (if is_free space r a then 0 else 1)
 givable space r sound a = rw (count_log (in_run a) r.log) (split (is_free space r a) refl) where
   split : (b : Bool) → is_free space r a ≡ b → written (in_run a) r.log ≤ (if b then 0 else 1)
   split true is = omega (arith, free_is space r sound a is)
@@ -163,14 +164,14 @@ givable space r sound a = rw (count_log (in_run a) r.log) (split (is_free space 
 given_test : (a space i w : ℕ) → i + w ≤ 1 → (1 ≤ i + w → a < space) → (nat_lt a space && (i + 0 == 0)) ≡ ((nat_lt a space && (i + w == 0)) || not (w == 0))
 given_test a space i w once inside = grind (arith, nat_tests)
 
-pub free_emptied : (space : ℕ) (r : Replica) → IsSound space r → (a : ℕ) → is_free space (with_log [] r) a
+pub free_emptied : (space : ℕ) (r : Replica) → IsSoundReplica space r → (a : ℕ) → is_free space (with_log [] r) a
     ≡ (is_free space r a || list_any (in_run a) (log_runs r.log))
 free_emptied space r sound a =
     rw (free_untaken space (with_log [] r) (sound_emptied space r sound) a, free_untaken space r sound a, any_log (in_run a) r.log)
     (given_test a space (held (in_run a) r.items) (written (in_run a) r.log) (taken_once space r sound a) (taken_inside space r sound a))
 
 -- an address of the log's runs is free once the log is empty
-pub takeable : (space : ℕ) (r : Replica) (us : List Update) → IsSound space (with_log us r) → (a : ℕ)
+pub takeable : (space : ℕ) (r : Replica) (us : List Update) → IsSoundReplica space (with_log us r) → (a : ℕ)
     → owners a (log_runs us) ≤ (if is_free space (with_log [] r) a then 1 else 0)
 takeable space r us sound a =
     rw (count_log (in_run a) us, free_untaken space (with_log [] r) (sound_emptied space (with_log us r) sound) a)
@@ -178,7 +179,7 @@ takeable space r us sound a =
       test : (i w : ℕ) → i + w ≤ 1 → (1 ≤ i + w → a < space) → w ≤ (if nat_lt a space && (i + 0 == 0) then 1 else 0)
       test i w once inside = grind (arith, nat_tests)
 
-pub free_refilled : (space : ℕ) (r : Replica) (us : List Update) → IsSound space (with_log us r) → (a : ℕ)
+pub free_refilled : (space : ℕ) (r : Replica) (us : List Update) → IsSoundReplica space (with_log us r) → (a : ℕ)
     → is_free space (with_log us r) a ≡ (is_free space (with_log [] r) a && not (list_any (in_run a) (log_runs us)))
 free_refilled space r us sound a =
     rw (free_untaken space (with_log us r) sound a, free_untaken space (with_log [] r) (sound_emptied space (with_log us r) sound) a, any_log (in_run a) us)
@@ -218,13 +219,13 @@ settled_none r none =
     ∙ (λ i. record { items = r.items; applied = same i; log = sym none i; kept = r.kept })
 
 module _ (space : ℕ) (r : Replica) (u : Update) (us : List Update)
-    (sorted : T (entries.is_sorted (slice_cmp nat_cmp) r.items)) (is : r.log ≡ u ∷ us) (sound : IsSound space r) where
+    (sorted : T (entries.is_sorted (slice_cmp nat_cmp) r.items)) (is : r.log ≡ u ∷ us) (sound : IsSoundReplica space r) where
   -- the replica, its log written out
   abbrev whole : Replica
   whole = with_log (u ∷ us) r
 
-  whole_sound : IsSound space whole
-  whole_sound = subst (λ (l : List Update). IsSound space (with_log l r)) is sound
+  whole_sound : IsSoundReplica space whole
+  whole_sound = subst (λ (l : List Update). IsSoundReplica space (with_log l r)) is sound
 
   whole_free : (a : ℕ) → is_free space r a ≡ (nat_lt a space && (taken whole a == 0))
   whole_free a = ap (λ (l : List Update). is_free space (with_log l r) a) is ∙ free_untaken space whole whole_sound a
@@ -232,7 +233,7 @@ module _ (space : ℕ) (r : Replica) (u : Update) (us : List Update)
   count : (p : Run → Bool) → held p (item_settled u r.items) + weight p u.frees ≡ held p r.items + weight p (run_of u.body)
   count p = settled_count p u r.items sorted whole_sound.frees.0
 
-  first_sound : IsSound space (settled u us r)
+  first_sound : IsSoundReplica space (settled u us r)
   first_sound = record {
     runs = are_apart space (settled u us r)
         (omega (arith, count (outside space), all_inside_space space whole whole_sound))
@@ -242,7 +243,7 @@ module _ (space : ℕ) (r : Replica) (u : Update) (us : List Update)
     callers = All-tail (λ u. u.caller < callers) u us whole_sound.callers;
   }
 
-  pub sound_settled : IsSound space (applied_to (r.applied + 1) r)
+  pub sound_settled : IsSoundReplica space (applied_to (r.applied + 1) r)
   sound_settled = rw (settled_first r u us is) first_sound
 
   pub free_settled : (a : ℕ) → is_free space (applied_to (r.applied + 1) r) a ≡ (is_free space r a || in_some_run a u.frees)

@@ -31,8 +31,8 @@ abbrev pub is_returned : Bool → ℕ → List Update → ℕ → Bool
 is_returned drops n log a = list_any (λ u. in_some_run a (returned_by drops n u)) log
 
 -- the run of the item on a key
-abbrev pub run_on : Items → List ℕ → Option Run
-run_on items key = option_map run_in (slot_in items key)
+abbrev pub item_run_on : Items → List ℕ → Option Run
+item_run_on items key = option_map run_in (slot_in items key)
 
 -- the run that an update leaves, from the one that the item on its key had
 abbrev pub run_after : Body → Option Run → Option Run
@@ -69,5 +69,5 @@ abbrev pub IsClearOf : Option Run → List Update → Type 0
 IsClearOf run us = (a : ℕ) → in_some_run a run ≡ true → list_any (in_run a) (log_runs us) ≡ false
 
 -- no address is in both
-abbrev pub AreClear : Option Run → Option Run → Type 0
-AreClear x y = (a : ℕ) → in_some_run a x ≡ true → in_some_run a y ≡ false
+abbrev pub ShareNoAddress : Option Run → Option Run → Type 0
+ShareNoAddress x y = (a : ℕ) → in_some_run a x ≡ true → in_some_run a y ≡ false

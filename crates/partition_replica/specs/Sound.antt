@@ -31,7 +31,7 @@ abbrev pub owners : ℕ → List Run → ℕ
 owners a runs = count_by (in_run a) runs
 
 -- each run lies in the space, and no address in two of them
-pub record AreApart (space : ℕ) (runs : List Run) : Type 0 where
+pub record AreDisjointRuns (space : ℕ) (runs : List Run) : Type 0 where
   pub inside : All (λ run. run.at + run.len ≤ space) runs
   pub apart : (a : ℕ) → owners a runs ≤ 1
 
@@ -40,8 +40,8 @@ abbrev pub FreeTheirs : Items → List Update → Type 0
 FreeTheirs items [] = ⊤
 FreeTheirs items (u ∷ us) = (u.frees ≡ freed_by u.body (slot_in items u.key)) × FreeTheirs (item_settled u items) us
 
-pub record IsSound (space : ℕ) (r : Replica) : Type 0 where
-  pub runs : AreApart space (runs_of r)
+pub record IsSoundReplica (space : ℕ) (r : Replica) : Type 0 where
+  pub runs : AreDisjointRuns space (runs_of r)
   pub frees : FreeTheirs r.items r.log
   pub writes : All (λ u. Writes space u.body) r.log
   pub callers : All (λ u. u.caller < callers) r.log

@@ -14,7 +14,7 @@ pub record Room : Type 0 where
   pub ready : List (List ℕ)
 
 -- the group's shape, the machine's replica, and the room beside it
-pub record State : Type 0 where
+pub record ReplicaState : Type 0 where
   pub shape : Dimensions
   pub replica : Replica
   pub room : Room
@@ -42,5 +42,5 @@ abbrev pub is_needed : Items → List Update → List ℕ → Bool
 is_needed items log key = is_some (slot_in items key) || is_some (number_on log key)
 
 -- each key that is ready is needed, or owed: a process has to tidy it yet
-abbrev pub IsTidyBut : State → (List ℕ → Bool) → Type 0
+abbrev pub IsTidyBut : ReplicaState → (List ℕ → Bool) → Type 0
 IsTidyBut s owed = (q : List ℕ) → is_among s.room.ready q ≡ true → (is_needed s.replica.items s.replica.log q || owed q) ≡ true

@@ -2,7 +2,7 @@
 ghost use Rattle.std.specs.Prelude.{◌↔◌, ◌≡◌, ℕ, true, false, IsTrue};
 ghost use Rattle.std.specs.List.{list_any};
 ghost use Rattle.group_run.specs.Free.{in_run, in_some_run};
-ghost use Rattle.partition_replica.specs.Coming.{AreClear, IsClearOf};
+ghost use Rattle.partition_replica.specs.Coming.{IsClearOf, ShareNoAddress};
 ghost use Rattle.partition_replica.specs.Sound.{log_runs};
 
 use crate::runs::run_of;
@@ -22,7 +22,7 @@ pub fn is_clear_of(run: Option<Run>, updates: &[Update]) -> bool
 }
 
 fn are_clear(one: Option<Run>, other: Option<Run>) -> bool
-    ensures { IsTrue result ↔ AreClear one other }
+    ensures { IsTrue result ↔ ShareNoAddress one other }
 {
     match (one, other) {
         (Some(one), Some(other)) => !do_meet(one, other),

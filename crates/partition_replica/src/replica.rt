@@ -36,9 +36,9 @@ pub struct Replica {
 }
 
 impl Model for Replica {
-    ghost use Rattle.partition_replica.specs.State.{State};
+    ghost use Rattle.partition_replica.specs.State.{ReplicaState};
 
-    ghost Value = { State };
+    ghost Value = { ReplicaState };
 
     ghost use Rattle.partition_replica.specs.Inside.{state_in, PartsAgree};
 

@@ -18,19 +18,19 @@ use Rattle.group_run.specs.Deciding.{decide}
 use Rattle.group_run.specs.Process.{Head, Held, Process}
 use Rattle.group_run.specs.Replica.{Replica, empty_replica}
 use Rattle.head_service.specs.Acting.{HeadStep, IsMade, acts}
-use Rattle.head_service.specs.Laws.{ArePeers, Heads, decided}
+use Rattle.head_service.specs.Laws.{ArePeers, HeadsPartition, decided}
 use Rattle.head_service.specs.Serving.{Serving, serving}
 use Rattle.head_service.specs.declared.ask.Asking.{Asking}
 use Rattle.head_service.specs.declared.ask.Asking.TheVariants.{Done, Need}
 use Rattle.head_service.specs.declared.peers.Peers.{Peers}
 use Rattle.head_service.specs.declared.step.CallStep.{CallStep}
 use Rattle.head_service.proofs.Machine.{asks_are_the_machines}
-use Rattle.process_service.specs.Steps.{IsAsked}
+use Rattle.process_service.specs.Steps.{IsCallAsked}
 use Rattle.process_service.proofs.Whole.{needs_none}
 
 -- nobody heads the partition here
 pub moved : (s : Dimensions) (name : CallName) (op : Asked) (p : Process) (step : CallStep) → at None p.heads (home_of (key_of op.act) s.k) ≡ None
-    → step.answer ≡ says.Moved → step.sent.items ≡ [] → step.settled.items ≡ [] → IsAsked s name op p (Done step) p
+    → step.answer ≡ says.Moved → step.sent.items ≡ [] → step.settled.items ≡ [] → IsCallAsked s name op p (Done step) p
 moved s name op p step none answer sent settled =
     rw (answer, sent, settled) (ap (ask_head s name op (home_of (key_of op.act) s.k) p) none)
 
@@ -49,9 +49,9 @@ module _ (s : Dimensions) (v : Serving) (b : Process) (peers : Peers) (h : Head)
   needs_parity (DataNode e) block is = absurd (needs_none (space_of s) r op (λ run. bytes_at run.at run.len b.space) h.inherited block is)
   needs_parity (ParityNode i) block is = (i, refl)
 
-  pub asked-is : ArePeers s v b peers → Heads v d h r → (asked : Asking) (r2 : Replica) (held : List Held) (b2 : Process)
+  pub asked-is : ArePeers s v b peers → HeadsPartition v d h r → (asked : Asking) (r2 : Replica) (held : List Held) (b2 : Process)
       → IsMade s (decided s d h op r b) (acts s d peers h name op r calls b (decided s d h op r b)) asked r2 held b2
-      → IsAsked s name op (serving v b) asked (thus r2 held b2)
+      → IsCallAsked s name op (serving v b) asked (thus r2 held b2)
   asked-is are heads (Done step) r2 held b2 made =
       rw (made.0.replica, made.0.held, made.0.bytes, made.0.sent, made.0.settled, made.0.answer)
       (asks_are_the_machines s v b peers h r name op are heads made.1)
@@ -73,11 +73,11 @@ module _ (s : Dimensions) (v : Serving) (b : Process) (peers : Peers) (h : Head)
       )
 
   -- the same, where the partition is known by another name
-  pub asked-at : (e : ℕ) → e ≡ d → ArePeers s v b peers → Heads v e h r → (asked : Asking) (r2 : Replica) (held : List Held) (b2 : Process)
+  pub asked-at : (e : ℕ) → e ≡ d → ArePeers s v b peers → HeadsPartition v e h r → (asked : Asking) (r2 : Replica) (held : List Held) (b2 : Process)
       → IsMade s (decided s e h op r b) (acts s e peers h name op r (at [] v.held e) b (decided s e h op r b)) asked r2 held b2
-      → IsAsked s name op (serving v b) asked (serving (record v { replicas = put empty_replica v.replicas e r2; held = put [] v.held e held }) b2)
-  asked-at e same = subst (λ (e : ℕ). ArePeers s v b peers → Heads v e h r → (asked : Asking) (r2 : Replica) (held : List Held) (b2 : Process)
+      → IsCallAsked s name op (serving v b) asked (serving (record v { replicas = put empty_replica v.replicas e r2; held = put [] v.held e held }) b2)
+  asked-at e same = subst (λ (e : ℕ). ArePeers s v b peers → HeadsPartition v e h r → (asked : Asking) (r2 : Replica) (held : List Held) (b2 : Process)
       → IsMade s (decided s e h op r b) (acts s e peers h name op r (at [] v.held e) b (decided s e h op r b)) asked r2 held b2
-      → IsAsked s name op (serving v b) asked
+      → IsCallAsked s name op (serving v b) asked
       (serving (record v { replicas = put empty_replica v.replicas e r2; held = put [] v.held e held }) b2))
       (sym same) asked-is

@@ -7,7 +7,7 @@ use Rattle.group_run.specs.Applying.{ProcessStep, Settlement, bytes_after, head_
 use Rattle.group_run.specs.Heading.{acknowledge, acknowledged, judge, settlements}
 use Rattle.group_run.specs.Process.{Head, Process}
 use Rattle.group_run.specs.Replica.{Replica, applied_to, empty_replica, last_of, up_to}
-use Rattle.head_service.specs.Laws.{ArePeers, Heads}
+use Rattle.head_service.specs.Laws.{ArePeers, HeadsPartition}
 use Rattle.head_service.specs.Peers.{settles}
 use Rattle.head_service.specs.Serving.{Serving, serving}
 use Rattle.head_service.specs.declared.peers.Peers.{Peers}
@@ -27,7 +27,7 @@ module _ (s : Dimensions) (v : Serving) (b : Process) (i rank d n : ℕ) where
         ap (λ (same : Bool). when same (serving v b)
         (judge s d (serving (record v { heads = put None v.heads d (Some (acknowledged i n h)) }) b))) other
 
-  pub counted : (peers : Peers) (h : Head) (r : Replica) → ArePeers s v b peers → Heads v d h r → (rank == h.rank) ≡ true
+  pub counted : (peers : Peers) (h : Head) (r : Replica) → ArePeers s v b peers → HeadsPartition v d h r → (rank == h.rank) ≡ true
       → (h2 : Head) (r2 : Replica) (b2 : Process) (settled : List Settlement) → h2 ≡ acknowledged i n h
       → r2 ≡ applied_to (settles peers (acknowledged i n h) (last_of r)) r → b2 ≡ bytes_after s d (up_to (settles peers (acknowledged i n h) (last_of r)) r) b
       → settled ≡ settlements d (up_to (settles peers (acknowledged i n h) (last_of r)) r)

@@ -11,7 +11,7 @@ use Rattle.group_run.specs.Applying.{ProcessStep, Settlement, bytes_after}
 use Rattle.group_run.specs.Heading.{judge, judge_head, settlements}
 use Rattle.group_run.specs.Process.{Head, Process}
 use Rattle.group_run.specs.Replica.{Replica, applied_to, empty_replica, last_of, up_to}
-use Rattle.head_service.specs.Laws.{ArePeers, Heads}
+use Rattle.head_service.specs.Laws.{ArePeers, HeadsPartition}
 use Rattle.head_service.specs.Peers.{settles}
 use Rattle.head_service.specs.Serving.{Serving, serving}
 use Rattle.head_service.specs.declared.peers.Peers.{Peers}
@@ -19,7 +19,7 @@ use Rattle.head_service.proofs.Machine.{judges_are_the_machines}
 use Rattle.process_service.specs.Noticing.{waiting}
 use Rattle.process_service.specs.Steps.{HasMade}
 
-pub judged-made : (s : Dimensions) (v : Serving) (b : Process) (peers : Peers) (d : ℕ) (h : Head) (r : Replica) → ArePeers s v b peers → Heads v d h r
+pub judged-made : (s : Dimensions) (v : Serving) (b : Process) (peers : Peers) (d : ℕ) (h : Head) (r : Replica) → ArePeers s v b peers → HeadsPartition v d h r
     → (r2 : Replica) (b2 : Process) (before after : List Settlement) → r2 ≡ applied_to (settles peers h (last_of r)) r
     → b2 ≡ bytes_after s d (up_to (settles peers h (last_of r)) r) b → after ≡ before ++ settlements d (up_to (settles peers h (last_of r)) r)
     → HasMade (judge s d (serving v b)) before (serving (record v { replicas = put empty_replica v.replicas d r2 }) b2) after

@@ -12,13 +12,13 @@ use Rattle.group_run.specs.Applying.{Settlement, bytes_after}
 use Rattle.group_run.specs.Heading.{settlements}
 use Rattle.group_run.specs.Process.{Head}
 use Rattle.group_run.specs.Replica.{Replica, applied_to, empty_replica, up_to}
-use Rattle.partition_replica.specs.State.{IsTidyBut, State}
-use Rattle.head_service.specs.Laws.{Heads}
-use Rattle.head_service.specs.Seat.{IsSeat}
+use Rattle.partition_replica.specs.State.{IsTidyBut, ReplicaState}
+use Rattle.head_service.specs.Laws.{HeadsPartition}
+use Rattle.head_service.specs.Seat.{IsWholeSeat}
 use Rattle.head_service.specs.Serving.{Serving}
 use Rattle.head_service.specs.Storage.{MakesReady, StaysReady, Storage}
 use Rattle.process_service.specs.Noticing.{waiting}
-use Rattle.process_service.specs.Standing.{GrowsOver, IsBeneath, IsKept, StaysOver}
+use Rattle.process_service.specs.Standing.{GrowsOver, IsBeneath, IsServingState, StaysOver}
 use Rattle.process_service.specs.contracts.service.Service.{the_view}
 use Rattle.process_service.specs.declared.service.Service.TheInside.{Inside}
 use Rattle.process_service.proofs.Judged.{one-waits, room-kept, settled-long}
@@ -28,11 +28,12 @@ use Rattle.process_service.proofs.Standing.{AreKept, after-as, standing-next}
 -- each list that the process keeps has a place for the partition
 pub record HasPlace (inside : Inside) (now : Serving) (d : ℕ) : Type 0 where
   pub view : the_view inside ≡ now
-  pub kept : IsKept inside.shape inside.name inside.known inside.replicas.items (length inside.ranks.items) inside.heads.items (length inside.held.items)
+  pub kept : IsServingState inside.shape inside.name inside.known inside.replicas.items (length inside.ranks.items) inside.heads.items
+      (length inside.held.items)
   pub below : d < now.shape.k
 
 -- this is the replica at that place
-pub record IsLent (inside : Inside) (now : Serving) (d : ℕ) (state : State) : Type 0 where
+pub record IsLent (inside : Inside) (now : Serving) (d : ℕ) (state : ReplicaState) : Type 0 where
   pub place : HasPlace inside now d
   pub entry : state ≡ slice_index_or inside.replicas.items d state
 
@@ -62,19 +63,19 @@ module _ {inside : Inside} {now : Serving} {d : ℕ} (place : HasPlace inside no
   ranks-put x = part-put (λ (y : Rank). y.0) 0 inside.ranks.items d x (omega (arith, narrow, place.kept.ranks_long))
       ∙ ap (λ (w : Serving). put 0 w.ranks d x.0) place.view
 
-module _ {inside : Inside} {now : Serving} {d : ℕ} {state : State} (lent : IsLent inside now d state) where
+module _ {inside : Inside} {now : Serving} {d : ℕ} {state : ReplicaState} (lent : IsLent inside now d state) where
   pub within : d < length inside.replicas.items
   within = omega (arith, narrow lent.place, lent.place.kept.replicas_long)
 
   pub here : at empty_replica now.replicas d ≡ state.replica
   here = ap (λ (w : Serving). at empty_replica w.replicas d) (sym lent.place.view)
-      ∙ part-at (λ (x : State). x.replica) empty_replica inside.replicas.items d state within lent.entry
+      ∙ part-at (λ (x : ReplicaState). x.replica) empty_replica inside.replicas.items d state within lent.entry
 
   pub same-shape : state.shape ≡ inside.shape
-  same-shape = ap (λ (x : State). x.shape) lent.entry ∙ lent.place.kept.shapes d state within
+  same-shape = ap (λ (x : ReplicaState). x.shape) lent.entry ∙ lent.place.kept.shapes d state within
 
   pub has-replica : d < length now.replicas
-  has-replica = omega (arith, within, long-map (λ (x : State). x.replica) inside.replicas.items, ap (λ (w : Serving). length w.replicas) lent.place.view)
+  has-replica = omega (arith, within, long-map (λ (x : ReplicaState). x.replica) inside.replicas.items, ap (λ (w : Serving). length w.replicas) lent.place.view)
 
   -- what holds of the shape and of the partition's replica holds of what is lent
   pub lends : (P : Dimensions → Replica → Type 0) → P now.shape (at empty_replica now.replicas d) → P state.shape state.replica
@@ -85,7 +86,7 @@ module _ {inside : Inside} {now : Serving} {d : ℕ} {state : State} (lent : IsL
   view-shape = ap (λ (w : Serving). w.shape) lent.place.view
 
   -- so it is a head's seat
-  pub seat-of : {b : Storage} → IsBeneath now b → IsSeat d state b
+  pub seat-of : {b : Storage} → IsBeneath now b → IsWholeSeat d state b
   seat-of {b} is = record {
     stands = record {
       partition = subst (λ (x : Dimensions). d < x.k) (sym is.shape) lent.place.below;
@@ -93,14 +94,14 @@ module _ {inside : Inside} {now : Serving} {d : ℕ} {state : State} (lent : IsL
       blocks = omega (arith, lent.place.below, is.blocks);
       ready = subst (λ (x : Replica). All (b.is_ready d) x.log) here (is.ready d lent.place.below);
     };
-    tidy = subst (λ (x : State). IsTidyBut x (λ _. false)) (sym lent.entry) (lent.place.kept.tidy d state within);
+    tidy = subst (λ (x : ReplicaState). IsTidyBut x (λ _. false)) (sym lent.entry) (lent.place.kept.tidy d state within);
   }
 
   -- and what sits there after a step is of the shape that is kept
-  pub shape-after : {b c : Storage} → IsBeneath now b → (t : State) → IsSeat d t c → c.shape ≡ b.shape → t.shape ≡ inside.shape
+  pub shape-after : {b c : Storage} → IsBeneath now b → (t : ReplicaState) → IsWholeSeat d t c → c.shape ≡ b.shape → t.shape ≡ inside.shape
   shape-after is t seat same = sym seat.stands.shape ∙ same ∙ is.shape ∙ sym view-shape
 
-  pub heads-as : (h : Head) → at None now.heads d ≡ Some h → Heads now d h state.replica
+  pub heads-as : (h : Head) → at None now.heads d ≡ Some h → HeadsPartition now d h state.replica
   heads-as h is = record {
     head = is;
     replica = here;
@@ -115,23 +116,23 @@ module _ {inside : Inside} {now : Serving} {d : ℕ} {state : State} (lent : IsL
   }
 
   -- what the process keeps with another replica at that place
-  abbrev pub written : State → Serving
-  written t = record (the_view inside) { replicas = map (λ (x : State). x.replica) (set inside.replicas.items d t) }
+  abbrev pub written : ReplicaState → Serving
+  written t = record (the_view inside) { replicas = map (λ (x : ReplicaState). x.replica) (set inside.replicas.items d t) }
 
-  pub put-back : (t : State) → written t ≡ record now { replicas = put empty_replica now.replicas d t.replica }
+  pub put-back : (t : ReplicaState) → written t ≡ record now { replicas = put empty_replica now.replicas d t.replica }
   put-back t = ap (λ (rs : List Replica). record (the_view inside) { replicas = rs })
-      (part-put (λ (x : State). x.replica) empty_replica inside.replicas.items d t within)
+      (part-put (λ (x : ReplicaState). x.replica) empty_replica inside.replicas.items d t within)
       ∙ ap (λ (w : Serving). record w { replicas = put empty_replica w.replicas d t.replica }) lent.place.view
 
-  pub put-same : (t : State) → t.replica ≡ state.replica → written t ≡ now
+  pub put-same : (t : ReplicaState) → t.replica ≡ state.replica → written t ≡ now
   put-same t same = put-back t ∙ ap (λ (rs : List Replica). record now { replicas = rs })
       (ap (put empty_replica now.replicas d) (same ∙ sym here) ∙ put-at empty_replica empty_replica now.replicas d has-replica)
 
   -- what the process keeps with another replica, rank and head at that place
-  abbrev pub headed : State → Rank → Option Head → Serving
+  abbrev pub headed : ReplicaState → Rank → Option Head → Serving
   headed t rank head = record (written t) { ranks = map (λ (x : Rank). x.0) (set inside.ranks.items d rank); heads = set inside.heads.items d head }
 
-  pub headed-is : (t : State) (rank : Rank) (h : Head) → rank.0 ≡ h.rank
+  pub headed-is : (t : ReplicaState) (rank : Rank) (h : Head) → rank.0 ≡ h.rank
       → headed t rank (Some h) ≡ record now {
         replicas = put empty_replica now.replicas d t.replica;
         ranks = put 0 now.ranks d h.rank;
@@ -143,14 +144,15 @@ module _ {inside : Inside} {now : Serving} {d : ℕ} {state : State} (lent : IsL
       ∙ ap (λ (hs : List (Option Head)). record (written t) { ranks = put 0 now.ranks d h.rank; heads = hs }) (heads-put lent.place (Some h))
       ∙ ap (λ (w : Serving). record w { ranks = put 0 now.ranks d h.rank; heads = put None now.heads d (Some h) }) (put-back t)
 
-  pub stands : {b c : Storage} → IsBeneath now b → (t : State) → c.shape ≡ b.shape → AreKept b.process c.process
+  pub stands : {b c : Storage} → IsBeneath now b → (t : ReplicaState) → c.shape ≡ b.shape → AreKept b.process c.process
       → All (c.is_ready d) t.replica.log → ((e : ℕ) (u : Update) → b.is_ready e u → c.is_ready e u) → IsBeneath (written t) c
   stands {b} {c} is t shape kept log others =
       subst (λ (w : Serving). IsBeneath w c) (sym (put-back t))
       (standing-next now b is (record now { replicas = put empty_replica now.replicas d t.replica }) c d t.replica refl refl refl shape kept log others)
 
   -- a step for the partition is one of the process
-  pub stays-over : {b c : Storage} → IsBeneath now b → (t : State) → IsSeat d t c → AreKept b.process c.process → StaysReady b c → StaysOver now (written t) b c
+  pub stays-over : {b c : Storage} → IsBeneath now b → (t : ReplicaState) → IsWholeSeat d t c → AreKept b.process c.process → StaysReady b c
+      → StaysOver now (written t) b c
   stays-over is t seat kept stays = record {
     shape = view-shape;
     name = ap (λ (w : Serving). w.name) lent.place.view;
@@ -158,7 +160,7 @@ module _ {inside : Inside} {now : Serving} {d : ℕ} {state : State} (lent : IsL
     pages = stays.pages;
   }
 
-  pub grows-over : {IsMissed : ℕ → Type 0} {b c : Storage} → IsBeneath now b → (t : State) → IsSeat d t c
+  pub grows-over : {IsMissed : ℕ → Type 0} {b c : Storage} → IsBeneath now b → (t : ReplicaState) → IsWholeSeat d t c
       → AreKept b.process c.process → MakesReady IsMissed b c
       → GrowsOver IsMissed now (written t) b c
   grows-over is t seat kept makes = record {
@@ -185,7 +187,7 @@ module _ {inside : Inside} {now : Serving} {d : ℕ} {state : State} (lent : IsL
       = sym (length-append (take behind state.replica.log) (drop behind state.replica.log)) ∙ ap length (take-append-drop behind state.replica.log) in
       omega (arith, waits-in, whole)
 
-  pub room-left : (n : ℕ) (t : State) (long long2 room room2 : ℕ) (before after : List Settlement) → t.replica ≡ applied_to n state.replica
+  pub room-left : (n : ℕ) (t : ReplicaState) (long long2 room room2 : ℕ) (before after : List Settlement) → t.replica ≡ applied_to n state.replica
       → after ≡ before ++ settlements d (up_to n state.replica) → long ≡ length before → long2 ≡ length after → room ≤ room2
       → long + waiting now.replicas ≤ room → long2 + waiting (written t).replicas ≤ room2
   room-left n t long long2 room room2 before after is settled was grown wider fits =

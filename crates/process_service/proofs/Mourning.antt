@@ -15,7 +15,7 @@ use Rattle.group_run.specs.Receiving.{take_over_if, taken_over, takes_over}
 use Rattle.group_run.specs.Replica.{Replica, empty_replica}
 use Rattle.group_run.specs.Rows.{parity_number}
 use Rattle.head_service.specs.Serving.{Serving}
-use Rattle.process_service.specs.Noticing.{adoption_if, adoptions, heir_at, heir_if, heirs, is_due, is_taken}
+use Rattle.process_service.specs.Noticing.{adoption_if, adoptions, heir_at, heir_if, heirs, is_due, is_taken_over}
 use Rattle.process_service.specs.Steps.{after_mourning}
 
 module _ (s : Dimensions) where
@@ -95,7 +95,7 @@ module _ (s : Dimensions) where
   take-sent-when d p true =
       ap (λ (xs : List Sent). told p d true ++ xs) (judge-sent d _) ∙ append-nil (told p d true)
 
-  take-sent : (d : ℕ) (p : Process) → (take_over_if s d p).sent ≡ told p d (is_taken (view p) d)
+  take-sent : (d : ℕ) (p : Process) → (take_over_if s d p).sent ≡ told p d (is_taken_over (view p) d)
   take-sent d p = take-sent-when d p (takes_over p d p.name) ∙ ap (told p d) (due-is p d p.name)
 
   take-same-when : (d : ℕ) (p : Process) (due : Bool) → IsSameBut d p (when due p (taken_over s d p)).process
@@ -114,9 +114,9 @@ module _ (s : Dimensions) where
   take-same d p = take-same-when d p (takes_over p d p.name)
 
   -- what is told of a partition, where another one changed
-  told-same : (d e : ℕ) (p q : Process) → e ≢ d → IsSameBut d p q → told q e (is_taken (view q) e) ≡ told p e (is_taken (view p) e)
+  told-same : (d e : ℕ) (p q : Process) → e ≢ d → IsSameBut d p q → told q e (is_taken_over (view q) e) ≡ told p e (is_taken_over (view p) e)
   told-same d e p q other same =
-      ap (λ (x : Replica). adoption_if (is_taken (view q) e) s q.known q.name e x) (same.other e other)
+      ap (λ (x : Replica). adoption_if (is_taken_over (view q) e) s q.known q.name e x) (same.other e other)
       ∙ ap (λ (x : Option Head). adoption_if (is_due q.known q.name e x) s q.known q.name e (replica p e)) (same.head e other)
       ∙ ap (λ (x : Membership). adoption_if (is_due x q.name e (at None p.heads e)) s x q.name e (replica p e)) same.known
       ∙ ap (λ (x : ProcessId). adoption_if (is_due p.known x e (at None p.heads e)) s p.known x e (replica p e)) same.name
@@ -124,7 +124,7 @@ module _ (s : Dimensions) where
   -- nor does its new head change
   pub heir-same : (d e : ℕ) (p q : Process) → e ≢ d → IsSameBut d p q → heir_at (view q) e ≡ heir_at (view p) e
   heir-same d e p q other same =
-      ap (λ (x : Replica). heir_if (is_taken (view q) e) s q.name x) (same.other e other)
+      ap (λ (x : Replica). heir_if (is_taken_over (view q) e) s q.name x) (same.other e other)
       ∙ ap (λ (x : Option Head). heir_if (is_due q.known q.name e x) s q.name (replica p e)) (same.head e other)
       ∙ ap (λ (x : Membership). heir_if (is_due x q.name e (at None p.heads e)) s q.name (replica p e)) same.known
       ∙ ap (λ (x : ProcessId). heir_if (is_due p.known x e (at None p.heads e)) s x (replica p e)) same.name
@@ -133,18 +133,18 @@ module _ (s : Dimensions) where
   told-later d zero a p q later same = refl
   told-later d (suc n) a p q later same =
       ap (λ (xs : List Sent). xs ++ adoptions (view q) (range_with_len (a + 1) n)) (told-same d a p q (λ (is : a ≡ d). absurd (omega (arith, is, later))) same)
-      ∙ ap (λ (xs : List Sent). told p a (is_taken (view p) a) ++ xs) (told-later d n (a + 1) p q (omega (arith, later)) same)
+      ∙ ap (λ (xs : List Sent). told p a (is_taken_over (view p) a) ++ xs) (told-later d n (a + 1) p q (omega (arith, later)) same)
 
   takes-sent : (n a : ℕ) (p : Process) → (for_each (range_with_len a n) (take_over_if s) p).sent ≡ adoptions (view p) (range_with_len a n)
   takes-sent zero a p = refl
   takes-sent (suc n) a p =
       let q : Process = (take_over_if s a p).process in
       ap (λ (xs : List Sent). xs ++ (for_each (range_with_len (a + 1) n) (take_over_if s) q).sent) (take-sent a p)
-      ∙ ap (λ (xs : List Sent). told p a (is_taken (view p) a) ++ xs)
+      ∙ ap (λ (xs : List Sent). told p a (is_taken_over (view p) a) ++ xs)
       (takes-sent n (a + 1) q ∙ told-later a n (a + 1) p q (omega arith) (take-same a p))
 
   -- judging leaves what is told
-  judged-due : (e : ℕ) (p q : Process) → KeepsUnheaded p q → is_taken (view q) e ≡ is_taken (view p) e
+  judged-due : (e : ℕ) (p q : Process) → KeepsUnheaded p q → is_taken_over (view q) e ≡ is_taken_over (view p) e
   judged-due e p q keeps =
       ap (λ (hs : List (Option Head)). is_due q.known q.name e (at None hs e)) keeps.heads
       ∙ ap (λ (x : Membership). is_due x q.name e (at None p.heads e)) keeps.known
@@ -155,9 +155,9 @@ module _ (s : Dimensions) where
   due-unheaded known (ParityNode i) d None is = refl
   due-unheaded known (ParityNode i) d (Some h) is = absurd (cc is)
 
-  judged-told : (e : ℕ) (p q : Process) → KeepsUnheaded p q → told q e (is_taken (view q) e) ≡ told p e (is_taken (view p) e)
-  judged-told e p q keeps = ap (told q e) (judged-due e p q keeps) ∙ by (is_taken (view p) e) refl where
-    by : (due : Bool) → is_taken (view p) e ≡ due → told q e due ≡ told p e due
+  judged-told : (e : ℕ) (p q : Process) → KeepsUnheaded p q → told q e (is_taken_over (view q) e) ≡ told p e (is_taken_over (view p) e)
+  judged-told e p q keeps = ap (told q e) (judged-due e p q keeps) ∙ by (is_taken_over (view p) e) refl where
+    by : (due : Bool) → is_taken_over (view p) e ≡ due → told q e due ≡ told p e due
     by false is = refl
     by true is =
         ap (λ (x : Replica). adoption_if true s q.known q.name e x) (keeps.unheaded e (due-unheaded p.known p.name e (at None p.heads e) is))
@@ -168,7 +168,7 @@ module _ (s : Dimensions) where
   judged-adoptions [] p q keeps = refl
   judged-adoptions (d ∷ ds) p q keeps =
       ap (λ (xs : List Sent). xs ++ adoptions (view q) ds) (judged-told d p q keeps)
-      ∙ ap (λ (xs : List Sent). told p d (is_taken (view p) d) ++ xs) (judged-adoptions ds p q keeps)
+      ∙ ap (λ (xs : List Sent). told p d (is_taken_over (view p) d) ++ xs) (judged-adoptions ds p q keeps)
 
   -- so a notice sends what was made for it
   pub mourned-sent : (p : Process) → (after_mourning s p).sent ≡ adoptions (view p) (range_with_len 0 s.k)
@@ -180,8 +180,8 @@ module _ (s : Dimensions) where
 
   -- judging leaves the new heads
   judged-heir : (e : ℕ) (p q : Process) → KeepsUnheaded p q → heir_at (view q) e ≡ heir_at (view p) e
-  judged-heir e p q keeps = ap (λ (due : Bool). heir_if due s q.name (replica q e)) (judged-due e p q keeps) ∙ by (is_taken (view p) e) refl where
-    by : (due : Bool) → is_taken (view p) e ≡ due → heir_if due s q.name (replica q e) ≡ heir_if due s p.name (replica p e)
+  judged-heir e p q keeps = ap (λ (due : Bool). heir_if due s q.name (replica q e)) (judged-due e p q keeps) ∙ by (is_taken_over (view p) e) refl where
+    by : (due : Bool) → is_taken_over (view p) e ≡ due → heir_if due s q.name (replica q e) ≡ heir_if due s p.name (replica p e)
     by false is = refl
     by true is =
         ap (heir_if true s q.name) (keeps.unheaded e (due-unheaded p.known p.name e (at None p.heads e) is))

@@ -17,7 +17,7 @@ use Rattle.memc_table.specs.Asked.{Asked}
 use Rattle.head_service.specs.Acting.{IsMade, acts, next_update}
 use Rattle.head_service.specs.Laws.{ArePeers}
 use Rattle.head_service.specs.Peers.{settles}
-use Rattle.partition_replica.specs.State.{State}
+use Rattle.partition_replica.specs.State.{ReplicaState}
 use Rattle.head_service.specs.Seat.{ChangesOnlyRoom}
 use Rattle.head_service.specs.Serving.{Serving}
 use Rattle.head_service.specs.Settling.{HasSettled}
@@ -74,8 +74,8 @@ module _ (v : Serving) (b : Storage) (is : IsBeneath v b) where
 
 -- the bytes of a head's step
 pub made-kept : {E : Type 0} (s : Dimensions) (d : ℕ) (peers : Peers) (h : Head) (name : CallName) (op : Asked)
-    (r : State) (held : List Held) (b c : Storage) (decision : Decision)
-    → d < length b.process.as_leader.rebuilt → (result : Result Asking E) (r2 : State) (held2 : List Held)
+    (r : ReplicaState) (held : List Held) (b c : Storage) (decision : Decision)
+    → d < length b.process.as_leader.rebuilt → (result : Result Asking E) (r2 : ReplicaState) (held2 : List Held)
     → IfOk result (λ asked. IsMade s decision (acts b.shape d peers h name op r.replica held b.process decision) asked r2.replica held2 c.process)
     → OnErr result ((held2 ≡ held) × ChangesOnlyRoom r r2 b c) → AreKept b.process c.process
 made-kept s d peers h name op r held b c decision within (Ok (Done step)) r2 held2 made err =
@@ -85,7 +85,7 @@ made-kept s d peers h name op r held b c decision within (Ok (Need block)) r2 he
 made-kept s d peers h name op r held b c decision within (Err e) r2 held2 made err = same-as b.process c.process err.1.process
 
 -- the bytes of a step that settles up to a number, or wants memory
-pub settled-kept : {T E : Type 0} (d n : ℕ) (r s : State) (b c : Storage) (h h2 : Head) → d < length b.process.as_leader.rebuilt
+pub settled-kept : {T E : Type 0} (d n : ℕ) (r s : ReplicaState) (b c : Storage) (h h2 : Head) → d < length b.process.as_leader.rebuilt
     → (result : Result T E) (items : T → List Settlement) → IfOk result (λ settled. HasSettled d n r.replica s.replica b c [] (items settled))
     → OnErr result ((h2 ≡ h) × ChangesOnlyRoom r s b c) → AreKept b.process c.process
 settled-kept d n r s b c h h2 within (Ok settled) items made err = after-as b.shape d (up_to n r.replica) b.process c.process within made.applied.process

@@ -15,14 +15,14 @@ use Rattle.head_service.specs.Peers.{settles}
 use Rattle.head_service.specs.Serving.{Serving, serving}
 use Rattle.head_service.specs.declared.peers.Peers.{Peers}
 use Rattle.head_service.proofs.Machine.{takeovers_are_the_machines}
-use Rattle.process_service.specs.Noticing.{heir_at, heir_if, is_due, is_taken}
+use Rattle.process_service.specs.Noticing.{heir_at, heir_if, is_due, is_taken_over}
 use Rattle.process_service.specs.Steps.{HasMade}
 use Rattle.process_service.proofs.Mourning.{due-is, heir-same, take-same, view}
 use Rattle.process_service.proofs.Judged.{made-nothing}
 
 module _ (s : Dimensions) (v : Serving) (b : Process) (same : b.name ≡ v.name) (shape : s ≡ v.shape) (d : ℕ) where
   -- the test is the machine's
-  tested : takes_over (serving v b) d b.name ≡ is_taken v d
+  tested : takes_over (serving v b) d b.name ≡ is_taken_over v d
   tested = due-is s (serving v b) d b.name ∙ ap (λ (x : ProcessId). is_due v.known x d (at None v.heads d)) same
 
   -- there is a new head exactly where the partition is taken over, and this is it
@@ -41,7 +41,7 @@ module _ (s : Dimensions) (v : Serving) (b : Process) (same : b.name ≡ v.name)
   -- nothing is taken over
   pub left-alone : (before : List Settlement) → None ≡ heir_at v d → HasMade (take_over_if s d (serving v b)) before (serving v b) before
   left-alone before none = made-nothing (take_over_if s d (serving v b)) (serving v b) before
-      (ap (λ (due : Bool). when due (serving v b) (taken_over s d (serving v b))) (tested ∙ none-of (is_taken v d) (at empty_replica v.replicas d) none))
+      (ap (λ (due : Bool). when due (serving v b) (taken_over s d (serving v b))) (tested ∙ none-of (is_taken_over v d) (at empty_replica v.replicas d) none))
 
   -- it is taken over
   pub taken-made : (peers : Peers) (h : Head) (r : Replica) → ArePeers s v b peers → at empty_replica v.replicas d ≡ r
@@ -51,7 +51,7 @@ module _ (s : Dimensions) (v : Serving) (b : Process) (same : b.name ≡ v.name)
       → HasMade (take_over_if s d (serving v b)) before
       (serving (record v { replicas = put empty_replica v.replicas d r2; ranks = put 0 v.ranks d h.rank; heads = put None v.heads d (Some h) }) b2) after
   taken-made peers h r are here within is r2 b2 before after r-is b-is settled =
-      let h-is : h ≡ heir s b r = heir-of (is_taken v d) h r (is ∙ ap (heir_if (is_taken v d) v.shape v.name) here)
+      let h-is : h ≡ heir s b r = heir-of (is_taken_over v d) h r (is ∙ ap (heir_if (is_taken_over v d) v.shape v.name) here)
       ∙ ap (λ (x : Dimensions). new_head x (suc (parity_number v.name)) (last_of r)) (sym shape)
       ∙ ap (λ (x : ProcessId). new_head s (suc (parity_number x)) (last_of r)) (sym same) in
       let law : take_over_if s d (serving v b) ≡ record {
@@ -63,7 +63,7 @@ module _ (s : Dimensions) (v : Serving) (b : Process) (same : b.name ≡ v.name)
         sent = _;
         settled = settlements d (up_to (settles peers (heir s b r) (last_of r)) r);
       }
-      = ap (λ (due : Bool). when due (serving v b) (taken_over s d (serving v b))) (tested ∙ due-of (is_taken v d) h (at empty_replica v.replicas d) is)
+      = ap (λ (due : Bool). when due (serving v b) (taken_over s d (serving v b))) (tested ∙ due-of (is_taken_over v d) h (at empty_replica v.replicas d) is)
       ∙ takeovers_are_the_machines s v b peers d r are here within in
       record {
         process = rw (r-is, b-is, h-is) (sym (ap (λ (x : ProcessStep). x.process) law));
@@ -72,7 +72,7 @@ module _ (s : Dimensions) (v : Serving) (b : Process) (same : b.name ≡ v.name)
 
 -- a new head counts the acknowledgements of m parity processes
 pub heir-long : (v : Serving) (d : ℕ) (h : Head) → Some h ≡ heir_at v d → length h.acks ≡ v.shape.m
-heir-long v d h is = by (is_taken v d) is where
+heir-long v d h is = by (is_taken_over v d) is where
   by : (due : Bool) → Some h ≡ heir_if due v.shape v.name (at empty_replica v.replicas d) → length h.acks ≡ v.shape.m
   by true is =
       let e : h ≡ new_head v.shape (suc (parity_number v.name)) (last_of (at empty_replica v.replicas d)) = cc is in

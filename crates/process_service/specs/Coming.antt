@@ -4,7 +4,7 @@ use Rattle.group_types.specs.Dimensions.{Dimensions}
 use Rattle.group_types.specs.Lists.{at}
 use Rattle.group_types.specs.declared.process.ProcessId.{ProcessId}
 use Rattle.group_types.specs.declared.process.ProcessId.TheVariants.{ParityNode}
-use Rattle.membership.specs.Members.{lost_of, with_dead}
+use Rattle.membership.specs.Members.{count_known_dead, with_dead}
 use Rattle.group_message.specs.declared.message.Message.{Message}
 use Rattle.group_message.specs.declared.message.Message.TheVariants as tells
 use Rattle.group_message.specs.declared.update.Update.{Update}
@@ -18,8 +18,8 @@ abbrev pub IsParity : Dimensions → ProcessId → Type 0
 IsParity s p = (i : ℕ) × (p ≡ ParityNode i) × (i < s.m)
 
 -- an update, a settled number and a new head's list fit the replica, unless their rank is below the process's
-abbrev pub CanFollow : Serving → ℕ → ℕ → Update → ℕ → Type 0
-CanFollow v d r u stable =
+abbrev pub FitsUnlessStale : Serving → ℕ → ℕ → Update → ℕ → Type 0
+FitsUnlessStale v d r u stable =
     (unless_stale : at 0 v.ranks d ≤ r) → UpdateFits v.shape (at empty_replica v.replicas d) u stable
 
 abbrev pub CanSettle : Serving → ℕ → ℕ → ℕ → Type 0
@@ -38,9 +38,9 @@ pub record HasIssued (v : Serving) (d r n : ℕ) : Type 0 where
 pub record NoticeComes (s : Dimensions) (from : ProcessId) (p : Process) (dead : ProcessId) : Type 0 where
   pub sender : from ≡ dead
   pub fits : NoticeFits s p dead
-  pub few : lost_of (with_dead p.known dead) ≤ s.m
+  pub few : count_known_dead (with_dead p.known dead) ≤ s.m
 
 -- no more than m are known dead once a message came
 abbrev pub LeavesFew : Dimensions → Message → Process → Type 0
-LeavesFew s (tells.Notice dead) p = lost_of (with_dead p.known dead) ≤ s.m
+LeavesFew s (tells.Notice dead) p = count_known_dead (with_dead p.known dead) ≤ s.m
 LeavesFew s _ p = ⊤

@@ -29,19 +29,19 @@ adoption_if true s known name d r = to_parities (other_parities s.m name known) 
 adoption_if false s known name d r = []
 
 -- whether partition d is taken over
-abbrev pub is_taken : Serving → ℕ → Bool
-is_taken v d = is_due v.known v.name d (at None v.heads d)
+abbrev pub is_taken_over : Serving → ℕ → Bool
+is_taken_over v d = is_due v.known v.name d (at None v.heads d)
 
 -- the new head of a partition, if it is taken over
 abbrev pub heir_at : Serving → ℕ → Option Head
-heir_at v d = heir_if (is_taken v d) v.shape v.name (at empty_replica v.replicas d)
+heir_at v d = heir_if (is_taken_over v d) v.shape v.name (at empty_replica v.replicas d)
 
 -- the new heads of these partitions, and what is told of them, in order
 abbrev pub heirs : Serving → List ℕ → List (Option Head)
 heirs v ds = map (heir_at v) ds
 
 abbrev pub adoptions : Serving → List ℕ → List Sent
-adoptions v ds = flat_map (λ d. adoption_if (is_taken v d) v.shape v.known v.name d (at empty_replica v.replicas d)) ds
+adoptions v ds = flat_map (λ d. adoption_if (is_taken_over v d) v.shape v.known v.name d (at empty_replica v.replicas d)) ds
 
 -- how many updates wait in logs
 abbrev pub waiting : List Replica → ℕ

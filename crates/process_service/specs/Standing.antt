@@ -7,7 +7,7 @@ use Rattle.group_types.specs.declared.process.ProcessId.{ProcessId}
 use Rattle.membership.specs.Members.{Membership, all_living}
 use Rattle.group_run.specs.Process.{Head, Process, heads_at_start}
 use Rattle.group_run.specs.Replica.{empty_replica}
-use Rattle.partition_replica.specs.State.{IsTidyBut, State}
+use Rattle.partition_replica.specs.State.{IsTidyBut, ReplicaState}
 use Rattle.head_service.specs.Paging.{MakesNoneOf}
 use Rattle.head_service.specs.Serving.{Serving, serving}
 use Rattle.head_service.specs.Storage.{Storage}
@@ -63,7 +63,7 @@ at_start s name = record {
 }
 
 -- what it keeps is of each of the k partitions and of this shape; a head counts m acknowledgements, and no key is ready without need
-pub record IsKept (s : Dimensions) (name : ProcessId) (known : Membership) (replicas : List State) (ranks : ℕ) (heads : List (Option Head)) (held : ℕ) : Type 0 where
+pub record IsServingState (s : Dimensions) (name : ProcessId) (known : Membership) (replicas : List ReplicaState) (ranks : ℕ) (heads : List (Option Head)) (held : ℕ) : Type 0 where
   pub process : IsProcess s name
   pub members : known.shape ≡ s
   pub replicas_long : length replicas ≡ s.k

@@ -16,18 +16,18 @@ use Rattle.process_service.specs.declared.step.Step as made
 use Rattle.head_service.specs.declared.ask.Asking.TheVariants.{Done, Need}
 
 -- the machine's step after which a process stands like this, and which makes what the code's step has
-abbrev pub stepped : Process → made.Step → ProcessStep
-stepped p step = record { process = p; sent = step.sent.items; settled = step.settled.items }
+abbrev pub machine_step : Process → made.Step → ProcessStep
+machine_step p step = record { process = p; sent = step.sent.items; settled = step.settled.items }
 
 -- the same of a call, with its answer
 abbrev pub called : Process → answered.CallStep → CallStep
 called p step = record { step = record { process = p; sent = step.sent.items; settled = step.settled.items }; answer = step.answer }
 
 -- a call was asked: the machine's step was made; or a parity process needs this block, for which nothing was done yet
-abbrev pub IsAsked : Dimensions → CallName → Asked → Process → Asking → Process → Type 0
-IsAsked s name op p (Done step) q =
+abbrev pub IsCallAsked : Dimensions → CallName → Asked → Process → Asking → Process → Type 0
+IsCallAsked s name op p (Done step) q =
     ask_process s name op p ≡ called q step
-IsAsked s name op p (Need block) q =
+IsCallAsked s name op p (Need block) q =
     (ask_process s name op p ≡ retry_block s block (oldest_inherited p (range_with_len 0 s.k)) p) × (q ≡ p) × ((i : ℕ) × (p.name ≡ ParityNode i))
 
 -- what a notice makes once the death is known: acknowledgements are judged anew, and partitions taken over, in order

@@ -3,11 +3,11 @@ ghost use Rattle.group_types.specs.Hash.{home_of};
 ghost use Rattle.group_types.specs.Lists.{at};
 ghost use Rattle.memc_table.specs.Act.{key_of};
 ghost use Rattle.group_run.specs.Replica.{callers, empty_replica, last_of};
-ghost use Rattle.head_service.specs.Acting.{NeedsOf, name_of};
+ghost use Rattle.head_service.specs.Acting.{NeedsOf, name_of_call};
 ghost use Rattle.head_service.specs.Serving.{serving};
 ghost use Rattle.process_service.specs.Paging.{CallMisses};
 ghost use Rattle.process_service.specs.Standing.{GrowsOver, IsAsItWas, IsBeneath};
-ghost use Rattle.process_service.specs.Steps.{IsAsked};
+ghost use Rattle.process_service.specs.Steps.{IsCallAsked};
 ghost use Rattle.process_service.specs.Wanting.{AskWants};
 
 use crate::service::Service;
@@ -33,7 +33,7 @@ impl Service {
         ensures grows { GrowsOver (CallMisses self.old.shape op.now (serving self.old (B.storage below.old).process))
             self.old self.new
             (B.storage below.old) (B.storage below.new) }
-        ensures asked { IfOk result (λ asked. IsAsked self.old.shape (name_of call) op.now
+        ensures asked { IfOk result (λ asked. IsCallAsked self.old.shape (name_of_call call) op.now
             (serving self.old (B.storage below.old).process)
             asked (serving self.new (B.storage below.new).process)) }
         ensures block { IfOk result (NeedsOf self.old.shape) }

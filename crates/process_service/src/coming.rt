@@ -1,13 +1,13 @@
 ghost use Rattle.std.specs.Prelude.{◌≡◌, ◌<◌, ◌≤◌, ◌↔◌, false, IsTrue};
 ghost use Rattle.group_types.specs.Lists.{at};
 ghost use Rattle.group_types.specs.Names.{IsProcess, of_rank};
-ghost use Rattle.membership.specs.Members.{knows_dead, lost_of, with_dead};
+ghost use Rattle.membership.specs.Members.{count_known_dead, knows_dead, with_dead};
 ghost use Rattle.group_message.specs.declared.message.Message.TheVariants as tells;
 ghost use Rattle.group_run.specs.Fitting.{Fits, IsRanked, IsToldBy};
 ghost use Rattle.group_run.specs.Process.{Process};
 ghost use Rattle.group_run.specs.Replica.{empty_replica};
 ghost use Rattle.head_service.specs.Serving.{serving};
-ghost use Rattle.process_service.specs.Coming.{CanAdopt, CanFollow, CanSettle, IsParity, NoticeComes};
+ghost use Rattle.process_service.specs.Coming.{CanAdopt, CanSettle, FitsUnlessStale, IsParity, NoticeComes};
 
 use crate::service::Service;
 use group_message::{Update, UpdateList};
@@ -107,7 +107,7 @@ impl Service {
     fn leaves_few(&self, dead: ProcessId) -> bool
         requires process { IsProcess self.now.shape dead }
         requires news { knows_dead self.now.known dead ≡ false }
-        ensures { IsTrue result ↔ (lost_of (with_dead self.now.known dead) ≤ self.now.shape.m) }
+        ensures { IsTrue result ↔ (count_known_dead (with_dead self.now.known dead) ≤ self.now.shape.m) }
     {
         let mut known = self.known;
         let _ = known.fail(dead);
@@ -116,7 +116,7 @@ impl Service {
 
     fn can_follow(&self, partition: Partition, rank: Rank, update: &Update, stable: u64) -> bool
         requires { partition.0 < self.now.shape.k }
-        ensures { IsTrue result ↔ CanFollow self.now partition.0 rank.0 update.now stable }
+        ensures { IsTrue result ↔ FitsUnlessStale self.now partition.0 rank.0 update.now stable }
     {
         rank.0 < self.rank(partition).0 || self.replica(partition).may_follow(update, stable)
     }

@@ -6,7 +6,7 @@ ghost use Rattle.group_run.specs.Replica.{empty_replica};
 ghost use Rattle.head_service.specs.Paging.{AllMiss, Misses};
 ghost use Rattle.head_service.specs.Serving.{serving};
 ghost use Rattle.process_service.specs.Standing.{GrowsOver, IsAsItWas, IsBeneath, StaysOver};
-ghost use Rattle.process_service.specs.Steps.{stepped};
+ghost use Rattle.process_service.specs.Steps.{machine_step};
 
 use crate::acks::{ack_to, reach};
 use crate::service::Service;
@@ -39,7 +39,7 @@ impl Service {
             (B.storage below.new) }
         ensures step { IfOk result (λ step. update_comes self.old.shape from rank.0 partition.0 update.now stable
             (serving self.old (B.storage below.old).process)
-            ≡ stepped (serving self.new (B.storage below.new).process) step) }
+            ≡ machine_step (serving self.new (B.storage below.new).process) step) }
         ensures wanted { OnErr result (at 0 self.old.ranks partition.0 ≤ rank.0) }
         ensures err { OnErr result (IsAsItWas self.old self.new (B.storage below.old) (B.storage below.new)) }
     {
@@ -66,7 +66,7 @@ impl Service {
         ensures stays { StaysOver self.old self.new (B.storage below.old) (B.storage below.new) }
         ensures step { IfOk result (λ step. stable_comes self.old.shape rank.0 partition.0 number
             (serving self.old (B.storage below.old).process)
-            ≡ stepped (serving self.new (B.storage below.new).process) step) }
+            ≡ machine_step (serving self.new (B.storage below.new).process) step) }
         ensures wanted { OnErr result (at 0 self.old.ranks partition.0 ≤ rank.0) }
         ensures err { OnErr result (IsAsItWas self.old self.new (B.storage below.old) (B.storage below.new)) }
     {
@@ -97,7 +97,7 @@ impl Service {
             (B.storage below.new) }
         ensures step { IfOk result (λ step. adopt_comes self.old.shape from rank.0 partition.0 base list.now
             (serving self.old (B.storage below.old).process)
-            ≡ stepped (serving self.new (B.storage below.new).process) step) }
+            ≡ machine_step (serving self.new (B.storage below.new).process) step) }
         ensures wanted { OnErr result (at 0 self.old.ranks partition.0 ≤ rank.0) }
         ensures err { OnErr result (IsAsItWas self.old self.new (B.storage below.old) (B.storage below.new)) }
     {

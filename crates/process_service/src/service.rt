@@ -31,7 +31,7 @@ pub struct Service {
 impl Model for Service {
     ghost use Rattle.std.specs.Prelude.{length, map};
     ghost use Rattle.head_service.specs.Serving.{Serving};
-    ghost use Rattle.process_service.specs.Standing.{IsKept};
+    ghost use Rattle.process_service.specs.Standing.{IsServingState};
 
     ghost Value = { Serving };
 
@@ -45,7 +45,7 @@ impl Model for Service {
       held = map (λ h. h.items) s.held.items;
     } };
 
-    ghost invariant = { λ s. IsKept s.shape s.name s.known s.replicas.items (length s.ranks.items) s.heads.items (length s.held.items) };
+    ghost invariant = { λ s. IsServingState s.shape s.name s.known s.replicas.items (length s.ranks.items) s.heads.items (length s.held.items) };
 }
 
 impl Service {

@@ -9,7 +9,7 @@ use Rattle.edge_io.specs.Moving.{Input}
 use Rattle.edge_io.specs.Writing.{HasWritten}
 use Rattle.group_types.specs.declared.process.ProcessId.{ProcessId}
 use Rattle.memc_table.specs.Asked.{Asked}
-use Rattle.memc_proto.specs.Reader.{Kept, HasRead}
+use Rattle.memc_proto.specs.Reader.{HasRead, ReaderState}
 use Rattle.memc_proto.specs.Reads.{is_quit}
 use Rattle.memc_proto.specs.Text.{fail_text, too_long_text}
 use Rattle.memc_proto.specs.declared.end.CallEnd.{CallEnd}
@@ -19,8 +19,8 @@ use Rattle.front_end.specs.Ahead.{IsDueAhead, acts_ahead, unneeded_of}
 use Rattle.front_end.specs.Answers.{stand}
 use Rattle.front_end.specs.Gateway.{Rules}
 use Rattle.front_end.specs.Order.{IsOrder}
-use Rattle.front_end.specs.Progress.{Progress, IsClosed}
-use Rattle.front_end.specs.Settling.{CallIsDue, IsDue, HasSettled, HasTold, first_text, own_text}
+use Rattle.front_end.specs.Progress.{EndsConnection, Progress}
+use Rattle.front_end.specs.Settling.{CallIsDue, IsDue, HasSettledDue, HasTold, first_text, own_text}
 use Rattle.front_end.specs.declared.due.Due.TheVariants as due
 use Rattle.front_end.specs.declared.end.ConnectionFault.{ConnectionFault}
 use Rattle.front_end.specs.declared.end.ConnectionFault.TheVariants.{ReadFault, WriteFault, Want}
@@ -31,7 +31,7 @@ use Rattle.front_end.proofs.Ahead.{due-acts, order-acts}
 use Rattle.ready_client.specs.Asking.{ConnectionAt, connection_at, Asking, Begins, Takes, LetsGo, Orders, Tells, Reads}
 use Rattle.ready_client.specs.Asking.{Wants, HasReadSo, Closes, LeftUnasked, Did, Does, Asks, most_unsent}
 use Rattle.ready_client.specs.Calling.{IsBegunAs, HasEndOf}
-use Rattle.ready_client.specs.Coming.{ways_of, Comes, IsUnderWay}
+use Rattle.ready_client.specs.Coming.{ways_of, ComesAtGateway, IsUnderWay}
 use Rattle.ready_client.specs.declared.calls.Calls.{Calls}
 use Rattle.ready_client.specs.declared.open_call.OpenCall.{OpenCall}
 use Rattle.ready_client.proofs.Beginning.{calls-none}
@@ -51,7 +51,7 @@ due-first told waiting op is = let acts = due-acts told waiting op is in record 
 }
 
 -- requests that are read behind others
-pub read-behind : (was now : Kept) (piece : List ℕ) (waiting : List Request) (quits : Bool) → HasReadSo was false
+pub read-behind : (was now : ReaderState) (piece : List ℕ) (waiting : List Request) (quits : Bool) → HasReadSo was false
     → ((fed : List ℕ) (earlier : List Request) → HasRead was fed earlier → HasRead now (fed ++ piece)
     (earlier ++ waiting)) → quits ≡ list_any is_quit waiting → HasReadSo now quits
 read-behind was now piece waiting quits so taken is = record {
@@ -63,7 +63,7 @@ read-behind was now piece waiting quits so taken is = record {
 
 -- what a close writes
 pub closes-so : (quits : Bool) (rest before now : List ℕ) (waiting : List Request)
-    (result : Result (Option End) ConnectionFault) → waiting ≡ [] → IsClosed quits rest before now result
+    (result : Result (Option End) ConnectionFault) → waiting ≡ [] → EndsConnection quits rest before now result
     → Closes waiting before now
 closes-so quits rest before now waiting (Ok (Some ends.Quit)) none is = inl is.1
 closes-so quits rest before now waiting (Ok (Some ends.LineTooLong)) none is = inr (none, written)
@@ -135,7 +135,7 @@ module _ {G K : Type 0} (rules : Rules G K) (told : Option ℕ) (sent : List ℕ
       (end_now : Option (Result End ConnectionFault)) (out middle out_now : List ℕ) (call : OpenCall K)
       (end : CallEnd)
       → HasEndOf rules before call end now → calls_now ≡ calls → unwanted ≤ unneeded_of end was.waiting
-      → HasSettled end out middle was.waiting left.waiting → Closes left.waiting middle out_now
+      → HasSettledDue end out middle was.waiting left.waiting → Closes left.waiting middle out_now
       → Asks rules told sent (connection_at before was (call ∷ calls) 0 None (sent ++ out))
       (connection_at now left calls_now unwanted end_now (sent ++ out_now))
   takes-one before now was left calls calls_now unwanted end_now out middle out_now call end has same most is closes =
@@ -288,7 +288,7 @@ module _ {G K : Type 0} (rules : Rules G K) (order : IsOrder rules.later) (overl
     (input input_now : Input) (first now : G) (before held : List ℕ) (progress : Progress)
     (calls : List (OpenCall K)) where
   -- what was read of a connection that has come so far
-  pub read-so : progress.waiting ≢ [] → Comes rules overlap told input input_now first before now held progress calls 0
+  pub read-so : progress.waiting ≢ [] → ComesAtGateway rules overlap told input input_now first before now held progress calls 0
       None → HasReadSo progress.kept progress.quits
   read-so some come = by (under-of (ways_of rules overlap) told input input_now (stand (λ _. first) before) (stand come.ends held) progress some come.come)
     where
@@ -302,23 +302,24 @@ module _ {G K : Type 0} (rules : Rules G K) (order : IsOrder rules.later) (overl
             ∙ ap (λ (b : Bool). b || list_any is_quit under.given) under.goes.no_quit ∙ sym under.quits;
       }
 
-  pub read-idle : progress.waiting ≡ [] → Comes rules overlap told input input_now first before now held progress calls 0 None → HasReadSo progress.kept false
+  pub read-idle : progress.waiting ≡ [] → ComesAtGateway rules overlap told input input_now first before now held progress calls 0 None
+      → HasReadSo progress.kept false
   read-idle none come = let goes = goes-of (ways_of rules overlap) told input input_now (stand (λ _. first) before)
       (stand come.ends held) progress none come.come in
       record { fed = goes.read; requests = goes.requests; has_read = goes.has_read; quit = goes.no_quit }
 
   -- where an order is due no call is under way
   pub order-none : (at : ProcessId) (keep : ℕ) → IsDue told progress.waiting (due.Fail at keep)
-      → Comes rules overlap told input input_now first before now held progress calls 0 None → calls ≡ []
+      → ComesAtGateway rules overlap told input input_now first before now held progress calls 0 None → calls ≡ []
   order-none at keep is come = calls-none rules order overlap told come.ends now (acts_ahead progress.waiting) calls
       (order-acts progress.waiting (told, at, keep, is)) (come.wanted refl)
 
 pub call-some : (waiting : List Request) → CallIsDue waiting → waiting ≢ []
 call-some waiting (told, op, is) = due-some told waiting (due.Call op) is
 
-pub read-as : (kept kept_now : Kept) (quits quits_now : Bool) → kept_now ≡ kept → quits_now ≡ quits → HasReadSo kept quits → HasReadSo kept_now quits_now
+pub read-as : (kept kept_now : ReaderState) (quits quits_now : Bool) → kept_now ≡ kept → quits_now ≡ quits → HasReadSo kept quits → HasReadSo kept_now quits_now
 read-as kept kept_now quits quits_now same same_quits so = subst (λ (q : Bool). HasReadSo kept_now q) (sym same_quits)
-    (subst (λ (k : Kept). HasReadSo k quits) (sym same) so)
+    (subst (λ (k : ReaderState). HasReadSo k quits) (sym same) so)
 
 -- the same, of a text that is equal
 pub asks-sent : {G K : Type 0} (rules : Rules G K) (told : Option ℕ) (sent sent_now : List ℕ) (before after : ConnectionAt G K)

@@ -20,11 +20,11 @@ use Rattle.front_end.specs.Ahead.{IsDueAhead, acts_ahead, unneeded_of}
 use Rattle.front_end.specs.Answers.{stand}
 use Rattle.front_end.specs.Faults.{HasSinkCause}
 use Rattle.front_end.specs.Gateway.{Rules, KeepsOpen}
-use Rattle.front_end.specs.Going.{GoesOn}
+use Rattle.front_end.specs.Going.{ConnectionGoesOn}
 use Rattle.front_end.specs.Order.{IsOrder}
 use Rattle.front_end.specs.Progress.{Progress}
 use Rattle.front_end.specs.Sequences.{sequence_of, with_end}
-use Rattle.front_end.specs.Settling.{CallIsDue, IsDue, OrderIsDue, TextIsDue, HasSettled, HasTold, first_text, own_text}
+use Rattle.front_end.specs.Settling.{CallIsDue, IsDue, OrderIsDue, TextIsDue, HasSettledDue, HasTold, first_text, own_text}
 use Rattle.front_end.specs.Turns.{IsMoment}
 use Rattle.front_end.specs.declared.due.Due.{Due}
 use Rattle.front_end.specs.declared.due.Due.TheVariants as due
@@ -38,7 +38,7 @@ use Rattle.front_end.proofs.Sequences.{ended-elsewhere}
 use Rattle.front_end.proofs.Serving.{goes_on-none}
 use Rattle.front_end.proofs.Settling.{breaks-early, breaks-unmade, breaks-wanted, call-steps, call-breaks, order-steps, order-breaks, text-steps, text-breaks}
 use Rattle.ready_client.specs.Calling.{AreCalls, StandOnce, AreOpen, IsBegunAs, HasEndOf, HasOpen, KeepsCalls}
-use Rattle.ready_client.specs.Coming.{ways_of, Comes, HasComeTo, IsUnderWay}
+use Rattle.ready_client.specs.Coming.{ways_of, ComesAtGateway, HasComeTo, IsUnderWay}
 use Rattle.ready_client.specs.declared.calls.Calls.{Calls}
 use Rattle.ready_client.specs.declared.open_call.OpenCall.{OpenCall}
 use Rattle.ready_client.specs.declared.open_call.OpenCall.TheVariants.{Open}
@@ -92,7 +92,7 @@ module _ {G K : Type 0} (rules : Rules G K) (order : IsOrder rules.later) (overl
     (input input_now : Input) (first : G) (before : List ℕ) where
   -- nothing was read
   pub begins : (held : List ℕ) (progress : Progress) → HasRead progress.kept [] [] → progress.waiting ≡ []
-      → progress.count ≡ 0 → Comes rules overlap told input input first held first (held ++ []) progress [] 0 None
+      → progress.count ≡ 0 → ComesAtGateway rules overlap told input input first held first (held ++ []) progress [] 0 None
   begins held progress has_read none unread = record {
     ends = λ _. first;
     later = λ _. order.same first;
@@ -107,8 +107,8 @@ module _ {G K : Type 0} (rules : Rules G K) (order : IsOrder rules.later) (overl
   -- the gateway came to be later meanwhile, and the calls are open as before
   pub stays : (now next : G) (held : List ℕ) (progress : Progress) (calls : List (OpenCall K)) (unwanted : ℕ)
       (end : Option (Result End ConnectionFault)) → rules.later now next → KeepsCalls rules calls now next
-      → Comes rules overlap told input input_now first before now held progress calls unwanted end
-      → Comes rules overlap told input input_now first before next held progress calls unwanted end
+      → ComesAtGateway rules overlap told input input_now first before now held progress calls unwanted end
+      → ComesAtGateway rules overlap told input input_now first before next held progress calls unwanted end
   stays now next held progress calls unwanted end later keeps come = record {
     ends = come.ends;
     later = λ sequence. order.on (come.ends sequence) now next (come.later sequence) later;
@@ -126,7 +126,7 @@ module _ {G K : Type 0} (rules : Rules G K) (order : IsOrder rules.later) (overl
       → ((sequence : List ℕ) → rules.later (ends sequence) now)
       → rules.later now next → AreOpen rules next calls → StandOnce calls
       → HasComeTo (ways_of rules overlap) told input input_now (stand (λ _. first) before) (stand ends held) progress
-      (Some result) → Comes rules overlap told input input_now first before next held progress calls unwanted
+      (Some result) → ComesAtGateway rules overlap told input input_now first before next held progress calls unwanted
       (Some result)
   ended-so now next held progress calls unwanted result ends laters later opens distinct come = record {
     ends = ends;
@@ -149,7 +149,7 @@ module _ {G K : Type 0} (rules : Rules G K) (order : IsOrder rules.later) (overl
       → (goes : GoesOnSo now held progress wanted) → drop unwanted calls ≡ wanted
       → AreOpen rules now calls → StandOnce calls → HasComeTo (ways_of rules overlap) told input input_now
       (stand (λ _. first) before) (stand goes.ends held_now) progress end
-      → Comes rules overlap told input input_now first before now held_now progress calls unwanted end
+      → ComesAtGateway rules overlap told input input_now first before now held_now progress calls unwanted end
   comes-so now held held_now progress calls unwanted wanted end goes same opens distinct come = record {
     ends = goes.ends;
     later = goes.later;
@@ -173,7 +173,8 @@ module _ {G K : Type 0} (rules : Rules G K) (order : IsOrder rules.later) (overl
 
   front-of : (prior now : G) (held : List ℕ) (was : Progress) (call : OpenCall K) (calls : List (OpenCall K))
       (end : CallEnd) → CallIsDue was.waiting → HasEndOf rules prior call end now → rules.later prior now
-      → (come : Comes rules overlap told input input_now first before prior held was (call ∷ calls) 0 None) → IsFront prior now was.waiting come.ends end calls
+      → (come : ComesAtGateway rules overlap told input input_now first before prior held was (call ∷ calls) 0 None)
+      → IsFront prior now was.waiting come.ends end calls
   front-of prior now held was call calls end (told_then, op, is) ended later come = by made_call
     where
       acts : (rest : List Act) × (acts_ahead was.waiting ≡ op.act ∷ rest)
@@ -215,8 +216,8 @@ module _ {G K : Type 0} (rules : Rules G K) (order : IsOrder rules.later) (overl
   pub ends : (prior now : G) (sent out out_now : List ℕ) (was left : Progress) (call : OpenCall K)
       (calls : List (OpenCall K)) (end : CallEnd) → CallIsDue was.waiting → HasEndOf rules prior call end now
       → rules.later prior now → KeepsCalls rules calls prior now
-      → HasSettled end out out_now was.waiting left.waiting → left.kept ≡ was.kept → left.quits ≡ was.quits → left.count ≡ was.count
-      → Comes rules overlap told input input_now first before prior (sent ++ out) was (call ∷ calls) 0 None
+      → HasSettledDue end out out_now was.waiting left.waiting → left.kept ≡ was.kept → left.quits ≡ was.quits → left.count ≡ was.count
+      → ComesAtGateway rules overlap told input input_now first before prior (sent ++ out) was (call ∷ calls) 0 None
       → GoesOnSo now (sent ++ out_now) left (drop (unneeded_of end was.waiting) calls)
   ends prior now sent out out_now was left call calls end is_due ended later keeps is kept quits count come =
       by (front-of prior now (sent ++ out) was call calls end is_due ended later come)
@@ -254,13 +255,13 @@ module _ {G K : Type 0} (rules : Rules G K) (order : IsOrder rules.later) (overl
       → rules.later prior now → AreOpen rules now calls → StandOnce calls
       → HasWritten out out_now (first_text end was.waiting) → HasSinkCause {T = Unit {0}} faults faults_now
       (Err fault)
-      → Comes rules overlap told input input_now first before prior (sent ++ out) was (call ∷ calls) 0 None
-      → Comes rules overlap told input input_now first before now (sent ++ out_now) left calls unwanted
+      → ComesAtGateway rules overlap told input input_now first before prior (sent ++ out) was (call ∷ calls) 0 None
+      → ComesAtGateway rules overlap told input input_now first before now (sent ++ out_now) left calls unwanted
       (Some (Err fault))
   ends-broken prior now sent out out_now was left call calls unwanted end faults faults_now fault is_due ended later
       opens distinct is cause come = by (front-of prior now (sent ++ out) was call calls end is_due ended later come)
     where
-      by : IsFront prior now was.waiting come.ends end calls → Comes rules overlap told input input_now first before now
+      by : IsFront prior now was.waiting come.ends end calls → ComesAtGateway rules overlap told input input_now first before now
           (sent ++ out_now) left calls unwanted (Some (Err fault))
       by front = ended-so now now (sent ++ out_now) left calls unwanted (Err fault)
           (with_end come.ends (sequence_of overlap front.op.act) front.after)
@@ -278,8 +279,8 @@ module _ {G K : Type 0} (rules : Rules G K) (order : IsOrder rules.later) (overl
   -- the call that is due was begun
   pub called : (now next : G) (held : List ℕ) (progress : Progress) (op : Asked) (call : K)
       → IsDue told progress.waiting (due.Call op) → rules.opened next call op now → rules.later now next
-      → Comes rules overlap told input input_now first before now held progress [] 0 None
-      → Comes rules overlap told input input_now first before next held progress (Open call ∷ []) 0 None
+      → ComesAtGateway rules overlap told input input_now first before now held progress [] 0 None
+      → ComesAtGateway rules overlap told input input_now first before next held progress (Open call ∷ []) 0 None
   called now next held progress op call is opened later come = record {
     ends = come.ends;
     later = λ sequence. order.on (come.ends sequence) now next (come.later sequence) later;
@@ -312,8 +313,8 @@ module _ {G K : Type 0} (rules : Rules G K) (order : IsOrder rules.later) (overl
   -- there was no memory for what the first of the requests needs, or for a call ahead of it
   pub wants-first : (now next : G) (held : List ℕ) (was : Progress) (calls : List (OpenCall K)) (unwanted : ℕ)
       → was.waiting ≢ [] → rules.later now next → AreOpen rules next calls → StandOnce calls
-      → Comes rules overlap told input input_now first before now held was calls unwanted None
-      → Comes rules overlap told input input_now first before next held was calls unwanted (Some (Err Want))
+      → ComesAtGateway rules overlap told input input_now first before now held was calls unwanted None
+      → ComesAtGateway rules overlap told input input_now first before next held was calls unwanted (Some (Err Want))
   wants-first now next held was calls unwanted some later opens distinct come =
       ended-so now next held was calls unwanted (Err Want) come.ends come.later later opens distinct
       (halts (ways_of rules overlap) told input input_now (stand (λ _. first) before) (stand come.ends held) (stand come.ends held) was 0 0 Want
@@ -324,8 +325,8 @@ module _ {G K : Type 0} (rules : Rules G K) (order : IsOrder rules.later) (overl
   pub wants-call : (now next : G) (held : List ℕ) (was : Progress) (calls : List (OpenCall K)) (unwanted : ℕ)
       (op : Asked) → IsDue told was.waiting (due.Call op) → rules.ways.kept now op next → rules.later now next
       → AreOpen rules next calls → StandOnce calls
-      → Comes rules overlap told input input_now first before now held was calls unwanted None
-      → Comes rules overlap told input input_now first before next held was calls unwanted (Some (Err Want))
+      → ComesAtGateway rules overlap told input input_now first before now held was calls unwanted None
+      → ComesAtGateway rules overlap told input input_now first before next held was calls unwanted (Some (Err Want))
   wants-call now next held was calls unwanted op is kept later opens distinct come =
       ended-so next next held was calls unwanted (Err Want) ends_now
       (ends-later come.ends (sequence_of overlap op.act) now next next come.later later (order.same next))
@@ -343,8 +344,8 @@ module _ {G K : Type 0} (rules : Rules G K) (order : IsOrder rules.later) (overl
   pub wants-order : (now next : G) (held : List ℕ) (was : Progress) (calls : List (OpenCall K)) (unwanted : ℕ)
       (at : ProcessId) (keep : ℕ) → IsDue told was.waiting (due.Fail at keep) → rules.ways.unmade now next
       → AreOpen rules next calls → StandOnce calls
-      → Comes rules overlap told input input_now first before now held was calls unwanted None
-      → Comes rules overlap told input input_now first before next held was calls unwanted (Some (Err Want))
+      → ComesAtGateway rules overlap told input input_now first before now held was calls unwanted None
+      → ComesAtGateway rules overlap told input input_now first before next held was calls unwanted (Some (Err Want))
   wants-order now next held was calls unwanted at keep is unmade opens distinct come =
       ended-so next next held was calls unwanted (Err Want) (λ _. next) (λ _. order.same next) (order.same next) opens
       distinct
@@ -359,7 +360,7 @@ module _ {G K : Type 0} (rules : Rules G K) (order : IsOrder rules.later) (overl
       (at : ProcessId) (keep : ℕ) (end : FailEnd) → IsDue told was.waiting (due.Fail at keep)
       → rules.ways.failed now at keep end next
       → HasTold (fail_text end) out out_now was.waiting left.waiting → left.kept ≡ was.kept → left.quits ≡ was.quits → left.count ≡ was.count
-      → Comes rules overlap told input input_now first before now (sent ++ out) was calls 0 None → GoesOnSo next (sent ++ out_now) left calls
+      → ComesAtGateway rules overlap told input input_now first before now (sent ++ out) was calls 0 None → GoesOnSo next (sent ++ out_now) left calls
   orders now next sent out out_now was left calls at keep end is failed text kept quits count come = record {
     ends = λ _. next;
     later = λ _. order.same next;
@@ -381,8 +382,8 @@ module _ {G K : Type 0} (rules : Rules G K) (order : IsOrder rules.later) (overl
       → IsDue told was.waiting (due.Fail at keep)
       → rules.ways.failed now at keep end next → AreOpen rules next calls → StandOnce calls
       → HasWritten out out_now (fail_text end) → HasSinkCause {T = Unit {0}} faults faults_now (Err fault)
-      → Comes rules overlap told input input_now first before now (sent ++ out) was calls unwanted None
-      → Comes rules overlap told input input_now first before next (sent ++ out_now) left calls unwanted
+      → ComesAtGateway rules overlap told input input_now first before now (sent ++ out) was calls unwanted None
+      → ComesAtGateway rules overlap told input input_now first before next (sent ++ out_now) left calls unwanted
       (Some (Err fault))
   orders-broken now next sent out out_now was left calls unwanted at keep end faults faults_now fault is failed opens
       distinct text cause come = ended-so next next (sent ++ out_now) left calls unwanted (Err fault) (λ _. next)
@@ -398,7 +399,7 @@ module _ {G K : Type 0} (rules : Rules G K) (order : IsOrder rules.later) (overl
   pub tells : (now : G) (sent out out_now : List ℕ) (was left : Progress) (calls : List (OpenCall K))
       → IsDue told was.waiting due.Text → HasTold (own_text was.waiting) out out_now was.waiting left.waiting
       → left.kept ≡ was.kept → left.quits ≡ was.quits → left.count ≡ was.count
-      → Comes rules overlap told input input_now first before now (sent ++ out) was calls 0 None → GoesOnSo now (sent ++ out_now) left calls
+      → ComesAtGateway rules overlap told input input_now first before now (sent ++ out) was calls 0 None → GoesOnSo now (sent ++ out_now) left calls
   tells now sent out out_now was left calls is text kept quits count come = record {
     ends = come.ends;
     later = come.later;
@@ -417,8 +418,8 @@ module _ {G K : Type 0} (rules : Rules G K) (order : IsOrder rules.later) (overl
       (unwanted : ℕ) (faults faults_now : ℕ) (fault : ConnectionFault) → IsDue told was.waiting due.Text
       → HasWritten out out_now (own_text was.waiting)
       → HasSinkCause {T = Unit {0}} faults faults_now (Err fault)
-      → Comes rules overlap told input input_now first before now (sent ++ out) was calls unwanted None
-      → Comes rules overlap told input input_now first before now (sent ++ out_now) left calls unwanted
+      → ComesAtGateway rules overlap told input input_now first before now (sent ++ out) was calls unwanted None
+      → ComesAtGateway rules overlap told input input_now first before now (sent ++ out_now) left calls unwanted
       (Some (Err fault))
   tells-broken now sent out out_now was left calls unwanted faults faults_now fault is text cause come =
       ended-so now now (sent ++ out_now) left calls unwanted (Err fault) come.ends come.later (order.same now)
@@ -435,8 +436,8 @@ module _ {G K : Type 0} (rules : Rules G K) (order : IsOrder rules.later) (overl
       (unwanted unwanted_now : ℕ) (end : Option (Result End ConnectionFault))
       → (end ≡ None → drop unwanted_now calls_now ≡ drop unwanted calls)
       → ((call : K) → HasOpen calls_now call → HasOpen calls call) → StandOnce calls_now → KeepsCalls rules calls_now now next → rules.later now next
-      → Comes rules overlap told input input_now first before now held progress calls unwanted end
-      → Comes rules overlap told input input_now first before next held progress calls_now unwanted_now end
+      → ComesAtGateway rules overlap told input input_now first before now held progress calls unwanted end
+      → ComesAtGateway rules overlap told input input_now first before next held progress calls_now unwanted_now end
   lets-go now next held progress calls calls_now unwanted unwanted_now end same fewer distinct keeps later come = record {
     ends = come.ends;
     later = λ sequence. order.on (come.ends sequence) now next (come.later sequence) later;
@@ -451,17 +452,17 @@ module _ {G K : Type 0} (rules : Rules G K) (order : IsOrder rules.later) (overl
 
   -- all that was read is answered, and no call is under way
   pub none-under-way : (now : G) (held : List ℕ) (was : Progress) (calls : List (OpenCall K)) → was.waiting ≡ []
-      → Comes rules overlap told input input_now first before now held was calls 0 None → calls ≡ []
+      → ComesAtGateway rules overlap told input input_now first before now held was calls 0 None → calls ≡ []
   none-under-way now held was calls none come = calls-none rules order overlap told come.ends now
       (acts_ahead was.waiting) calls (ap acts_ahead none) (come.wanted refl)
 
   -- a piece was read, or none was there
   pub reads : (now : G) (input_next : Input) (held held_next : List ℕ) (was left : Progress) (calls : List (OpenCall K))
       (end : Option (Result End ConnectionFault)) → was.waiting ≡ []
-      → ((ends : List ℕ → G) → GoesOn (ways_of rules overlap) told input input_now (stand (λ _. first) before) (stand ends held) was.kept was.count
+      → ((ends : List ℕ → G) → ConnectionGoesOn (ways_of rules overlap) told input input_now (stand (λ _. first) before) (stand ends held) was.kept was.count
       → HasComeTo (ways_of rules overlap) told input input_next (stand (λ _. first) before) (stand ends held_next) left end)
-      → Comes rules overlap told input input_now first before now held was calls 0 None
-      → Comes rules overlap told input input_next first before now held_next left calls 0 end
+      → ComesAtGateway rules overlap told input input_now first before now held was calls 0 None
+      → ComesAtGateway rules overlap told input input_next first before now held_next left calls 0 end
   reads now input_next held held_next was left calls end none reading come = record {
     ends = come.ends;
     later = come.later;
@@ -475,19 +476,20 @@ module _ {G K : Type 0} (rules : Rules G K) (order : IsOrder rules.later) (overl
   -- none of its calls is unwanted, and it has not ended
   pub resumes : (now : G) (held : List ℕ) (progress : Progress) (calls : List (OpenCall K)) (unwanted : ℕ)
       (end : Option (Result End ConnectionFault)) → unwanted ≡ 0 → end ≡ None
-      → Comes rules overlap told input input_now first before now held progress calls unwanted end
-      → Comes rules overlap told input input_now first before now held progress calls 0 None
+      → ComesAtGateway rules overlap told input input_now first before now held progress calls unwanted end
+      → ComesAtGateway rules overlap told input input_now first before now held progress calls 0 None
   resumes now held progress calls unwanted end wanted goes come =
-      subst (λ (n : ℕ). Comes rules overlap told input input_now first before now held progress calls n None) wanted
-      (subst (λ (e : Option (Result End ConnectionFault)). Comes rules overlap told input input_now first before now held progress calls unwanted e) goes come)
+      subst (λ (n : ℕ). ComesAtGateway rules overlap told input input_now first before now held progress calls n None) wanted
+      (subst (λ (e : Option (Result End ConnectionFault)). ComesAtGateway rules overlap told input input_now first before now held progress calls unwanted e)
+      goes come)
 
 module _ {G K : Type 0} (rules : Rules G K) (order : IsOrder rules.later) (told : Option ℕ) (input input_now : Input) (first : G) (before : List ℕ) where
   -- a call was begun behind those that are under way, on another key
   pub called-behind : (now next : G) (held : List ℕ) (progress : Progress) (calls : List (OpenCall K))
       (one : OpenCall K) (op : Asked) → IsDueAhead told progress.waiting (length calls) op
       → IsBegunAs rules now op one next → KeepsOpen rules now next → rules.later now next
-      → Comes rules OtherKeys told input input_now first before now held progress calls 0 None
-      → Comes rules OtherKeys told input input_now first before next held progress (calls ++ one ∷ []) 0 None
+      → ComesAtGateway rules OtherKeys told input input_now first before now held progress calls 0 None
+      → ComesAtGateway rules OtherKeys told input input_now first before next held progress (calls ++ one ∷ []) 0 None
   called-behind now next held progress calls one op is begun keeps later come = record {
     ends = come.ends;
     later = λ sequence. order.on (come.ends sequence) now next (come.later sequence) later;
@@ -520,13 +522,13 @@ pub sends : {G K : Type 0} (rules : Rules G K) (overlap : Overlap) (told : Optio
     (input input_then input_now : Input) (first now : G) (before held held_now : List ℕ) (was progress : Progress)
     (calls calls_now : Calls K) (end end_now : Option (Result End ConnectionFault))
     → held_now ≡ held → input_now ≡ input_then → progress ≡ was → calls_now ≡ calls → end_now ≡ end
-    → Comes rules overlap told input input_then first before now held was calls.list calls.unwanted end
-    → Comes rules overlap told input input_now first before now held_now progress calls_now.list calls_now.unwanted
+    → ComesAtGateway rules overlap told input input_then first before now held was calls.list calls.unwanted end
+    → ComesAtGateway rules overlap told input input_now first before now held_now progress calls_now.list calls_now.unwanted
     end_now
 sends rules overlap told input input_then input_now first now before held held_now was progress calls calls_now end end_now text read same called ended come =
-    subst (λ (e : Option (Result End ConnectionFault)). Comes rules overlap told input input_now first before now
+    subst (λ (e : Option (Result End ConnectionFault)). ComesAtGateway rules overlap told input input_now first before now
     held_now progress calls_now.list calls_now.unwanted e) (sym ended)
-    (subst (λ (cs : Calls _). Comes rules overlap told input input_now first before now held_now progress cs.list cs.unwanted end) (sym called)
-    (subst (λ (p : Progress). Comes rules overlap told input input_now first before now held_now p calls.list calls.unwanted end) (sym same)
-    (subst (λ (i : Input). Comes rules overlap told input i first before now held_now was calls.list calls.unwanted end) (sym read)
-    (subst (λ (bs : List ℕ). Comes rules overlap told input input_then first before now bs was calls.list calls.unwanted end) (sym text) come))))
+    (subst (λ (cs : Calls _). ComesAtGateway rules overlap told input input_now first before now held_now progress cs.list cs.unwanted end) (sym called)
+    (subst (λ (p : Progress). ComesAtGateway rules overlap told input input_now first before now held_now p calls.list calls.unwanted end) (sym same)
+    (subst (λ (i : Input). ComesAtGateway rules overlap told input i first before now held_now was calls.list calls.unwanted end) (sym read)
+    (subst (λ (bs : List ℕ). ComesAtGateway rules overlap told input input_then first before now bs was calls.list calls.unwanted end) (sym text) come))))

@@ -4,7 +4,7 @@ use Rattle.std.proofs.Common.{Err, append-nil, refl, sym, ◌∙◌, subst, inl,
 use Rattle.std.specs.List.{list_any}
 use Rattle.edge_io.specs.Moving.{Input, Takes}
 use Rattle.edge_io.proofs.Moving.{Takes-trans}
-use Rattle.memc_proto.specs.Reader.{Kept, HasRead}
+use Rattle.memc_proto.specs.Reader.{HasRead, ReaderState}
 use Rattle.memc_proto.specs.Reads.{is_quit}
 use Rattle.memc_proto.specs.declared.request.Request.{Request}
 use Rattle.outbox.specs.Trying.{TryTakes}
@@ -13,9 +13,9 @@ use Rattle.front_end.specs.Answers.{Stand, stand}
 use Rattle.front_end.specs.Calls.{Ways}
 use Rattle.front_end.specs.Connection.{HasServed}
 use Rattle.front_end.specs.Faults.{HasSinkCause}
-use Rattle.front_end.specs.Piece.{IsServed}
-use Rattle.front_end.specs.Going.{GoesOn}
-use Rattle.front_end.specs.Progress.{Progress, HasStepped, BreaksAt, IsClosed}
+use Rattle.front_end.specs.Piece.{IsPieceServed}
+use Rattle.front_end.specs.Going.{ConnectionGoesOn}
+use Rattle.front_end.specs.Progress.{Progress, HasAnsweredNext, BreaksAt, EndsConnection}
 use Rattle.front_end.specs.declared.end.ConnectionFault.{ConnectionFault}
 use Rattle.front_end.specs.declared.end.ConnectionFault.TheVariants.{Want}
 use Rattle.front_end.specs.declared.end.End.{End}
@@ -37,7 +37,7 @@ up_to ways told (suc n) before given now waiting steps = up_to-more ways told be
 
 -- a piece was taken
 pub taken : {C : Type 0} (ways : Ways C) (told : Option ℕ) (input input_then input_now : Input) (before at : Stand C) (was now : Progress) (piece : List ℕ)
-    → (goes : GoesOn ways told input input_then before at was.kept was.count) → Takes input_then input_now piece → length piece ≤ 65536
+    → (goes : ConnectionGoesOn ways told input input_then before at was.kept was.count) → Takes input_then input_now piece → length piece ≤ 65536
     → HasRead now.kept (goes.read ++ piece) (goes.requests ++ now.waiting) → now.quits ≡ list_any is_quit now.waiting → now.count ≡ was.count + length piece
     → IsUnderWay ways told input input_now before at now
 taken ways told input input_then input_now before at was now piece goes consumed short has_read quits counted = record {
@@ -59,7 +59,7 @@ taken ways told input input_then input_now before at was now piece goes consumed
 
 -- a step was made
 pub more : {C : Type 0} (ways : Ways C) (told : Option ℕ) (input input_now : Input) (before now next : Stand C) (was then : Progress)
-    → IsUnderWay ways told input input_now before now was → HasStepped ways told now next was.waiting then.waiting
+    → IsUnderWay ways told input input_now before now was → HasAnsweredNext ways told now next was.waiting then.waiting
     → then.kept ≡ was.kept → then.quits ≡ was.quits → then.count ≡ was.count
     → IsUnderWay ways told input input_now before next then
 more ways told input input_now before now next was then under step kept quits count = record {
@@ -72,7 +72,7 @@ more ways told input input_now before now next was then under step kept quits co
   consumed = under.consumed;
   short = under.short;
   given = under.given;
-  has_read = subst (λ (k : Kept). HasRead k (under.goes.read ++ under.piece) (under.goes.requests ++ under.given)) (sym kept) under.has_read;
+  has_read = subst (λ (k : ReaderState). HasRead k (under.goes.read ++ under.piece) (under.goes.requests ++ under.given)) (sym kept) under.has_read;
   quits = quits ∙ under.quits;
   counted = count ∙ under.counted;
   made = suc under.made;
@@ -98,18 +98,18 @@ pub closes : {C : Type 0} (ways : Ways C) (told : Option ℕ) (input input_now :
     (held held_now : List ℕ) (was : Progress) (result : Result (Option End) ConnectionFault)
     → IsUnderWay ways told input input_now before (stand at held) was → was.waiting ≡ []
     → ((fed : List ℕ) (requests : List Request) → (read : HasRead was.kept fed requests) → list_any is_quit requests
-    ≡ was.quits → IsClosed was.quits read.rest held held_now result)
+    ≡ was.quits → EndsConnection was.quits read.rest held held_now result)
     → HasComeTo ways told input input_now before (stand at held_now) was (by_close result)
 closes {C} ways told input input_now before at held held_now was result under none closing = by_result result served
   where
-    served : IsServed ways told under.then (stand at held_now) was.kept under.goes.read under.goes.requests under.piece result
+    served : IsPieceServed ways told under.then (stand at held_now) was.kept under.goes.read under.goes.requests under.piece result
     served = served-closed ways told under.then at held held_now was.kept under.goes.read under.goes.requests
         under.piece under.given was.quits result under.has_read under.goes.no_quit under.quits
         (up_to-all ways told under.then (stand at held) under.given was.waiting
         (up_to ways told under.made under.then under.given (stand at held) was.waiting under.steps) none)
         (λ quit. closing (under.goes.read ++ under.piece) (under.goes.requests ++ under.given) under.has_read quit)
 
-    by_result : (result : Result (Option End) ConnectionFault) → IsServed ways told under.then (stand at held_now)
+    by_result : (result : Result (Option End) ConnectionFault) → IsPieceServed ways told under.then (stand at held_now)
         was.kept under.goes.read under.goes.requests under.piece result
         → HasComeTo ways told input input_now before (stand at held_now) was (by_close result)
     by_result (Ok None) served =
@@ -126,7 +126,7 @@ closes {C} ways told input input_now before at held held_now was result under no
 
 -- there was no memory for a piece
 pub wants : {C : Type 0} (ways : Ways C) (told : Option ℕ) (input input_then input_now : Input) (before at : Stand C) (was : Progress) (piece : List ℕ)
-    → GoesOn ways told input input_then before at was.kept was.count → Takes input_then input_now piece
+    → ConnectionGoesOn ways told input input_then before at was.kept was.count → Takes input_then input_now piece
     → length piece ≤ 65536 → HasServed ways told input input_now before at (Err Want)
 wants ways told input input_then input_now before at was piece goes consumed short =
     served-fault ways told input input_then input_now before at at was.kept was.kept was.count goes piece Want (Err Want) short consumed (inl refl) refl
@@ -138,10 +138,11 @@ pub stepped-to : {C : Type 0} (ways : Ways C) (told : Option ℕ) (input input_n
 stepped-to ways told input input_now before now progress end by is come = subst (HasComeTo ways told input input_now before now progress) (sym is) come
 
 -- a read moved nothing
-pub still : {C : Type 0} (ways : Ways C) (told : Option ℕ) (input input_then input_now : Input) (before at now : Stand C) (kept : Kept) (count : ℕ)
-    → GoesOn ways told input input_then before at kept count → now ≡ at → Takes input_then input_now [] → GoesOn ways told input input_now before now kept count
+pub still : {C : Type 0} (ways : Ways C) (told : Option ℕ) (input input_then input_now : Input) (before at now : Stand C) (kept : ReaderState) (count : ℕ)
+    → ConnectionGoesOn ways told input input_then before at kept count → now ≡ at → Takes input_then input_now []
+    → ConnectionGoesOn ways told input input_now before now kept count
 still ways told input input_then input_now before at now kept count goes same nothing =
-    subst (λ (s : Stand _). GoesOn ways told input input_now before s kept count) (sym same) (record {
+    subst (λ (s : Stand _). ConnectionGoesOn ways told input input_now before s kept count) (sym same) (record {
       read = goes.read;
       consumed = subst (Takes input input_now) (append-nil goes.read) (Takes-trans input input_then input_now goes.read [] goes.consumed nothing);
       requests = goes.requests;
@@ -159,17 +160,17 @@ under-of ways told input input_now before now progress some (inl idle) = absurd 
 under-of ways told input input_now before now progress some (inr under) = under.1
 
 pub goes-of : {C : Type 0} (ways : Ways C) (told : Option ℕ) (input input_now : Input) (before now : Stand C) (progress : Progress) → progress.waiting ≡ []
-    → HasComeTo ways told input input_now before now progress None → GoesOn ways told input input_now before now progress.kept progress.count
+    → HasComeTo ways told input input_now before now progress None → ConnectionGoesOn ways told input input_now before now progress.kept progress.count
 goes-of ways told input input_now before now progress none (inl idle) = idle.1
 goes-of ways told input input_now before now progress none (inr under) = absurd (under.0 none)
 
 -- nothing was sent meanwhile
 pub moved : {C : Type 0} (ways : Ways C) (told : Option ℕ) (input input_now : Input) (before : Stand C) (at : C)
     (sent sent_now out : List ℕ) (progress : Progress) → sent_now ≡ sent
-    → GoesOn ways told input input_now before (stand at (sent ++ out)) progress.kept progress.count
-    → GoesOn ways told input input_now before (stand at (sent_now ++ out)) progress.kept progress.count
+    → ConnectionGoesOn ways told input input_now before (stand at (sent ++ out)) progress.kept progress.count
+    → ConnectionGoesOn ways told input input_now before (stand at (sent_now ++ out)) progress.kept progress.count
 moved ways told input input_now before at sent sent_now out progress same goes =
-    subst (λ (bs : List ℕ). GoesOn ways told input input_now before (stand at (bs ++ out)) progress.kept progress.count)
+    subst (λ (bs : List ℕ). ConnectionGoesOn ways told input input_now before (stand at (bs ++ out)) progress.kept progress.count)
     (sym same) goes
 
 -- what a read moved, by what it came to

@@ -2,7 +2,7 @@
 use Rattle.std.specs.Option.{option_to_list}
 use Rattle.std.proofs.Common.{append_assoc, ◌≡◌, ℕ, zero, suc, List, [], ◌∷◌, ◌++◌, drop, Option, Some, refl, sym, ap, ◌∙◌, subst, ◌⊎◌, inl, inr}
 use Rattle.memc_table.specs.Asked.{Asked}
-use Rattle.front_end.specs.Gateway.{Rules, IsFree, KeepsOpen, KeepsOthers, LendsNone}
+use Rattle.front_end.specs.Gateway.{Rules, IsNotOpen, KeepsOpen, KeepsOtherCalls, LendsNone}
 use Rattle.ready_client.specs.Calling.{StandOnce, AreOpen, IsBegunAs, HasOpen, KeepsApart, KeepsCalls, LendsApart, LendsBegun}
 use Rattle.ready_client.specs.declared.open_call.OpenCall.{OpenCall}
 use Rattle.ready_client.specs.declared.open_call.OpenCall.TheVariants.{Open, Ended}
@@ -58,8 +58,8 @@ module _ {K : Type 0} where
 module _ {G K : Type 0} (rules : Rules G K) where
   -- a call that was begun is none of those that were open
   pub begun-fresh : (before after : G) (op : Asked) (one : OpenCall K) → IsBegunAs rules before op one after
-      → (call : K) → HasOpen (one ∷ []) call → IsFree rules before call
-  begun-fresh before after op (Open one) begun call (inl same) = subst (λ (k : K). IsFree rules before k) (sym same) begun.0
+      → (call : K) → HasOpen (one ∷ []) call → IsNotOpen rules before call
+  begun-fresh before after op (Open one) begun call (inl same) = subst (λ (k : K). IsNotOpen rules before k) (sym same) begun.0
   begun-fresh before after op (Open one) begun call (inr has) = absurd has
   begun-fresh before after op (Ended end) begun call has = absurd has
 
@@ -91,7 +91,7 @@ module _ {G K : Type 0} (rules : Rules G K) where
           (open-last calls (one ∷ []) call (subst (λ (o : OpenCall K). HasOpen (o ∷ []) call) (sym is) (inl refl))))
 
   -- an open call ended
-  pub ended-apart : (before after : G) (one : K) (calls : List (OpenCall K)) → KeepsOthers rules one before after
+  pub ended-apart : (before after : G) (one : K) (calls : List (OpenCall K)) → KeepsOtherCalls rules one before after
       → KeepsApart rules (Open one ∷ calls) calls before after
   ended-apart before after one calls kept call op began other opened = (kept call op began (λ same. other (inl same)) opened, λ has. other (inr has))
 
@@ -103,7 +103,7 @@ module _ {G K : Type 0} (rules : Rules G K) where
       by (inl same) = gone (subst (λ (k : K). rules.lent after k) same lent)
       by (inr has) = other has
 
-  pub ended-others : (before after : G) (one : K) (calls : List (OpenCall K)) → KeepsOthers rules one before after
+  pub ended-others : (before after : G) (one : K) (calls : List (OpenCall K)) → KeepsOtherCalls rules one before after
       → StandOnce (Open one ∷ calls) → KeepsCalls rules calls before after
   ended-others before after one calls kept distinct call op began has opened =
       kept call op began (λ same. distinct.0 (subst (λ (k : K). HasOpen calls k) same has)) opened

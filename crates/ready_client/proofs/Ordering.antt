@@ -7,16 +7,16 @@ use Rattle.front_end.specs.Answers.{stand}
 use Rattle.front_end.specs.AtOnce.{at_once}
 use Rattle.front_end.specs.Calls.{Call, Made, Failed, Ways, Leads, LeadsBy}
 use Rattle.front_end.specs.Gateway.{Rules}
-use Rattle.front_end.specs.Going.{GoesOn}
+use Rattle.front_end.specs.Going.{ConnectionGoesOn}
 use Rattle.front_end.specs.Order.{IsOrder, among}
 use Rattle.front_end.specs.Progress.{Progress}
 use Rattle.front_end.specs.Sequences.{sequence_of}
-use Rattle.front_end.specs.Turns.{text_in}
+use Rattle.front_end.specs.Turns.{exchanges_text}
 use Rattle.front_end.specs.declared.at_once.AtOnce.{AtOnce}
 use Rattle.front_end.specs.declared.overlap.Overlap.{Overlap}
 use Rattle.front_end.specs.declared.overlap.Overlap.TheVariants.{Never}
 use Rattle.front_end.proofs.Sequences.{never-goes_on}
-use Rattle.ready_client.specs.Coming.{ways_of, Comes}
+use Rattle.ready_client.specs.Coming.{ComesAtGateway, ways_of}
 use Rattle.ready_client.specs.Ordered.{AnsweredInOrder, AnsweredInSequences, AreInOrder, AreInSequences}
 use Rattle.ready_client.specs.declared.open_call.OpenCall.{OpenCall}
 use Rattle.ready_client.proofs.Coming.{goes-of}
@@ -59,7 +59,7 @@ module _ {C : Type 0} (ways : Ways C) (later : C → C → Type 0) (order : IsOr
   -- where all that was read is answered, the calls were made in their order
   pub answered-in-order : (told : Option ℕ) (input input_now : Input) (first now : AtOnce C) (before held : List ℕ)
       (progress : Progress) (calls : List (OpenCall _)) (unwanted : ℕ) → progress.waiting ≡ []
-      → Comes (at_once ways later) Never told input input_now first before now held progress calls unwanted None
+      → ComesAtGateway (at_once ways later) Never told input input_now first before now held progress calls unwanted None
       → AnsweredInOrder ways later told input input_now progress.kept first.caller now.caller before held
   answered-in-order told input input_now first now before held progress calls unwanted none come = record {
     read = goes.read;
@@ -68,10 +68,10 @@ module _ {C : Type 0} (ways : Ways C) (later : C → C → Type 0) (order : IsOr
     has_read = subst (λ (requests : List Request). HasRead progress.kept goes.read requests) (sym goes.answered.asked) goes.has_read;
     whole = goes.answered.whole;
     order = in-order first.caller first _ (come.ends []) now.caller (order.same first.caller) (come.later []) goes.answered.leads;
-    bytes = subst (λ (text : List ℕ). Appends before held text) (append-nil (text_in goes.answered.turns)) goes.answered.bytes;
+    bytes = subst (λ (text : List ℕ). Appends before held text) (append-nil (exchanges_text goes.answered.turns)) goes.answered.bytes;
   }
     where
-      goes : GoesOn ways_among told input input_now (stand first before) (stand (come.ends []) held) progress.kept progress.count
+      goes : ConnectionGoesOn ways_among told input input_now (stand first before) (stand (come.ends []) held) progress.kept progress.count
       goes = never-goes_on (at_once ways later).later (at_once ways later).ways told input input_now (λ _. first)
           come.ends before held progress.kept progress.count
           (goes-of (ways_of (at_once ways later) Never) told input input_now (stand (λ _. first) before) (stand come.ends held) progress none come.come)
@@ -101,7 +101,7 @@ module _ {G K : Type 0} (rules : Rules G K) (overlap : Overlap) where
   -- where all that was read is answered, the calls of each sequence were made in their order
   pub answered-in-sequences : (told : Option ℕ) (input input_now : Input) (first now : G) (before held : List ℕ)
       (progress : Progress) (calls : List (OpenCall K)) (unwanted : ℕ) → progress.waiting ≡ []
-      → Comes rules overlap told input input_now first before now held progress calls unwanted None
+      → ComesAtGateway rules overlap told input input_now first before now held progress calls unwanted None
       → AnsweredInSequences rules.ways rules.later (sequence_of overlap) told input input_now progress.kept first now before held
   answered-in-sequences told input input_now first now before held progress calls unwanted none come = record {
     read = goes.read;
@@ -110,8 +110,8 @@ module _ {G K : Type 0} (rules : Rules G K) (overlap : Overlap) where
     has_read = subst (λ (requests : List Request). HasRead progress.kept goes.read requests) (sym goes.answered.asked) goes.has_read;
     whole = goes.answered.whole;
     order = in-sequences (λ _. first) _ come.ends now come.later goes.answered.leads;
-    bytes = subst (λ (text : List ℕ). Appends before held text) (append-nil (text_in goes.answered.turns)) goes.answered.bytes;
+    bytes = subst (λ (text : List ℕ). Appends before held text) (append-nil (exchanges_text goes.answered.turns)) goes.answered.bytes;
   }
     where
-      goes : GoesOn (ways_of rules overlap) told input input_now (stand (λ _. first) before) (stand come.ends held) progress.kept progress.count
+      goes : ConnectionGoesOn (ways_of rules overlap) told input input_now (stand (λ _. first) before) (stand come.ends held) progress.kept progress.count
       goes = goes-of (ways_of rules overlap) told input input_now (stand (λ _. first) before) (stand come.ends held) progress none come.come

@@ -4,8 +4,8 @@ use Rattle.edge_io.specs.Moving.{Appends}
 use Rattle.edge_io.specs.Writing.{HasWritten}
 use Rattle.memc_proto.specs.declared.end.CallEnd.{CallEnd}
 use Rattle.memc_proto.specs.declared.request.Request.{Request}
-use Rattle.front_end.specs.Progress.{IsClosed}
-use Rattle.front_end.specs.Settling.{HasSettled, HasTold}
+use Rattle.front_end.specs.Progress.{EndsConnection}
+use Rattle.front_end.specs.Settling.{HasSettledDue, HasTold}
 use Rattle.front_end.specs.declared.end.ConnectionFault.{ConnectionFault}
 use Rattle.front_end.specs.declared.end.ConnectionFault.TheVariants.{ReadFault, WriteFault, Want}
 use Rattle.front_end.specs.declared.end.End.{End}
@@ -15,7 +15,7 @@ behind : (h before now bytes : List ℕ) → Appends before now bytes → Append
 behind h before now bytes taken = ap (λ (bs : List ℕ). h ++ bs) taken ∙ sym (append_assoc h before bytes)
 
 pub settled : (h : List ℕ) (end : CallEnd) (before now : List ℕ) (waiting left : List Request)
-    → HasSettled end before now waiting left → HasSettled end (h ++ before) (h ++ now) waiting left
+    → HasSettledDue end before now waiting left → HasSettledDue end (h ++ before) (h ++ now) waiting left
 settled h end before now [] left is = absurd is
 settled h end before now (request ∷ others) left is = (behind h before now _ is.0, is.1)
 
@@ -28,7 +28,7 @@ pub part : (h text before now : List ℕ) → HasWritten before now text → Has
 part h text before now is = record { count = is.count; bytes = behind h before now _ is.bytes }
 
 pub closed : (h : List ℕ) (quits : Bool) (rest before now : List ℕ) (result : Result (Option End) ConnectionFault)
-    → IsClosed quits rest before now result → IsClosed quits rest (h ++ before) (h ++ now) result
+    → EndsConnection quits rest before now result → EndsConnection quits rest (h ++ before) (h ++ now) result
 closed h quits rest before now (Ok (Some ends.Quit)) is = (is.0, ap (λ (bs : List ℕ). h ++ bs) is.1)
 closed h quits rest before now (Ok (Some ends.LineTooLong)) is = (is.0, is.1, behind h _ _ _ is.2)
 closed h quits rest before now (Ok (Some ends.Ended)) is = absurd is

@@ -5,7 +5,7 @@ use Rattle.edge_io.specs.Moving.{Input}
 use Rattle.edge_io.specs.Writing.{HasWritten}
 use Rattle.group_types.specs.declared.process.ProcessId.{ProcessId}
 use Rattle.memc_table.specs.Asked.{Asked}
-use Rattle.memc_proto.specs.Reader.{Kept, HasRead}
+use Rattle.memc_proto.specs.Reader.{HasRead, ReaderState}
 use Rattle.memc_proto.specs.Reads.{is_quit}
 use Rattle.memc_proto.specs.Text.{fail_text, too_long_text}
 use Rattle.memc_proto.specs.declared.end.CallEnd.{CallEnd}
@@ -14,14 +14,14 @@ use Rattle.memc_proto.specs.declared.request.Request.{Request}
 use Rattle.front_end.specs.Ahead.{IsDueAhead, unneeded_of}
 use Rattle.front_end.specs.Gateway.{Rules}
 use Rattle.front_end.specs.Progress.{Progress}
-use Rattle.front_end.specs.Settling.{IsDue, HasSettled, HasTold, first_text, own_text}
+use Rattle.front_end.specs.Settling.{IsDue, HasSettledDue, HasTold, first_text, own_text}
 use Rattle.front_end.specs.declared.due.Due.TheVariants as due
 use Rattle.front_end.specs.declared.end.ConnectionFault.{ConnectionFault}
 use Rattle.front_end.specs.declared.end.ConnectionFault.TheVariants.{Want}
 use Rattle.front_end.specs.declared.end.End.{End}
 use Rattle.front_end.specs.declared.overlap.Overlap.{Overlap}
 use Rattle.ready_client.specs.Calling.{IsBegunAs, HasEndOf}
-use Rattle.ready_client.specs.Coming.{Comes}
+use Rattle.ready_client.specs.Coming.{ComesAtGateway}
 use Rattle.ready_client.specs.declared.open_call.OpenCall.{OpenCall}
 
 -- where a connection stands at its gateway: its calls that are under way, of which the ends of the first ones may be
@@ -51,7 +51,7 @@ pub data Asking (K : Type 0) : Type 0 where
   Wants : Asking K
 
 -- a reader that keeps this gave requests of which one quits, or none does
-pub record HasReadSo (kept : Kept) (quits : Bool) : Type 0 where
+pub record HasReadSo (kept : ReaderState) (quits : Bool) : Type 0 where
   pub fed : List ℕ
   pub requests : List Request
   pub has_read : HasRead kept fed requests
@@ -102,7 +102,7 @@ module _ {G K : Type 0} (rules : Rules G K) (told : Option ℕ) (sent : List ℕ
       × (before.calls ≡ call ∷ after.calls)
       × HasEndOf rules before.gateway call end after.gateway
       × (after.unwanted ≤ unneeded_of end before.connection.waiting)
-      × AnswersFirst rules told (HasSettled end) (first_text end before.connection.waiting) before after
+      × AnswersFirst rules told (HasSettledDue end) (first_text end before.connection.waiting) before after
   Does (LetsGo call end) before after = ((0 < before.unwanted) ⊎ (before.end ≢ None))
       × (before.calls ≡ call ∷ after.calls)
       × HasEndOf rules before.gateway call end after.gateway
@@ -136,5 +136,5 @@ module _ {G K : Type 0} (rules : Rules G K) (told : Option ℕ) (sent : List ℕ
   -- the same where the connection had come to where it stood
   abbrev pub AsksFrom : Overlap → Input → ConnectionAt G K → ConnectionAt G K → Type 0
   AsksFrom overlap input_now before after = (input : Input) (first : G) (held : List ℕ)
-      → Comes rules overlap told input input_now first held before.gateway before.text before.connection before.calls
+      → ComesAtGateway rules overlap told input input_now first held before.gateway before.text before.connection before.calls
       before.unwanted before.end → Asks before after

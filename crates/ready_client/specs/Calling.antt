@@ -3,7 +3,7 @@ use Rattle.std.specs.Prelude.{ℕ, ◌≡◌, ◌≢◌, ◌⊎◌, List, [], �
 use Rattle.memc_table.specs.Asked.{Asked}
 use Rattle.memc_table.specs.declared.act.Act.{Act}
 use Rattle.memc_proto.specs.declared.end.CallEnd.{CallEnd}
-use Rattle.front_end.specs.Gateway.{Rules, HasEnded, IsFree}
+use Rattle.front_end.specs.Gateway.{IsEndOf, IsNotOpen, Rules}
 use Rattle.front_end.specs.Sequences.{sequence_of}
 use Rattle.front_end.specs.Turns.{IsMoment}
 use Rattle.front_end.specs.declared.overlap.Overlap.{Overlap}
@@ -25,7 +25,7 @@ StandOnce (Ended _ ∷ calls) = StandOnce calls
 module _ {G K : Type 0} (rules : Rules G K) where
   -- a call of this op was begun, and is open or has ended
   abbrev pub IsBegunAs : G → Asked → OpenCall K → G → Type 0
-  IsBegunAs before op (Open call) after = IsFree rules before call × rules.opened after call op before
+  IsBegunAs before op (Open call) after = IsNotOpen rules before call × rules.opened after call op before
   IsBegunAs before op (Ended end) after = rules.ways.made before op end after
 
   -- of the calls that have a caller each had one before, or is the one that was begun and is open
@@ -34,7 +34,7 @@ module _ {G K : Type 0} (rules : Rules G K) where
 
   -- the end is that of this call: it is taken, or was
   abbrev pub HasEndOf : G → OpenCall K → CallEnd → G → Type 0
-  HasEndOf before (Open call) end after = HasEnded rules before call end after
+  HasEndOf before (Open call) end after = IsEndOf rules before call end after
   HasEndOf before (Ended had) end after = (had ≡ end) × (after ≡ before)
 
   -- each of these is open at the gateway

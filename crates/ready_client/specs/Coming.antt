@@ -2,7 +2,7 @@
 use Rattle.std.specs.Prelude.{ℕ, zero, suc, ◌≡◌, ◌≢◌, ◌+◌, ◌<◌, ◌≤◌, ◌⊎◌, List, [], ◌++◌, drop, length, Option, Some, None, Result, Ok, Err}
 use Rattle.std.specs.List.{list_any}
 use Rattle.edge_io.specs.Moving.{Input, Takes}
-use Rattle.memc_proto.specs.Reader.{Kept, HasRead}
+use Rattle.memc_proto.specs.Reader.{HasRead, ReaderState}
 use Rattle.memc_proto.specs.Reads.{is_quit}
 use Rattle.memc_proto.specs.declared.request.Request.{Request}
 use Rattle.front_end.specs.Ahead.{acts_ahead}
@@ -10,8 +10,8 @@ use Rattle.front_end.specs.Answers.{Stand, stand}
 use Rattle.front_end.specs.Calls.{Ways}
 use Rattle.front_end.specs.Connection.{HasServed}
 use Rattle.front_end.specs.Gateway.{Rules}
-use Rattle.front_end.specs.Going.{GoesOn}
-use Rattle.front_end.specs.Progress.{Progress, HasStepped}
+use Rattle.front_end.specs.Going.{ConnectionGoesOn}
+use Rattle.front_end.specs.Progress.{HasAnsweredNext, Progress}
 use Rattle.front_end.specs.Sequences.{in_sequence, sequence_of}
 use Rattle.front_end.specs.declared.end.ConnectionFault.{ConnectionFault}
 use Rattle.front_end.specs.declared.end.End.{End}
@@ -25,15 +25,15 @@ use Rattle.ready_client.specs.declared.step.Step.TheVariants.{Goes, Waits, Ends}
 abbrev pub Steps : {C : Type 0} → Ways C → Option ℕ → ℕ → Stand C → List Request → Stand C → List Request → Type 0
 Steps ways told zero before given now waiting = (now ≡ before) × (waiting ≡ given)
 Steps {C} ways told (suc n) before given now waiting =
-    (middle : Stand C) × (left : List Request) × Steps ways told n before given middle left × HasStepped ways told middle now left waiting
+    (middle : Stand C) × (left : List Request) × Steps ways told n before given middle left × HasAnsweredNext ways told middle now left waiting
 
 -- a piece came to a connection of which all was answered, and some steps were made at the requests that are whole with it
 pub record IsUnderWay {C : Type 0} (ways : Ways C) (told : Option ℕ) (input input_now : Input) (before now : Stand C) (progress : Progress) : Type 0 where
   pub input_then : Input
   pub then : Stand C
-  pub kept : Kept
+  pub kept : ReaderState
   pub count : ℕ
-  pub goes : GoesOn ways told input input_then before then kept count
+  pub goes : ConnectionGoesOn ways told input input_then before then kept count
   pub piece : List ℕ
   pub consumed : Takes input_then input_now piece
   pub short : length piece ≤ 65536
@@ -47,7 +47,7 @@ pub record IsUnderWay {C : Type 0} (ways : Ways C) (told : Option ℕ) (input in
 -- how far a connection has come: all that was read is answered, or a piece is under way; or how it ended
 abbrev pub HasComeTo : {C : Type 0} → Ways C → Option ℕ → Input → Input → Stand C → Stand C → Progress → Option (Result End ConnectionFault) → Type 0
 HasComeTo ways told input input_now before now progress None =
-    (progress.waiting ≡ [] × GoesOn ways told input input_now before now progress.kept progress.count)
+    (progress.waiting ≡ [] × ConnectionGoesOn ways told input input_now before now progress.kept progress.count)
     ⊎ (progress.waiting ≢ [] × IsUnderWay ways told input input_now before now progress)
 HasComeTo ways told input input_now before now progress (Some result) = HasServed ways told input input_now before now result
 
@@ -74,7 +74,7 @@ ways_of rules overlap = in_sequence (sequence_of overlap) rules.later rules.ways
 
 -- the same of a connection among others at one gateway, which began there with these bytes held and now has these: its calls that
 -- are under way are of the acts that its requests ask, in their order, but for the first ones, whose ends aren't wanted any more
-pub record Comes {G K : Type 0} (rules : Rules G K) (overlap : Overlap) (told : Option ℕ) (input input_now : Input) (first : G) (before : List ℕ) (now : G)
+pub record ComesAtGateway {G K : Type 0} (rules : Rules G K) (overlap : Overlap) (told : Option ℕ) (input input_now : Input) (first : G) (before : List ℕ) (now : G)
     (held : List ℕ) (progress : Progress) (calls : List (OpenCall K)) (unwanted : ℕ) (end : Option (Result End ConnectionFault)) : Type 0 where
   pub ends : List ℕ → G
   pub later : (sequence : List ℕ) → rules.later (ends sequence) now

@@ -5,7 +5,7 @@ ghost use Rattle.front_end.specs.Progress.{Progress};
 ghost use Rattle.front_end.specs.declared.overlap.Overlap.TheVariants.{OtherKeys};
 ghost use Rattle.ready_client.specs.Asking.{connection_at, most_unsent, Asks};
 ghost use Rattle.ready_client.specs.Calling.{KeepsApart, LendsApart};
-ghost use Rattle.ready_client.specs.Coming.{end_by, Comes};
+ghost use Rattle.ready_client.specs.Coming.{ComesAtGateway, end_by};
 
 use crate::call_list::CallList;
 use crate::step::Step;
@@ -27,8 +27,8 @@ pub(crate) fn go_ahead<G: Gateway, T: Clock>(
     requires waiting { connection.now.waiting ≢ [] }
     requires some { calls.old ≢ [] }
     ensures comes { (input input_now : Input) (first : G) (before held : List ℕ)
-        → Comes G.rules overlap (T.moment clock.now) input input_now first before gateway.old held connection.now calls.old 0 None
-        → Comes G.rules overlap (T.moment clock.now) input input_now first before gateway.new held connection.now calls.new 0
+        → ComesAtGateway G.rules overlap (T.moment clock.now) input input_now first before gateway.old held connection.now calls.old 0 None
+        → ComesAtGateway G.rules overlap (T.moment clock.now) input input_now first before gateway.new held connection.now calls.new 0
         (end_by result) }
     ensures asks { (sent held : List ℕ) → length held ≤ length sent + most_unsent
         → Asks G.rules (T.moment clock.now) sent (connection_at gateway.old connection.now calls.old 0 None held)
@@ -54,8 +54,8 @@ fn begin_further<G: Gateway, T: Clock>(
     requires waiting { connection.now.waiting ≢ [] }
     requires some { calls.old ≢ [] }
     ensures comes { (input input_now : Input) (first : G) (before held : List ℕ)
-        → Comes G.rules OtherKeys (T.moment clock.now) input input_now first before gateway.old held connection.now calls.old 0 None
-        → Comes G.rules OtherKeys (T.moment clock.now) input input_now first before gateway.new held connection.now calls.new 0
+        → ComesAtGateway G.rules OtherKeys (T.moment clock.now) input input_now first before gateway.old held connection.now calls.old 0 None
+        → ComesAtGateway G.rules OtherKeys (T.moment clock.now) input input_now first before gateway.new held connection.now calls.new 0
         (end_by result) }
     ensures asks { (sent held : List ℕ) → length held ≤ length sent + most_unsent
         → Asks G.rules (T.moment clock.now) sent (connection_at gateway.old connection.now calls.old 0 None held)
@@ -85,8 +85,8 @@ fn begin_behind<G: Gateway>(
     requires some { calls.old ≢ [] }
     ensures comes { (told : Option ℕ) (input input_now : Input) (first : G) (before held : List ℕ) (progress : Progress)
         → IsDueAhead told progress.waiting (length calls.old) op → progress.waiting ≢ []
-        → Comes G.rules OtherKeys told input input_now first before gateway.old held progress calls.old 0 None
-        → Comes G.rules OtherKeys told input input_now first before gateway.new held progress calls.new 0 (end_by result) }
+        → ComesAtGateway G.rules OtherKeys told input input_now first before gateway.old held progress calls.old 0 None
+        → ComesAtGateway G.rules OtherKeys told input input_now first before gateway.new held progress calls.new 0 (end_by result) }
     ensures asks { (told : Option ℕ) (progress : Progress) (sent held : List ℕ) → length held ≤ length sent + most_unsent
         → IsDueAhead told progress.waiting (length calls.old) op
         → Asks G.rules told sent (connection_at gateway.old progress calls.old 0 None held)

@@ -7,7 +7,7 @@ ghost use Rattle.ready_client.specs.declared.open_call.OpenCall.{OpenCall};
 ghost use Rattle.front_end.specs.declared.due.Due.TheVariants as due;
 ghost use Rattle.ready_client.specs.Asking.{connection_at, most_unsent, AsksFrom};
 ghost use Rattle.ready_client.specs.Calling.{KeepsApart, LendsApart};
-ghost use Rattle.ready_client.specs.Coming.{end_by, Comes};
+ghost use Rattle.ready_client.specs.Coming.{ComesAtGateway, end_by};
 
 use crate::call_list::CallList;
 use crate::calls::Calls;
@@ -34,9 +34,9 @@ pub(crate) fn answer<G: Gateway, T: Clock>(
     requires wanted { calls.old.unwanted ≡ 0 }
     requires short { length outbox.old ≤ most_unsent }
     ensures comes { (input input_now : Input) (first : G) (before sent : List ℕ)
-        → Comes G.rules overlap (T.moment clock.now) input input_now first before
+        → ComesAtGateway G.rules overlap (T.moment clock.now) input input_now first before
         gateway.old (sent ++ outbox.old) connection.old calls.old.list 0 None
-        → Comes G.rules overlap (T.moment clock.now) input input_now first before
+        → ComesAtGateway G.rules overlap (T.moment clock.now) input input_now first before
         gateway.new (sent ++ outbox.new) connection.new calls.new.list calls.new.unwanted (end_by result) }
     ensures asks { (input : Input) (sent : List ℕ) → AsksFrom G.rules (T.moment clock.now) sent overlap input
         (connection_at gateway.old connection.old calls.old.list 0 None (sent ++ outbox.old))
@@ -91,9 +91,9 @@ fn begin<G: Gateway, T: Clock>(
     requires wanted { calls.old.unwanted ≡ 0 }
     requires short { length outbox.old ≤ most_unsent }
     ensures comes { (input input_now : Input) (first : G) (before sent : List ℕ)
-        → Comes G.rules overlap (T.moment clock.now) input input_now first before
+        → ComesAtGateway G.rules overlap (T.moment clock.now) input input_now first before
         gateway.old (sent ++ outbox.old) connection.old calls.old.list 0 None
-        → Comes G.rules overlap (T.moment clock.now) input input_now first before
+        → ComesAtGateway G.rules overlap (T.moment clock.now) input input_now first before
         gateway.new (sent ++ outbox.new) connection.new calls.new.list calls.new.unwanted (end_by result) }
     ensures asks { (input : Input) (sent : List ℕ) → AsksFrom G.rules (T.moment clock.now) sent overlap input
         (connection_at gateway.old connection.old calls.old.list 0 None (sent ++ outbox.old))
@@ -126,9 +126,9 @@ fn order<G: Gateway>(
     requires short { length outbox.old ≤ most_unsent }
     ensures comes { (overlap : Overlap) (told : Option ℕ) (input input_now : Input) (first : G) (before sent : List ℕ)
         (calls : List (OpenCall G.Call)) → IsDue told connection.old.waiting (due.Fail at keep)
-        → Comes G.rules overlap told input input_now first before
+        → ComesAtGateway G.rules overlap told input input_now first before
         gateway.old (sent ++ outbox.old) connection.old calls 0 None
-        → Comes G.rules overlap told input input_now first before
+        → ComesAtGateway G.rules overlap told input input_now first before
         gateway.new (sent ++ outbox.new) connection.new calls 0 (end_by result) }
     ensures asks { (overlap : Overlap) (told : Option ℕ) (input : Input) (sent : List ℕ) (calls : List (OpenCall G.Call))
         → IsDue told connection.old.waiting (due.Fail at keep)
@@ -158,8 +158,8 @@ fn tell<G: Gateway>(
     requires short { length outbox.old ≤ most_unsent }
     ensures comes { (overlap : Overlap) (told : Option ℕ) (input input_now : Input) (first now : G) (before sent : List ℕ)
         (calls : List (OpenCall G.Call)) → IsDue told connection.old.waiting due.Text
-        → Comes G.rules overlap told input input_now first before now (sent ++ outbox.old) connection.old calls 0 None
-        → Comes G.rules overlap told input input_now first before now (sent ++ outbox.new) connection.new calls 0 (end_by result) }
+        → ComesAtGateway G.rules overlap told input input_now first before now (sent ++ outbox.old) connection.old calls 0 None
+        → ComesAtGateway G.rules overlap told input input_now first before now (sent ++ outbox.new) connection.new calls 0 (end_by result) }
     ensures asks { (overlap : Overlap) (told : Option ℕ) (input : Input) (now : G) (sent : List ℕ) (calls : List (OpenCall G.Call))
         → IsDue told connection.old.waiting due.Text
         → AsksFrom G.rules told sent overlap input (connection_at now connection.old calls 0 None (sent ++ outbox.old))

@@ -4,7 +4,7 @@ ghost use Rattle.edge_io.specs.Moving.{Input};
 ghost use Rattle.memc_proto.specs.Reader.{HasRead};
 ghost use Rattle.ready_client.specs.Asking.{connection_at, AsksFrom};
 ghost use Rattle.ready_client.specs.Calling.{KeepsApart, LendsApart};
-ghost use Rattle.ready_client.specs.Coming.{end_by, Comes, HasTakenLess};
+ghost use Rattle.ready_client.specs.Coming.{end_by, ComesAtGateway, HasTakenLess};
 
 use crate::calls::Calls;
 use crate::step::{MOST_UNSENT, Step, advance};
@@ -83,9 +83,9 @@ impl<S: TryStream, K: Drop> Client<S, K> {
     ) -> Turn
         requires room { length room.old ≡ 65536 }
         ensures comes { (input : Input) (first : G) (before : List ℕ)
-            → Comes G.rules overlap (T.moment clock.now) input (S.input self.old.stream) first before gateway.old
+            → ComesAtGateway G.rules overlap (T.moment clock.now) input (S.input self.old.stream) first before gateway.old
             (S.held self.old.stream ++ self.old.outbox) self.old.connection self.old.calls.list self.old.calls.unwanted self.old.end
-            → Comes G.rules overlap (T.moment clock.now) input (S.input self.new.stream) first before gateway.new
+            → ComesAtGateway G.rules overlap (T.moment clock.now) input (S.input self.new.stream) first before gateway.new
             (S.held self.new.stream ++ self.new.outbox) self.new.connection self.new.calls.list self.new.calls.unwanted self.new.end }
         ensures asks { AsksFrom G.rules (T.moment clock.now) (S.held self.old.stream) overlap (S.input self.old.stream)
             (connection_at gateway.old self.old.connection self.old.calls.list self.old.calls.unwanted self.old.end
@@ -122,9 +122,9 @@ impl<S: TryStream, K: Drop> Client<S, K> {
     ) -> Turn
         requires room { length room.old ≡ 65536 }
         ensures comes { (input : Input) (first : G) (before : List ℕ)
-            → Comes G.rules overlap (T.moment clock.now) input (S.input self.old.stream) first before gateway.old
+            → ComesAtGateway G.rules overlap (T.moment clock.now) input (S.input self.old.stream) first before gateway.old
             (S.held self.old.stream ++ self.old.outbox) self.old.connection self.old.calls.list self.old.calls.unwanted self.old.end
-            → Comes G.rules overlap (T.moment clock.now) input (S.input self.new.stream) first before gateway.new
+            → ComesAtGateway G.rules overlap (T.moment clock.now) input (S.input self.new.stream) first before gateway.new
             (S.held self.new.stream ++ self.new.outbox) self.new.connection self.new.calls.list self.new.calls.unwanted self.new.end }
         ensures asks { AsksFrom G.rules (T.moment clock.now) (S.held self.old.stream) overlap (S.input self.old.stream)
             (connection_at gateway.old self.old.connection self.old.calls.list self.old.calls.unwanted self.old.end
@@ -208,9 +208,9 @@ impl<S: TryStream, K: Drop> Client<S, K> {
     ) -> bool
         requires room { length room.old ≡ 65536 }
         ensures comes { (input : Input) (first : G) (before : List ℕ)
-            → Comes G.rules overlap (T.moment clock.now) input (S.input self.old.stream) first before gateway.old
+            → ComesAtGateway G.rules overlap (T.moment clock.now) input (S.input self.old.stream) first before gateway.old
             (S.held self.old.stream ++ self.old.outbox) self.old.connection self.old.calls.list self.old.calls.unwanted self.old.end
-            → Comes G.rules overlap (T.moment clock.now) input (S.input self.new.stream) first before gateway.new
+            → ComesAtGateway G.rules overlap (T.moment clock.now) input (S.input self.new.stream) first before gateway.new
             (S.held self.new.stream ++ self.new.outbox) self.new.connection self.new.calls.list self.new.calls.unwanted self.new.end }
         ensures asks { AsksFrom G.rules (T.moment clock.now) (S.held self.old.stream) overlap (S.input self.old.stream)
             (connection_at gateway.old self.old.connection self.old.calls.list self.old.calls.unwanted self.old.end

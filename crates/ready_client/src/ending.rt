@@ -4,7 +4,7 @@ ghost use Rattle.front_end.specs.Settling.{CallIsDue};
 ghost use Rattle.front_end.specs.declared.overlap.Overlap.{Overlap};
 ghost use Rattle.ready_client.specs.Asking.{connection_at, most_unsent, AsksFrom};
 ghost use Rattle.ready_client.specs.Calling.{StandOnce, HasEndOf, KeepsApart, KeepsCalls, LendsApart};
-ghost use Rattle.ready_client.specs.Coming.{end_by, Comes};
+ghost use Rattle.ready_client.specs.Coming.{ComesAtGateway, end_by};
 ghost use Rattle.ready_client.specs.declared.open_call.OpenCall.{OpenCall};
 
 use crate::ahead::go_ahead;
@@ -32,9 +32,9 @@ pub(crate) fn finish<G: Gateway, T: Clock>(
     requires wanted { calls.old.unwanted ≡ 0 }
     requires short { length outbox.old ≤ most_unsent }
     ensures comes { (input input_now : Input) (first : G) (before sent : List ℕ)
-        → Comes G.rules overlap (T.moment clock.now) input input_now first before
+        → ComesAtGateway G.rules overlap (T.moment clock.now) input input_now first before
         gateway.old (sent ++ outbox.old) connection.old calls.old.list 0 None
-        → Comes G.rules overlap (T.moment clock.now) input input_now first before
+        → ComesAtGateway G.rules overlap (T.moment clock.now) input input_now first before
         gateway.new (sent ++ outbox.new) connection.new calls.new.list calls.new.unwanted (end_by result) }
     ensures asks { (input : Input) (sent : List ℕ) → AsksFrom G.rules (T.moment clock.now) sent overlap input
         (connection_at gateway.old connection.old calls.old.list 0 None (sent ++ outbox.old))
@@ -60,9 +60,9 @@ pub(crate) fn take_begun<G: Gateway>(
 ) -> Result<Step, ConnectionFault>
     requires wanted { calls.old.unwanted ≡ 0 }
     ensures comes { (overlap : Overlap) (told : Option ℕ) (input input_now : Input) (first : G) (before sent : List ℕ)
-        → Comes G.rules overlap told input input_now first before
+        → ComesAtGateway G.rules overlap told input input_now first before
         gateway.old (sent ++ outbox.old) connection.old calls.old.list 0 None
-        → Comes G.rules overlap told input input_now first before
+        → ComesAtGateway G.rules overlap told input input_now first before
         gateway.new (sent ++ outbox.new) connection.new calls.new.list calls.new.unwanted (end_by result) }
     ensures asks { (overlap : Overlap) (told : Option ℕ) (input : Input) (sent : List ℕ) → AsksFrom G.rules told sent overlap input
         (connection_at gateway.old connection.old calls.old.list 0 None (sent ++ outbox.old))
@@ -92,8 +92,8 @@ fn settle<G: Gateway>(
     requires due { CallIsDue connection.old.waiting }
     ensures comes { (overlap : Overlap) (told : Option ℕ) (input input_now : Input) (first earlier now : G) (before sent : List ℕ)
         (call : OpenCall G.Call) → HasEndOf G.rules earlier call end now → KeepsCalls G.rules calls.old.list earlier now → G.rules.later earlier now
-        → Comes G.rules overlap told input input_now first before earlier (sent ++ outbox.old) connection.old (call ∷ calls.old.list) 0 None
-        → Comes G.rules overlap told input input_now first before now (sent ++ outbox.new) connection.new calls.new.list
+        → ComesAtGateway G.rules overlap told input input_now first before earlier (sent ++ outbox.old) connection.old (call ∷ calls.old.list) 0 None
+        → ComesAtGateway G.rules overlap told input input_now first before now (sent ++ outbox.new) connection.new calls.new.list
         calls.new.unwanted (end_by result) }
     ensures asks { (overlap : Overlap) (told : Option ℕ) (input : Input) (earlier now : G) (sent : List ℕ) (call : OpenCall G.Call)
         → HasEndOf G.rules earlier call end now

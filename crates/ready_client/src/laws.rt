@@ -10,7 +10,7 @@ ghost use Rattle.front_end.specs.declared.end.End.{End};
 ghost use Rattle.front_end.specs.declared.overlap.Overlap.{Overlap};
 ghost use Rattle.front_end.specs.declared.overlap.Overlap.TheVariants.{Never};
 ghost use Rattle.ready_client.specs.Calling.{KeepsCalls};
-ghost use Rattle.ready_client.specs.Coming.{Comes};
+ghost use Rattle.ready_client.specs.Coming.{ComesAtGateway};
 ghost use Rattle.ready_client.specs.Ordered.{AnsweredInOrder, AnsweredInSequences};
 ghost use Rattle.ready_client.specs.declared.open_call.OpenCall.{OpenCall};
 
@@ -20,7 +20,7 @@ use front_end::{AtOnce, Caller, Gateway};
 pub fn begins<G: Gateway>()
     ensures { (overlap : Overlap) (told : Option ℕ) (input : Input) (gateway : G) (held : List ℕ) (progress : Progress)
         → HasRead progress.kept [] [] → progress.waiting ≡ [] → progress.count ≡ 0
-        → Comes G.rules overlap told input input gateway held gateway (held ++ []) progress [] 0 None }
+        → ComesAtGateway G.rules overlap told input input gateway held gateway (held ++ []) progress [] 0 None }
 {}
 
 /// Between two of its turns a connection stays as far as it has come, where the gateway keeps its calls and comes later.
@@ -28,8 +28,8 @@ pub fn stays<G: Gateway>()
     ensures { (overlap : Overlap) (told : Option ℕ) (input input_now : Input) (first now next : G) (before held : List ℕ)
         (progress : Progress) (calls : List (OpenCall G.Call)) (unwanted : ℕ) (end : Option (Result End ConnectionFault))
         → G.rules.later now next → KeepsCalls G.rules calls now next
-        → Comes G.rules overlap told input input_now first before now held progress calls unwanted end
-        → Comes G.rules overlap told input input_now first before next held progress calls unwanted end }
+        → ComesAtGateway G.rules overlap told input input_now first before now held progress calls unwanted end
+        → ComesAtGateway G.rules overlap told input input_now first before next held progress calls unwanted end }
 {}
 
 /// Over a caller that others share, where none of its calls overlap, all that was read of a connection at which no request
@@ -38,7 +38,7 @@ pub fn stays<G: Gateway>()
 pub fn keeps_order<C: Caller>()
     ensures { (told : Option ℕ) (input input_now : Input) (first now : AtOnce C) (before held : List ℕ) (progress : Progress)
         (calls : List (OpenCall OnlyCall)) (unwanted : ℕ) → progress.waiting ≡ []
-        → Comes (at_once C.ways C.later) Never told input input_now first before now held progress calls unwanted None
+        → ComesAtGateway (at_once C.ways C.later) Never told input input_now first before now held progress calls unwanted None
         → AnsweredInOrder C.ways C.later told input input_now progress.kept first.caller now.caller before held }
 {}
 
@@ -47,7 +47,7 @@ pub fn keeps_order<C: Caller>()
 pub fn keeps_sequences<G: Gateway>()
     ensures { (overlap : Overlap) (told : Option ℕ) (input input_now : Input) (first now : G) (before held : List ℕ)
         (progress : Progress) (calls : List (OpenCall G.Call)) (unwanted : ℕ) → progress.waiting ≡ []
-        → Comes G.rules overlap told input input_now first before now held progress calls unwanted None
+        → ComesAtGateway G.rules overlap told input input_now first before now held progress calls unwanted None
         → AnsweredInSequences G.rules.ways G.rules.later (sequence_of overlap) told input input_now progress.kept first now before
         held }
 {}

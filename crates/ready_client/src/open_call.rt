@@ -1,5 +1,5 @@
 ghost use Rattle.std.specs.Prelude.{◌≡◌, Ok, None, Some, IfOk, IfSome, OnErr};
-ghost use Rattle.front_end.specs.Gateway.{IsFree, KeepsOpen, KeepsOthers, LendsNone, LendsOnly};
+ghost use Rattle.front_end.specs.Gateway.{IsNotOpen, KeepsOpen, KeepsOtherCalls, LendsNone, LendsOnly};
 ghost use Rattle.memc_table.specs.Asked.{Asked};
 ghost use Rattle.ready_client.specs.Calling.{IsBegunAs, LendsBegun};
 
@@ -38,9 +38,9 @@ pub(crate) fn begin_at<G: Gateway>(
 
 /// A call that was begun, with its end if it has come.
 fn end_at_once<G: Gateway>(gateway: &mut G, call: G::Call) -> OpenCall<G::Call>
-    ensures begun { (op : Asked) (before : G) → IsFree G.rules before call → G.rules.opened gateway.old call op before
+    ensures begun { (op : Asked) (before : G) → IsNotOpen G.rules before call → G.rules.opened gateway.old call op before
         → IsBegunAs G.rules before op result gateway.new }
-    ensures others { KeepsOthers G.rules call gateway.old gateway.new }
+    ensures others { KeepsOtherCalls G.rules call gateway.old gateway.new }
     ensures lends { (before : G) → LendsOnly G.rules (Some call) before gateway.old
         → LendsBegun G.rules (Some result) before gateway.new }
     ensures onward { G.rules.later gateway.old gateway.new }

@@ -1,11 +1,11 @@
 ghost use Rattle.std.specs.Prelude.{◌≡◌, ◌≢◌, ◌+◌, ◌≤◌, ◌^◌, ◌++◌, ℕ, List, Option, [], None, false, length};
 ghost use Rattle.edge_io.specs.Moving.{Input, Takes};
 ghost use Rattle.front_end.specs.Answers.{stand};
-ghost use Rattle.front_end.specs.Going.{GoesOn};
+ghost use Rattle.front_end.specs.Going.{ConnectionGoesOn};
 ghost use Rattle.front_end.specs.declared.overlap.Overlap.{Overlap};
 ghost use Rattle.ready_client.specs.Asking.{connection_at, AsksFrom, Closes, HasReadSo};
 ghost use Rattle.ready_client.specs.Calling.{KeepsApart, LendsApart};
-ghost use Rattle.ready_client.specs.Coming.{by_close, end_by, ways_of, Comes, HasComeTo, IsUnderWay};
+ghost use Rattle.ready_client.specs.Coming.{by_close, end_by, ways_of, ComesAtGateway, HasComeTo, IsUnderWay};
 
 use crate::answer::answer;
 use crate::calls::Calls;
@@ -53,9 +53,9 @@ pub(crate) fn advance<G: Gateway, S: TryStream, T: Clock>(
     requires within { connection.old.count ≤ 2 ^ 62 }
     requires wanted { calls.old.unwanted ≡ 0 }
     ensures comes { (input : Input) (first : G) (before : List ℕ)
-        → Comes G.rules overlap (T.moment clock.now) input (S.input stream.old) first before gateway.old
+        → ComesAtGateway G.rules overlap (T.moment clock.now) input (S.input stream.old) first before gateway.old
         (S.held stream.old ++ outbox.old) connection.old calls.old.list 0 None
-        → Comes G.rules overlap (T.moment clock.now) input (S.input stream.new) first before gateway.new
+        → ComesAtGateway G.rules overlap (T.moment clock.now) input (S.input stream.new) first before gateway.new
         (S.held stream.new ++ outbox.new) connection.new calls.new.list calls.new.unwanted (end_by result) }
     ensures asks { AsksFrom G.rules (T.moment clock.now) (S.held stream.old) overlap (S.input stream.old)
         (connection_at gateway.old connection.old calls.old.list 0 None (S.held stream.old ++ outbox.old))
@@ -89,7 +89,7 @@ fn read<G: Gateway, S: TryStream>(
     requires within { connection.old.count ≤ 2 ^ 62 }
     requires room { length room.old ≡ 65536 }
     ensures comes { (overlap : Overlap) (told : Option ℕ) (input : Input) (first : G) (ends : List ℕ → G) (before : List ℕ)
-        → GoesOn (ways_of G.rules overlap) told input (S.input stream.old) (stand (λ _. first) before)
+        → ConnectionGoesOn (ways_of G.rules overlap) told input (S.input stream.old) (stand (λ _. first) before)
         (stand ends (S.held stream.old ++ outbox.old)) connection.old.kept connection.old.count
         → HasComeTo (ways_of G.rules overlap) told input (S.input stream.new) (stand (λ _. first) before)
         (stand ends (S.held stream.new ++ outbox.new)) connection.new (end_by result) }
@@ -123,7 +123,7 @@ fn take<G: Gateway>(
     requires room { connection.old.count + length piece.now ≤ 2 ^ 62 }
     requires short { length piece.now ≤ 65536 }
     ensures comes { (overlap : Overlap) (told : Option ℕ) (input input_then input_now : Input) (first : G) (ends : List ℕ → G) (before sent : List ℕ)
-        → GoesOn (ways_of G.rules overlap) told input input_then (stand (λ _. first) before)
+        → ConnectionGoesOn (ways_of G.rules overlap) told input input_then (stand (λ _. first) before)
         (stand ends (sent ++ outbox.old)) connection.old.kept connection.old.count
         → Takes input_then input_now piece.now
         → HasComeTo (ways_of G.rules overlap) told input input_now (stand (λ _. first) before)

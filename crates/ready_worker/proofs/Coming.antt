@@ -7,7 +7,7 @@ use Rattle.front_end.specs.declared.overlap.Overlap.{Overlap}
 use Rattle.outbox.specs.declared.try_edge.TryEdge.{TryEdge}
 use Rattle.ready_client.proofs.Calling.{stays}
 use Rattle.ready_client.specs.Calling.{HasOpen, KeepsApart}
-use Rattle.ready_client.specs.Coming.{Comes}
+use Rattle.ready_client.specs.Coming.{ComesAtGateway}
 use Rattle.ready_client.specs.declared.client.Client.{Client}
 use Rattle.ready_client.specs.declared.open_call.OpenCall.{OpenCall}
 use Rattle.ready_places.specs.Placed.{Placed}
@@ -18,7 +18,7 @@ pub fresh : {G K X : Type 0} (rules : Rules G K) (overlap : Overlap) (told : Opt
     (client : Client (TryEdge X) K) (stream : TryEdge X) → client.stream ≡ stream → stream.incoming.bytes ≡ []
     → stream.ended ≡ false → stream.outgoing.bytes ≡ []
     → client.outbox ≡ [] → client.calls.list ≡ [] → client.calls.unwanted ≡ 0 → client.end ≡ None
-    → Comes rules overlap told unread unread now [] now [] client.connection [] 0 None
+    → ComesAtGateway rules overlap told unread unread now [] now [] client.connection [] 0 None
     → ClientComes rules overlap told now client
 fresh rules overlap told now client stream same none goes_on sent waits idle wanted still comes = ∣ (
   now,

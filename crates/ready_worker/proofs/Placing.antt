@@ -16,7 +16,7 @@ use Rattle.ready_client.specs.declared.open_call.OpenCall.{OpenCall}
 use Rattle.ready_client.specs.declared.client.Turn.TheVariants.{More, Waits, AwaitsCall, AwaitsCaller, Over}
 use Rattle.ready_places.specs.Placed.{Placed, EachPlaced, HasPlace, placed_at, with_value_at}
 use Rattle.ready_places.proofs.Each.{each-came, each-same, within-slots}
-use Rattle.ready_worker.specs.Come.{AreApart, ClientComes, ClientsCome, ClientIsOver}
+use Rattle.ready_worker.specs.Come.{ShareNoCall, ClientComes, ClientsCome, ClientIsOver}
 use Rattle.ready_worker.proofs.Coming.{stays-apart, stays-come}
 
 module _ {T : Type 0} (old new : Placed T) (key : ℕ) where
@@ -61,13 +61,13 @@ each-put P old new value put came same holds each = ⊎_elim
 
 module _ {S K : Type 0} (old new : Placed (Client S K)) where
   -- each client that has a place had it
-  pub apart-from : ((key : ℕ) (there : Client S K) → placed_at new key ≡ Some there → placed_at old key ≡ Some there) → AreApart old → AreApart new
+  pub apart-from : ((key : ℕ) (there : Client S K) → placed_at new key ≡ Some there → placed_at old key ≡ Some there) → ShareNoCall old → ShareNoCall new
   apart-from from apart key other one two call differ at_one at_two = apart key other one two call differ (from key one at_one) (from other two at_two)
 
   -- a client came whose call is that of no other
   pub apart-came : (key : ℕ) (client : Client S K) → Updates old.values new.values key (Some client)
       → ((other : ℕ) (two : Client S K) (call : K) → other ≢ key → placed_at old other ≡ Some two
-      → HasOpen two.calls.list call → ¬ HasOpen client.calls.list call) → AreApart old → AreApart new
+      → HasOpen two.calls.list call → ¬ HasOpen client.calls.list call) → ShareNoCall old → ShareNoCall new
   apart-came key client updates alone apart one_key two_key one two call differ at_one at_two holds =
       by (placed-by old new key client updates one_key one at_one) (placed-by old new key client updates two_key two at_two)
     where
@@ -84,7 +84,7 @@ module _ {S K : Type 0} (old new : Placed (Client S K)) where
 -- a client with no call was put where there was memory, or nothing changed
 pub apart-put : {S K : Type 0} (old new : Placed (Client S K)) (client : Client S K) (put : Bool)
     → (put ≡ true → Updates old.values new.values old.values.vacant_key (Some client))
-    → (put ≡ false → new.values ≡ record old.values { capacity = new.values.capacity }) → client.calls.list ≡ [] → AreApart old → AreApart new
+    → (put ≡ false → new.values ≡ record old.values { capacity = new.values.capacity }) → client.calls.list ≡ [] → ShareNoCall old → ShareNoCall new
 apart-put old new client put came same idle apart = ⊎_elim
     (λ put_there. apart-came old new old.values.vacant_key client (came put_there)
     (λ other two call differ at holds has. absurd (subst (λ (cs : List (OpenCall _)). HasOpen cs call) idle has))
@@ -96,7 +96,7 @@ module _ {G K X : Type 0} (rules : Rules G K) (overlap : Overlap) (told : Option
     (old : Placed (Client (TryEdge X) K)) (key : ℕ) (was now : Client (TryEdge X) K) where
   -- a client was served: the others stay as far as they have come
   pub come-served : IsOrder rules.later → placed_at old key ≡ Some was → HasPlace old key → rules.later before after
-      → KeepsApart rules was.calls.list now.calls.list before after → AreApart old
+      → KeepsApart rules was.calls.list now.calls.list before after → ShareNoCall old
       → ClientComes rules overlap told after now → ClientsCome rules overlap told before old → ClientsCome rules overlap told after (with_value_at old key now)
   come-served order there placed later apart are_apart come have other client at = ⊎_elim
       (λ one. subst (λ (c : Client (TryEdge X) K). ClientComes rules overlap told after c) one.1 come)
@@ -106,7 +106,7 @@ module _ {G K X : Type 0} (rules : Rules G K) (overlap : Overlap) (told : Option
 
   -- and their calls apart from its own
   pub apart-served : placed_at old key ≡ Some was → HasPlace old key → KeepsApart rules was.calls.list now.calls.list
-      before after → ClientsCome rules overlap told before old → AreApart old → AreApart (with_value_at old key now)
+      before after → ClientsCome rules overlap told before old → ShareNoCall old → ShareNoCall (with_value_at old key now)
   apart-served there placed apart have are_apart = apart-came old (with_value_at old key now) key now (updates-at old key now placed)
       (λ other two call differ at holds. stays-apart rules overlap told was.calls.list now.calls.list before after two call holds
       (λ had. are_apart other key two was call differ at there holds had) apart (have other two at)) are_apart

@@ -4,7 +4,7 @@ ghost use Rattle.std.specs.Option.{option_map};
 ghost use Rattle.slab.specs.Slab.{slab_len};
 ghost use Rattle.ready_places.specs.Placed.{HasPlace, placed_at};
 ghost use Rattle.ready_places.specs.Queue.{is_queued};
-ghost use Rattle.ready_worker.specs.Come.{AreApart, ClientComes, ClientsCome, ClientIsOver};
+ghost use Rattle.ready_worker.specs.Come.{ShareNoCall, ClientComes, ClientsCome, ClientIsOver};
 ghost use Rattle.ready_worker.specs.Queued.{MoreAreQueued, StayQueued};
 
 use crate::lane::Lane;
@@ -37,7 +37,7 @@ pub struct Worker<'t, Y: Readiness, G: Gateway, T: Clock> {
     room: Vec<u8>,
     ghost full: { vec_len room ≡ 65536 },
     ghost come: { ClientsCome G.rules overlap (T.moment clock.now) gateway places },
-    ghost apart: { AreApart places },
+    ghost apart: { ShareNoCall places },
     ghost more: { MoreAreQueued places },
 }
 

@@ -6,7 +6,7 @@ use Rattle.group_calls.specs.declared.event.Event.TheVariants.{Deliver}
 use Rattle.group_run.specs.Draining.{drain_events, next_delivery}
 use Rattle.group_run.specs.Meaning.{IsDown}
 use Rattle.group_run.specs.Progress.{load_of}
-use Rattle.scenario_run.specs.Playing.{draining}
+use Rattle.scenario_run.specs.Playing.{draining_unless_down}
 use Rattle.scenario_run.proofs.Draining.{Lightens, lightens}
 use Rattle.scenario_play.proofs.Delivering.{draining-down, draining-up, none-left, one-left}
 use Rattle.group_eras.specs.Eras.{Eras, MayMake, era_step, eras_after}
@@ -93,16 +93,16 @@ module _ (e f : Eras) (count : ℕ) (made : Made e f count) where
     none : left_of e f count ≡ []
     none = none-left (load_of e.world - count) f.world is
 
-    all : draining e.world ≡ all_of e
+    all : draining_unless_down e.world ≡ all_of e
     all = draining-up e.world up
 
     -- none is left
-    pub all-delivered : f ≡ eras_after e (draining e.world)
+    pub all-delivered : f ≡ eras_after e (draining_unless_down e.world)
     all-delivered = sym (ap (eras_after f) none) ∙ made.after ∙ sym (ap (eras_after e) all)
 
-    pub all-counted : count ≡ length (draining e.world)
+    pub all-counted : count ≡ length (draining_unless_down e.world)
     all-counted = let left = ap length none in let whole = made.many in let same = ap length all in omega (arith, left, whole, same)
 
 -- there are none while the group is down
-pub down-none : (e : Eras) → IsDown e.world → draining e.world ≡ []
+pub down-none : (e : Eras) → IsDown e.world → draining_unless_down e.world ≡ []
 down-none e down = draining-down e.world down

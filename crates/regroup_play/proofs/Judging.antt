@@ -5,7 +5,7 @@ use Rattle.std.proofs.Common.{refl, sym, ap, subst, ◌∙◌, arith}
 use Rattle.std.proofs.lemmas.Bool.Decides.{nat_tests}
 use Rattle.std.specs.Prelude.{IfErr, IfOk, OnOk}
 use Rattle.std.specs.Fmt.{decimal}
-use Rattle.group_regroup.specs.Carrying.{IsLeft}
+use Rattle.group_regroup.specs.Carrying.{IsLeftByFault}
 use Rattle.std.specs.List.{list_all, range_with_len}
 use Rattle.std.specs.Option.{is_some}
 use Rattle.group_types.specs.Dimensions.{Dimensions, space_of}
@@ -21,7 +21,7 @@ use Rattle.scenario_text.specs.declared.line.LineFault.{LineFault}
 use Rattle.scenario_text.specs.declared.line.LineFault.TheVariants as line
 use Rattle.group_eras.specs.Carry.{carried, many_carried}
 use Rattle.group_eras.specs.Eras.{Eras}
-use Rattle.group_eras.specs.Items.{bytes_in}
+use Rattle.group_eras.specs.Items.{bytes_in_partition}
 use Rattle.group_eras.specs.Promise.{Carries, Deed, IsEra, IsLed}
 use Rattle.group_eras.specs.Refusal.{CanCarry, IsFirstTooLong, IsRefused}
 use Rattle.group_eras.specs.declared.fault.CarryFault.{CarryFault}
@@ -87,18 +87,20 @@ at-most a b low = grind (arith, nat_tests)
 above : (a b : ℕ) → b < a → nat_le a b ≡ false
 above a b high = grind (arith, nat_tests)
 
-fits : (w : World) (s : Dimensions) → ((d : ℕ) → d < w.shape.k → bytes_in w d ≤ space_of s) → has_space w s ≡ true
-fits w s low = all-true (λ d. nat_le (bytes_in w d) (space_of s)) 0 w.shape.k (λ d low' high. at-most (bytes_in w d) (space_of s) (low d (omega (arith, high))))
+fits : (w : World) (s : Dimensions) → ((d : ℕ) → d < w.shape.k → bytes_in_partition w d ≤ space_of s) → has_space w s ≡ true
+fits w s low = all-true (λ d. nat_le (bytes_in_partition w d) (space_of s)) 0 w.shape.k
+    (λ d low' high. at-most (bytes_in_partition w d) (space_of s) (low d (omega (arith, high))))
 
 too-long : (w : World) (s : Dimensions) (d : ℕ) → IsFirstTooLong w s d → has_space w s ≡ false
 too-long w s d long =
     let there = long.partition in
-    one-false (λ x. nat_le (bytes_in w x) (space_of s)) 0 w.shape.k d (omega arith) (omega (arith, there)) (above (bytes_in w d) (space_of s) long.long)
+    one-false (λ x. nat_le (bytes_in_partition w x) (space_of s)) 0 w.shape.k d (omega arith) (omega (arith, there))
+    (above (bytes_in_partition w d) (space_of s) long.long)
 
 -- what came of a carry, by the clauses of it
 pub from-carry : (e f : Eras) (s : Dimensions) (r : Result ℕ CarryFault) → OnOk r (f ≡ carried e s)
     → IfOk r (λ n. n ≡ many_carried e) → OnOk r (CanCarry e.world s) → IfErr r (IsRefused e.world s)
-    → IfErr r (IsLeft e f)
+    → IfErr r (IsLeftByFault e f)
     → HasCarriedOn e f s r
 from-carry e f s (Ok n) eras many can fault left = (can, eras, many)
 from-carry e f s (Err Down) eras many can fault left = (fault, left)

@@ -6,8 +6,8 @@ use Rattle.group_run.specs.World.{opening}
 use Rattle.scenario_text.specs.declared.line.LineFault.{LineFault}
 use Rattle.scenario_text.specs.declared.line.LineFault.TheVariants.{BadLine, BadShape, Want}
 use Rattle.scenario_run.specs.Course.{Ends, Fault, Goes, Refused, fault_in, text_in}
-use Rattle.scenario_play.specs.Player.{EndsAt, GoesOn, HasTreatedLine, Telling, telling}
-use Rattle.scenario_play.specs.Status.{told_at, told_of}
+use Rattle.scenario_play.specs.Player.{EndsAt, HasTreatedLine, ScriptGoesOn, Telling, telling}
+use Rattle.scenario_play.specs.Status.{status_of_lines, told_at}
 use Rattle.scenario_play.specs.declared.status.Status.{Status}
 use Rattle.scenario_play.specs.declared.status.Status.TheVariants as status
 use Rattle.scenario_play.proofs.Treating as treating
@@ -19,14 +19,14 @@ use Rattle.regroup_run.specs.Script.{first_fault}
 use Rattle.regroup_run.proofs.Leading as leading
 use Rattle.regroup_run.proofs.Promises.{scripts_keep_promises}
 use Rattle.regroup_run.proofs.Running as running
-use Rattle.regroup_play.specs.Doing.{HasDone, ErasGoOn, IsReadyFor, end_in, log_len}
+use Rattle.regroup_play.specs.Doing.{HasDone, ErasGoOn, IsReadyEras, end_in, log_len}
 use Rattle.regroup_play.specs.Language.{era_scripts}
 
 -- deeds that led to eras, from their first shape
 pub led-to : (e : Eras) → (led : IsLed e) → leading.IsLedTo led.s e
 led-to e led = record { limits = led.limits; deeds = led.deeds; leads = record { may = led.may; to = sym led.is } }
 
-ready-to : (p : EraPlay) → (ready : IsReadyFor p) → running.IsReady ready.led.s p
+ready-to : (p : EraPlay) → (ready : IsReadyEras p) → running.IsReady ready.led.s p
 ready-to p ready = record { led = led-to p.eras ready.led; moment = ready.moment }
 
 -- a line that goes on
@@ -73,7 +73,7 @@ opens-ready now deeds text opens = by opens.is where
         moment = omega arith;
       })
 
-goes-ready : (p : EraPlay) (now : Option EraPlay) (deeds : List Deed) → IsReadyFor p → running.GoesOn p now deeds → ErasGoOn now
+goes-ready : (p : EraPlay) (now : Option EraPlay) (deeds : List Deed) → IsReadyEras p → running.GoesOn p now deeds → ErasGoOn now
 goes-ready p now deeds ready on =
     subst ErasGoOn (sym on.is)
     (record {
@@ -89,7 +89,7 @@ ready-on (Some p) now bytes text ready w = goes-ready p now w.deeds ready (runni
 -- what a player over eras tells
 abbrev pub tells : Telling (Option EraPlay)
 tells = telling (λ play lines. text_in next_of play lines)
-    (λ n play lines. told_of told_at (fault_in next_of BadLine n play lines))
+    (λ n play lines. status_of_lines told_at (fault_in next_of BadLine n play lines))
     (λ play lines. log_len (end_in play lines)) (λ n play. ErasGoOn play)
 
 -- the same without its entries
@@ -105,7 +105,7 @@ module _ (n : ℕ) (before now : Option EraPlay) (bytes : List ℕ) where
       → HasTreatedLine tells n before now bytes (Ok (Some text))
   treated-on text ready done =
       let on : Went before now bytes text = went before now bytes text done in
-      let goes : GoesOn bare n before now bytes text = treating.goes-on next_of BadLine told_at (λ play. 0) (λ deeds. 0)
+      let goes : ScriptGoesOn bare n before now bytes text = treating.goes-on next_of BadLine told_at (λ play. 0) (λ deeds. 0)
       (λ n play. ErasGoOn play) n before now bytes on.deeds text on.next (λ more. refl) refl
       (ready-on before now bytes text ready on) in
       record {
@@ -150,6 +150,6 @@ told-done n Want is = cc is
 
 pub all-kept : (text : List ℕ) → era_scripts.verdict text ≡ status.Done → KeepsPromises text
 all-kept text is = scripts_keep_promises text (by (first_fault text) is) where
-  by : (fault : Option (Fault LineFault)) → told_of told_at fault ≡ status.Done → fault ≡ None
+  by : (fault : Option (Fault LineFault)) → status_of_lines told_at fault ≡ status.Done → fault ≡ None
   by None is = refl
   by (Some fault) is = absurd (told-done fault.number fault.cause is)

@@ -14,7 +14,7 @@ use Rattle.group_eras.specs.Eras.{EraEntry, Eras, era_step, eras_after, logged_i
 use Rattle.group_eras.specs.Promise.{AreTold, IsEra, IsLed}
 use Rattle.group_eras.specs.Told.{Bases}
 use Rattle.group_eras.proofs.Promises.{eras_are_runs}
-use Rattle.group_regroup.specs.Last.{entries_of}
+use Rattle.group_regroup.specs.Last.{entries_of_era}
 use Rattle.regroup_run.specs.Playing.{logged_since}
 use Rattle.regroup_run.specs.Texts.{era_entries_text, era_mark}
 
@@ -28,11 +28,12 @@ NoneOf era xs = Each (λ x. x.0 ≢ era) xs
 abbrev plain : List EraEntry → List Entry
 plain xs = map (λ x. x.1) xs
 
-entries-append : (era : ℕ) (a b : List EraEntry) → entries_of era (a ++ b) ≡ entries_of era a ++ entries_of era b
+entries-append : (era : ℕ) (a b : List EraEntry) → entries_of_era era (a ++ b) ≡ entries_of_era era a ++ entries_of_era era b
 entries-append era [] b = refl
 entries-append era (x ∷ a) b = by (x.0 == era) (entries-append era a b) where
-  by : (t : Bool) → entries_of era (a ++ b) ≡ entries_of era a ++ entries_of era b
-      → (if t then x.1 ∷ entries_of era (a ++ b) else entries_of era (a ++ b)) ≡ (if t then x.1 ∷ entries_of era a else entries_of era a) ++ entries_of era b
+  by : (t : Bool) → entries_of_era era (a ++ b) ≡ entries_of_era era a ++ entries_of_era era b
+      → (if t then x.1 ∷ entries_of_era era (a ++ b) else entries_of_era era (a ++ b)) ≡
+      (if t then x.1 ∷ entries_of_era era a else entries_of_era era a) ++ entries_of_era era b
   by true rest = ap (λ (xs : List Entry). x.1 ∷ xs) rest
   by false rest = rest
 
@@ -42,15 +43,15 @@ same-number n m is = grind (arith, nat_tests)
 other-number : (n m : ℕ) → n ≢ m → (n == m) ≡ false
 other-number n m is = grind (arith, nat_tests)
 
-own-entries : (era : ℕ) (xs : List EraEntry) → AllOf era xs → entries_of era xs ≡ plain xs
+own-entries : (era : ℕ) (xs : List EraEntry) → AllOf era xs → entries_of_era era xs ≡ plain xs
 own-entries era [] own = refl
 own-entries era (x ∷ xs) own =
-    ap (λ (t : Bool). if t then x.1 ∷ entries_of era xs else entries_of era xs) (same-number x.0 era own.0)
+    ap (λ (t : Bool). if t then x.1 ∷ entries_of_era era xs else entries_of_era era xs) (same-number x.0 era own.0)
     ∙ ap (λ (ys : List Entry). x.1 ∷ ys) (own-entries era xs own.1)
 
-no-entries : (era : ℕ) (xs : List EraEntry) → NoneOf era xs → entries_of era xs ≡ []
+no-entries : (era : ℕ) (xs : List EraEntry) → NoneOf era xs → entries_of_era era xs ≡ []
 no-entries era [] none = refl
-no-entries era (x ∷ xs) none = ap (λ (t : Bool). if t then x.1 ∷ entries_of era xs else entries_of era xs)
+no-entries era (x ∷ xs) none = ap (λ (t : Bool). if t then x.1 ∷ entries_of_era era xs else entries_of_era era xs)
     (other-number x.0 era none.0) ∙ no-entries era xs none.1
 
 own-text : (era : ℕ) (xs : List EraEntry) → AllOf era xs → marked_entries (era_mark era) (plain xs) ≡ era_entries_text xs
@@ -98,13 +99,13 @@ plain-many (x ∷ xs) = ap suc (plain-many xs)
 
 -- the entries of the current era are as many as its world logged, and none is of a later one
 pub record Standing (e : Eras) : Type 0 where
-  pub many : length (entries_of e.era e.log) ≡ length e.world.log
+  pub many : length (entries_of_era e.era e.log) ≡ length e.world.log
   pub none : NoneOf (suc e.era) e.log
 
 pub standing : (e : Eras) → IsLed e → Standing e
 standing e led = record {
-  many = ap (λ (xs : List EraEntry). length (entries_of e.era xs)) era.log ∙ ap length (entries-append e.era era.before era.own)
-      ∙ ap (λ (xs : List Entry). length (xs ++ entries_of e.era era.own))
+  many = ap (λ (xs : List EraEntry). length (entries_of_era e.era xs)) era.log ∙ ap length (entries-append e.era era.before era.own)
+      ∙ ap (λ (xs : List Entry). length (xs ++ entries_of_era e.era era.own))
       (no-entries e.era era.before (earlier-none e.era era.before era.earlier))
       ∙ ap length (own-entries e.era era.own own.0)
       ∙ plain-many era.own ∙ own.1;
@@ -145,18 +146,19 @@ behind : (a b : List EraEntry) → logged_since a (a ++ b) ≡ b
 behind a b = drop-append_seam a b
 
 last-entries : (e : Eras) (more log : List EraEntry) → Standing e → log ≡ e.log ++ more
-    → drop (length e.world.log) (entries_of e.era log) ≡ entries_of e.era more
+    → drop (length e.world.log) (entries_of_era e.era log) ≡ entries_of_era e.era more
 last-entries e more log stands is =
-    ap (λ (n : ℕ). drop n (entries_of e.era log)) (sym stands.many)
-    ∙ ap (λ (xs : List EraEntry). drop (length (entries_of e.era e.log)) (entries_of e.era xs)) is
-    ∙ ap (drop (length (entries_of e.era e.log))) (entries-append e.era e.log more) ∙ drop-append_seam (entries_of e.era e.log) (entries_of e.era more)
+    ap (λ (n : ℕ). drop n (entries_of_era e.era log)) (sym stands.many)
+    ∙ ap (λ (xs : List EraEntry). drop (length (entries_of_era e.era e.log)) (entries_of_era e.era xs)) is
+    ∙ ap (drop (length (entries_of_era e.era e.log))) (entries-append e.era e.log more) ∙ drop-append_seam (entries_of_era e.era e.log)
+    (entries_of_era e.era more)
 
 -- the text of what was logged since
 pub since-written : (e f : Eras) (era from : ℕ) → IsLed e → Grown e f → era ≡ f.era → from ≡ length e.world.log
-    → marked_entries (era_mark era) (drop from (entries_of era f.log)) ≡ era_entries_text (logged_since e.log f.log)
+    → marked_entries (era_mark era) (drop from (entries_of_era era f.log)) ≡ era_entries_text (logged_since e.log f.log)
 since-written e f era from led g is at =
-    ap (λ (n : ℕ). marked_entries (era_mark n) (drop from (entries_of n f.log))) (is ∙ g.era)
-    ∙ ap (λ (n : ℕ). marked_entries (era_mark e.era) (drop n (entries_of e.era f.log))) at
+    ap (λ (n : ℕ). marked_entries (era_mark n) (drop from (entries_of_era n f.log))) (is ∙ g.era)
+    ∙ ap (λ (n : ℕ). marked_entries (era_mark e.era) (drop n (entries_of_era e.era f.log))) at
     ∙ ap (marked_entries (era_mark e.era)) (last-entries e g.more f.log (standing e led) g.log ∙ own-entries e.era g.more g.own) ∙ own-text e.era g.more g.own
     ∙ sym (ap era_entries_text (ap (logged_since e.log) g.log ∙ behind e.log g.more))
 
@@ -182,33 +184,33 @@ module _ (e : Eras) (s : Dimensions) where
   set-own = subst (λ (n : ℕ). AllOf n set.more) (ap suc read.era) set.own
 
   old-text : (from : ℕ) → IsLed e → from ≡ length e.world.log
-      → marked_entries (era_mark e.era) (drop from (entries_of e.era (carried e s).log)) ≡ era_entries_text read.more
+      → marked_entries (era_mark e.era) (drop from (entries_of_era e.era (carried e s).log)) ≡ era_entries_text read.more
   old-text from led at =
-      ap (λ (n : ℕ). marked_entries (era_mark e.era) (drop n (entries_of e.era (carried e s).log))) at
+      ap (λ (n : ℕ). marked_entries (era_mark e.era) (drop n (entries_of_era e.era (carried e s).log))) at
       ∙ ap (marked_entries (era_mark e.era)) (last-entries e (read.more ++ set.more) (carried e s).log (standing e led)
       whole ∙ entries-append e.era read.more set.more
-      ∙ ap (λ (xs : List Entry). entries_of e.era read.more ++ xs)
-      (no-entries e.era set.more (next-own e.era set.more set-own)) ∙ append-nil (entries_of e.era read.more)
+      ∙ ap (λ (xs : List Entry). entries_of_era e.era read.more ++ xs)
+      (no-entries e.era set.more (next-own e.era set.more set-own)) ∙ append-nil (entries_of_era e.era read.more)
       ∙ own-entries e.era read.more read.own) ∙ own-text e.era read.more read.own
 
-  new-text : IsLed e → marked_entries (era_mark (suc e.era)) (entries_of (suc e.era) (carried e s).log) ≡ era_entries_text set.more
+  new-text : IsLed e → marked_entries (era_mark (suc e.era)) (entries_of_era (suc e.era) (carried e s).log) ≡ era_entries_text set.more
   new-text led =
-      ap (λ (xs : List EraEntry). marked_entries (era_mark (suc e.era)) (entries_of (suc e.era) xs))
+      ap (λ (xs : List EraEntry). marked_entries (era_mark (suc e.era)) (entries_of_era (suc e.era) xs))
       (set.log ∙ ap (λ (xs : List EraEntry). xs ++ set.more) read.log)
       ∙ ap (marked_entries (era_mark (suc e.era))) (entries-append (suc e.era) (e.log ++ read.more) set.more
-      ∙ ap (λ (xs : List Entry). xs ++ entries_of (suc e.era) set.more) (no-entries (suc e.era) (e.log ++ read.more)
+      ∙ ap (λ (xs : List Entry). xs ++ entries_of_era (suc e.era) set.more) (no-entries (suc e.era) (e.log ++ read.more)
       (each-append (λ x. x.0 ≢ suc e.era) e.log read.more (standing e led).none (own-next e.era read.more read.own)))
       ∙ own-entries (suc e.era) set.more set-own) ∙ own-text (suc e.era) set.more set-own
 
   pub carry-written : (era from now : ℕ) → IsLed e → era ≡ e.era → from ≡ length e.world.log → now ≡ (carried e s).era
-      → marked_entries (era_mark era) (drop from (entries_of era (carried e s).log))
-      ++ marked_entries (era_mark now) (drop 0 (entries_of now (carried e s).log))
+      → marked_entries (era_mark era) (drop from (entries_of_era era (carried e s).log))
+      ++ marked_entries (era_mark now) (drop 0 (entries_of_era now (carried e s).log))
       ≡ era_entries_text (logged_since e.log (carried e s).log)
   carry-written era from now led is at later =
-      ap (λ (n : ℕ). marked_entries (era_mark n) (drop from (entries_of n (carried e s).log))
-      ++ marked_entries (era_mark now) (entries_of now (carried e s).log)) is
-      ∙ ap (λ (n : ℕ). marked_entries (era_mark e.era) (drop from (entries_of e.era (carried e s).log))
-      ++ marked_entries (era_mark n) (entries_of n (carried e s).log)) (later ∙ carried-era)
-      ∙ ap (λ (xs : List ℕ). xs ++ marked_entries (era_mark (suc e.era)) (entries_of (suc e.era) (carried e s).log)) (old-text from led at)
+      ap (λ (n : ℕ). marked_entries (era_mark n) (drop from (entries_of_era n (carried e s).log))
+      ++ marked_entries (era_mark now) (entries_of_era now (carried e s).log)) is
+      ∙ ap (λ (n : ℕ). marked_entries (era_mark e.era) (drop from (entries_of_era e.era (carried e s).log))
+      ++ marked_entries (era_mark n) (entries_of_era n (carried e s).log)) (later ∙ carried-era)
+      ∙ ap (λ (xs : List ℕ). xs ++ marked_entries (era_mark (suc e.era)) (entries_of_era (suc e.era) (carried e s).log)) (old-text from led at)
       ∙ ap (λ (xs : List ℕ). era_entries_text read.more ++ xs) (new-text led) ∙ sym (text-append read.more set.more)
       ∙ sym (ap era_entries_text (ap (logged_since e.log) whole ∙ behind e.log (read.more ++ set.more)))

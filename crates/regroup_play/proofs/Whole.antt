@@ -3,7 +3,7 @@ use Rattle.std.proofs.Common.{◌≡◌, ℕ, Option, Some, None}
 use Rattle.scenario_run.specs.Course.{Fault}
 use Rattle.scenario_text.specs.declared.line.LineFault.{LineFault}
 use Rattle.scenario_text.specs.declared.line.LineFault.TheVariants.{BadLine, BadShape, Want}
-use Rattle.scenario_play.specs.Status.{told_at, told_of}
+use Rattle.scenario_play.specs.Status.{status_of_lines, told_at}
 use Rattle.scenario_play.specs.Whole.{PlaysAllAlways}
 use Rattle.scenario_play.specs.declared.status.Status.TheVariants as status
 use Rattle.scenario_play.proofs.Whole.{NeverReadFault, plays-all}
@@ -17,7 +17,7 @@ told-never n Want is = cc is
 
 never : NeverReadFault era_scripts
 never text is = by (first_fault text) is where
-  by : (fault : Option (Fault LineFault)) → ¬ (told_of told_at fault ≡ status.ReadFault)
+  by : (fault : Option (Fault LineFault)) → ¬ (status_of_lines told_at fault ≡ status.ReadFault)
   by None is = cc is
   by (Some fault) is = told-never fault.number fault.cause is
 

@@ -4,11 +4,11 @@ use Rattle.std.specs.Fmt.{decimal}
 use Rattle.group_calls.specs.declared.event.Answer.{Answer}
 use Rattle.group_calls.specs.declared.event.Event.{Event}
 use Rattle.scenario_run.specs.Marks.{marked_entries}
-use Rattle.scenario_run.specs.Playing.{draining}
+use Rattle.scenario_run.specs.Playing.{draining_unless_down}
 use Rattle.scenario_text.specs.Texts.{answer_text}
 use Rattle.group_eras.specs.Eras.{Eras, era_step, eras_after}
 use Rattle.group_eras.specs.Promise.{IsLed}
-use Rattle.group_regroup.specs.Last.{entries_of}
+use Rattle.group_regroup.specs.Last.{entries_of_era}
 use Rattle.regroup_run.specs.Playing.{EraPlay, by_drain, by_event, logged_since}
 use Rattle.regroup_run.specs.Texts.{era_entries_text, era_mark}
 use Rattle.regroup_play.specs.Doing.{HasDone}
@@ -16,7 +16,7 @@ use Rattle.regroup_play.proofs.Logged.{Grown, grown, since-event, since-written}
 
 -- an era's entries from a place on
 abbrev pub since : Eras → ℕ → ℕ → List ℕ
-since f era from = marked_entries (era_mark era) (drop from (entries_of era f.log))
+since f era from = marked_entries (era_mark era) (drop from (entries_of_era era f.log))
 
 module _ (p : EraPlay) (f : Eras) (era from : ℕ) (led : IsLed p.eras) where
   pub event-done : (x : Event) (answer : Answer) (line text : List ℕ) → f ≡ (era_step p.eras x).eras
@@ -36,10 +36,10 @@ module _ (p : EraPlay) (f : Eras) (era from : ℕ) (led : IsLed p.eras) where
         ∙ ap (λ (g : Eras). era_entries_text (logged_since p.eras.log g.log)) is
         ∙ ap era_entries_text (since-event p.eras x)
 
-  pub drain-done : (count : ℕ) (start middle text : List ℕ) → f ≡ eras_after p.eras (draining p.eras.world)
-      → count ≡ length (draining p.eras.world) → era ≡ f.era → from ≡ length p.eras.world.log → start ≡ []
+  pub drain-done : (count : ℕ) (start middle text : List ℕ) → f ≡ eras_after p.eras (draining_unless_down p.eras.world)
+      → count ≡ length (draining_unless_down p.eras.world) → era ≡ f.era → from ≡ length p.eras.world.log → start ≡ []
       → middle ≡ start ++ since f era from → text ≡ middle ++ (codes "drained " ++ (decimal count ++ codes "\n"))
-      → HasDone (Some p) (by_drain p (draining p.eras.world)) (Some (record { eras = f; moment = p.moment })) (Ok (Some text))
+      → HasDone (Some p) (by_drain p (draining_unless_down p.eras.world)) (Some (record { eras = f; moment = p.moment })) (Ok (Some text))
   drain-done count start middle text is many era_is from_is none middle_is text_is = (
     ap (λ (g : Eras). Some (record { eras = g; moment = p.moment })) is,
     text_is ∙ ap (λ (xs : List ℕ). xs ++ end count) (middle_is ∙ ap (λ (xs : List ℕ). xs ++ since f era from) none
@@ -47,7 +47,7 @@ module _ (p : EraPlay) (f : Eras) (era from : ℕ) (led : IsLed p.eras) where
         many,
   ) where
     events : List Event
-    events = draining p.eras.world
+    events = draining_unless_down p.eras.world
 
     end : ℕ → List ℕ
     end n = codes "drained " ++ (decimal n ++ codes "\n")

@@ -10,23 +10,23 @@ use Rattle.group_eras.specs.Eras.{Eras}
 use Rattle.group_eras.specs.Refusal.{CanCarry, IsRefused}
 use Rattle.group_eras.specs.declared.fault.CarryFault.{CarryFault}
 use Rattle.group_eras.specs.declared.fault.CarryFault.TheVariants.{Down, NoSpace, NotDrained, Want}
-use Rattle.group_regroup.specs.Last.{entries_of}
+use Rattle.group_regroup.specs.Last.{entries_of_era}
 use Rattle.regroup_run.specs.Texts.{era_mark}
 
 -- an era's entries from a place on, each on a line
 abbrev pub since_text : Eras → ℕ → ℕ → List ℕ
-since_text e era from = marked_entries (era_mark era) (drop from (entries_of era e.log))
+since_text e era from = marked_entries (era_mark era) (drop from (entries_of_era era e.log))
 
 -- so many items were carried, and what was logged of it: of reading in an era, and of setting in the current one
 abbrev pub carried_text : Eras → ℕ → ℕ → ℕ → List ℕ
 carried_text e era from count = codes "regrouped " ++ (decimal count ++ 10 ∷ (since_text e era from ++ since_text e e.era 0))
 
 -- why nothing was carried
-abbrev pub refusal_text : CarryFault → List ℕ
-refusal_text Down = codes "down\n"
-refusal_text NotDrained = codes "not_drained\n"
-refusal_text (NoSpace d) = codes "no_space\n"
-refusal_text Want = []
+abbrev pub carry_fault_text : CarryFault → List ℕ
+carry_fault_text Down = codes "down\n"
+carry_fault_text NotDrained = codes "not_drained\n"
+carry_fault_text (NoSpace d) = codes "no_space\n"
+carry_fault_text Want = []
 
 -- a text was written, or there was no memory
 abbrev pub IsWrittenAs : List ℕ → Result (Option (List ℕ)) LineFault → Type 0
@@ -37,7 +37,7 @@ IsWrittenAs text _ = ⊥
 abbrev pub HasToldRefusal : CarryFault → Result (Option (List ℕ)) LineFault → Type 0
 HasToldRefusal Want (Err line.Want) = ⊤
 HasToldRefusal Want _ = ⊥
-HasToldRefusal fault result = IsWrittenAs (refusal_text fault) result
+HasToldRefusal fault result = IsWrittenAs (carry_fault_text fault) result
 
 -- items were carried, where that could be; or nothing was, for this reason; or there was no memory
 abbrev pub HasCarriedOn : Eras → Eras → Dimensions → Result ℕ CarryFault → Type 0

@@ -7,14 +7,14 @@ use Rattle.scenario_text.specs.declared.line.LineFault.TheVariants.{Want}
 use Rattle.regroup_run.specs.Playing.{EraNext, EraPlay, next_of}
 
 -- deeds led to the eras, and the moment is one of asks
-pub record IsReadyFor (p : EraPlay) : Type 0 where
+pub record IsReadyEras (p : EraPlay) : Type 0 where
   pub led : IsLed p.eras
   pub moment : p.moment ≤ 2 ^ 62
 
 -- a line may come
 abbrev pub ErasGoOn : Option EraPlay → Type 0
 ErasGoOn None = ⊤
-ErasGoOn (Some p) = IsReadyFor p
+ErasGoOn (Some p) = IsReadyEras p
 
 -- what lines leave, up to the end or to a line that is refused
 abbrev pub end_in : Option EraPlay → List (List ℕ) → Option EraPlay

@@ -1,7 +1,7 @@
 ghost use Rattle.std.specs.Prelude.{◌≤◌, ◌<◌, ◌^◌, Some, All, IsTrue};
 ghost use Rattle.group_eras.specs.Promise.{IsLed};
 ghost use Rattle.group_eras.specs.Refusal.{IsSuccessor};
-ghost use Rattle.scenario_play.specs.Player.{text_in};
+ghost use Rattle.scenario_play.specs.Player.{bytes_in_text};
 ghost use Rattle.regroup_run.specs.Playing.{by_regroup};
 ghost use Rattle.regroup_play.specs.Carrying.{HasCarriedOn, HasToldRefusal, IsWrittenAs, carried_text};
 ghost use Rattle.regroup_play.specs.Doing.{HasDone};
@@ -28,7 +28,7 @@ pub(crate) fn follow_regroup(
 ) -> Result<Option<Vec<u8>>, LineFault>
     requires led { IsLed play.old.eras }
     requires successor { IsSuccessor play.old.eras.world shape }
-    ensures { HasDone (Some play.old) (by_regroup play.old shape) (Some play.new) (text_in result) }
+    ensures { HasDone (Some play.old) (by_regroup play.old shape) (Some play.new) (bytes_in_text result) }
 {
     let era = play.regroup.era();
     let from = play.regroup.world().log().len();
@@ -73,7 +73,7 @@ fn write_carried(
     count: u64,
 ) -> Result<Option<Vec<u8>>, LineFault>
     requires { era ≤ regroup.now.era }
-    ensures { IsWrittenAs (carried_text regroup.now era from count) (text_in result) }
+    ensures { IsWrittenAs (carried_text regroup.now era from count) (bytes_in_text result) }
 {
     let mut text = format!(in alloc; "regrouped {count}\n")?.into_bytes();
     write_since(alloc, regroup, era, from, &mut text)?;
@@ -83,7 +83,7 @@ fn write_carried(
 
 /// Why nothing was carried, on a line.
 fn write_refusal(alloc: Global, fault: &CarryFault) -> Result<Option<Vec<u8>>, LineFault>
-    ensures { HasToldRefusal fault.now (text_in result) }
+    ensures { HasToldRefusal fault.now (bytes_in_text result) }
 {
     let text = match fault {
         CarryFault::Down => Vec::from_slice(alloc, b"down\n"),

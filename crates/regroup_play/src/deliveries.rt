@@ -1,7 +1,7 @@
 ghost use Rattle.std.specs.Prelude.{◌≡◌, ◌<◌, ◌^◌, length, IfOk, OnOk};
 ghost use Rattle.group_calls.specs.declared.event.Event.TheVariants.{Deliver};
 ghost use Rattle.group_run.specs.Meaning.{IsDown};
-ghost use Rattle.scenario_run.specs.Playing.{draining};
+ghost use Rattle.scenario_run.specs.Playing.{draining_unless_down};
 ghost use Rattle.group_eras.specs.Eras.{MayMake, era_step, eras_after};
 ghost use Rattle.group_eras.specs.Promise.{IsLed};
 
@@ -41,8 +41,8 @@ fn make_counted(regroup: &mut Regroup, event: &Event) -> Result<Out, AllocError>
 /// Makes the deliveries of a drain, and gives their number: none while the group is down.
 pub(crate) fn drain(regroup: &mut Regroup) -> Result<u64, AllocError>
     requires led { IsLed regroup.old }
-    ensures eras { OnOk result (regroup.new ≡ eras_after regroup.old (draining regroup.old.world)) }
-    ensures count { IfOk result (λ count. count ≡ length (draining regroup.old.world)) }
+    ensures eras { OnOk result (regroup.new ≡ eras_after regroup.old (draining_unless_down regroup.old.world)) }
+    ensures count { IfOk result (λ count. count ≡ length (draining_unless_down regroup.old.world)) }
 {
     if regroup.world().is_down() {
         return Ok(0);
@@ -54,8 +54,8 @@ pub(crate) fn drain(regroup: &mut Regroup) -> Result<u64, AllocError>
 fn deliver_all(regroup: &mut Regroup) -> Result<u64, AllocError>
     requires up { ¬ (IsDown regroup.old.world) }
     requires led { IsLed regroup.old }
-    ensures eras { OnOk result (regroup.new ≡ eras_after regroup.old (draining regroup.old.world)) }
-    ensures count { IfOk result (λ count. count ≡ length (draining regroup.old.world)) }
+    ensures eras { OnOk result (regroup.new ≡ eras_after regroup.old (draining_unless_down regroup.old.world)) }
+    ensures count { IfOk result (λ count. count ≡ length (draining_unless_down regroup.old.world)) }
 {
     let mut count: u64 = 0;
     'deliveries: while let Some((from, to)) = regroup.world().next_link() {

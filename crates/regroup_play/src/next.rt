@@ -8,8 +8,8 @@ ghost use Rattle.group_eras.specs.Range.{HasLowExpiry};
 ghost use Rattle.scenario_text.specs.Meaning.{IsLineOf};
 ghost use Rattle.scenario_text.specs.Words as text;
 ghost use Rattle.scenario_text.specs.declared.line.Line.TheVariants as line;
-ghost use Rattle.scenario_run.specs.Playing.{draining};
-ghost use Rattle.scenario_play.specs.Player.{text_in};
+ghost use Rattle.scenario_run.specs.Playing.{draining_unless_down};
+ghost use Rattle.scenario_play.specs.Player.{bytes_in_text};
 ghost use Rattle.regroup_run.specs.Meaning.{IsLowLine, regroup_line};
 ghost use Rattle.regroup_run.specs.Playing.{by_call, by_drain, by_event, by_places, by_show, first_by, next_of, regroup_by, regroups, then_by};
 ghost use Rattle.regroup_play.specs.Doing.{HasBegun, HasDone};
@@ -38,7 +38,7 @@ pub(crate) fn treat(
     line: &[u8],
 ) -> Result<Option<Vec<u8>>, LineFault>
     requires { IfSome play.old (λ p. IsLed p.eras) }
-    ensures { HasDone play.old (next_of play.old line.now) play.new (text_in result) }
+    ensures { HasDone play.old (next_of play.old line.now) play.new (bytes_in_text result) }
 {
     match play {
         None => {
@@ -64,7 +64,7 @@ fn begin(alloc: Global, line: Line) -> Result<Option<EraPlay>, LineFault>
 /// Treats a line behind the group line.
 fn follow(alloc: Global, play: &mut EraPlay, line: &[u8]) -> Result<Option<Vec<u8>>, LineFault>
     requires { IsLed play.old.eras }
-    ensures { HasDone (Some play.old) (next_of (Some play.old) line.now) (Some play.new) (text_in result) }
+    ensures { HasDone (Some play.old) (next_of (Some play.old) line.now) (Some play.new) (bytes_in_text result) }
 {
     if regroups(alloc, line)? {
         follow_words(alloc, play, line)
@@ -94,7 +94,7 @@ fn follow_words(
 ) -> Result<Option<Vec<u8>>, LineFault>
     requires { IsLed play.old.eras }
     ensures { HasDone (Some play.old) (regroup_by play.old
-        (regroup_line play.old.eras.world.shape.k (text.words_of line.now))) (Some play.new) (text_in result) }
+        (regroup_line play.old.eras.world.shape.k (text.split_words line.now))) (Some play.new) (bytes_in_text result) }
 {
     let shape = read_regroup(play.shape().k(), &words_of(alloc, line)?)?;
     follow_regroup(alloc, play, shape)
@@ -105,7 +105,7 @@ fn follow_line(alloc: Global, play: &mut EraPlay, line: &Line) -> Result<Option<
     requires line { IsLineOf (Some play.old.eras.world.shape) line.now }
     requires low { IsLowLine line.now }
     requires led { IsLed play.old.eras }
-    ensures { HasDone (Some play.old) (then_by play.old line.now) (Some play.new) (text_in result) }
+    ensures { HasDone (Some play.old) (then_by play.old line.now) (Some play.new) (bytes_in_text result) }
 {
     match line {
         Line::Skipped => Ok(Some(Vec::new(alloc))),
@@ -139,7 +139,7 @@ fn follow_ask(
     requires line { IsLineOf (Some play.old.eras.world.shape) (line.Ask caller at act.now) }
     requires low { HasLowExpiry act.now }
     requires led { IsLed play.old.eras }
-    ensures { HasDone (Some play.old) (then_by play.old (line.Ask caller at act.now)) (Some play.new) (text_in result) }
+    ensures { HasDone (Some play.old) (then_by play.old (line.Ask caller at act.now)) (Some play.new) (bytes_in_text result) }
 {
     let op = play.op(act.clone()?);
     follow_call(alloc, play, caller, Event::Ask { caller, op, at })
@@ -155,7 +155,7 @@ fn follow_collect(
     requires line { IsLineOf (Some play.old.eras.world.shape) (line.Collect caller call at) }
     requires led { IsLed play.old.eras }
     ensures { HasDone (Some play.old) (then_by play.old (line.Collect caller call at)) (Some play.new)
-        (text_in result) }
+        (bytes_in_text result) }
 {
     follow_call(alloc, play, caller, Event::Collect { caller, call, at })
 }
@@ -168,7 +168,7 @@ fn follow_deliver(
 ) -> Result<Option<Vec<u8>>, LineFault>
     requires line { IsLineOf (Some play.old.eras.world.shape) (line.Deliver from to) }
     requires led { IsLed play.old.eras }
-    ensures { HasDone (Some play.old) (then_by play.old (line.Deliver from to)) (Some play.new) (text_in result) }
+    ensures { HasDone (Some play.old) (then_by play.old (line.Deliver from to)) (Some play.new) (bytes_in_text result) }
 {
     follow_event(alloc, play, Event::Deliver { from, to })
 }
@@ -181,7 +181,7 @@ fn follow_fail(
 ) -> Result<Option<Vec<u8>>, LineFault>
     requires line { IsLineOf (Some play.old.eras.world.shape) (line.Fail at keep) }
     requires led { IsLed play.old.eras }
-    ensures { HasDone (Some play.old) (then_by play.old (line.Fail at keep)) (Some play.new) (text_in result) }
+    ensures { HasDone (Some play.old) (then_by play.old (line.Fail at keep)) (Some play.new) (bytes_in_text result) }
 {
     follow_event(alloc, play, Event::Fail { at, keep })
 }
@@ -193,7 +193,7 @@ fn follow_flush(
 ) -> Result<Option<Vec<u8>>, LineFault>
     requires line { IsLineOf (Some play.old.eras.world.shape) (line.Flush at) }
     requires led { IsLed play.old.eras }
-    ensures { HasDone (Some play.old) (then_by play.old (line.Flush at)) (Some play.new) (text_in result) }
+    ensures { HasDone (Some play.old) (then_by play.old (line.Flush at)) (Some play.new) (bytes_in_text result) }
 {
     follow_event(alloc, play, Event::Flush { at })
 }
@@ -209,7 +209,7 @@ fn follow_trace(
     requires line { IsLineOf (Some play.old.eras.world.shape) (line.Trace caller call partition at) }
     requires led { IsLed play.old.eras }
     ensures { HasDone (Some play.old) (then_by play.old (line.Trace caller call partition at)) (Some play.new)
-        (text_in result) }
+        (bytes_in_text result) }
 {
     if play.regroup.world().asks(caller) <= call {
         return Err(LineFault::BadLine);
@@ -225,7 +225,7 @@ fn follow_trace(
 
 fn follow_time(alloc: Global, play: &mut EraPlay, moment: u64) -> Result<Option<Vec<u8>>, LineFault>
     requires { moment ≤ 2 ^ 62 }
-    ensures { HasDone (Some play.old) (then_by play.old (line.Time moment)) (Some play.new) (text_in result) }
+    ensures { HasDone (Some play.old) (then_by play.old (line.Time moment)) (Some play.new) (bytes_in_text result) }
 {
     play.set_moment(moment);
     Ok(Some(Vec::new(alloc)))
@@ -240,7 +240,7 @@ fn follow_call(
 ) -> Result<Option<Vec<u8>>, LineFault>
     requires led { IsLed play.old.eras }
     requires may { caller < carrier → MayMake play.old.eras event }
-    ensures { HasDone (Some play.old) (by_call play.old caller event) (Some play.new) (text_in result) }
+    ensures { HasDone (Some play.old) (by_call play.old caller event) (Some play.new) (bytes_in_text result) }
 {
     if CARRIER <= caller {
         drop(event);
@@ -257,7 +257,7 @@ fn follow_event(
 ) -> Result<Option<Vec<u8>>, LineFault>
     requires led { IsLed play.old.eras }
     requires may { MayMake play.old.eras event }
-    ensures { HasDone (Some play.old) (by_event play.old event) (Some play.new) (text_in result) }
+    ensures { HasDone (Some play.old) (by_event play.old event) (Some play.new) (bytes_in_text result) }
 {
     let from = play.regroup.world().log().len();
     let out = make(&mut play.regroup, event)?;
@@ -269,8 +269,8 @@ fn follow_event(
 /// Delivers messages until none is left: what that logged, and how many there were.
 fn follow_drain(alloc: Global, play: &mut EraPlay) -> Result<Option<Vec<u8>>, LineFault>
     requires led { IsLed play.old.eras }
-    ensures { HasDone (Some play.old) (by_drain play.old (draining play.old.eras.world)) (Some play.new)
-        (text_in result) }
+    ensures { HasDone (Some play.old) (by_drain play.old (draining_unless_down play.old.eras.world)) (Some play.new)
+        (bytes_in_text result) }
 {
     let from = play.regroup.world().log().len();
     let count = drain(&mut play.regroup)?;
@@ -296,14 +296,14 @@ fn follow_show(
 ) -> Result<Option<Vec<u8>>, LineFault>
     requires process { IsProcess play.now.eras.world.shape at }
     requires run { run.at + run.len ≤ space_of play.now.eras.world.shape }
-    ensures { HasDone (Some play.now) (by_show play.now at run) (Some play.now) (text_in result) }
+    ensures { HasDone (Some play.now) (by_show play.now at run) (Some play.now) (bytes_in_text result) }
 {
     Ok(Some(write_look_line(alloc, &play.regroup, at, run)?))
 }
 
 /// The runs of the updates that the current era has logged.
 fn follow_places(alloc: Global, play: &EraPlay) -> Result<Option<Vec<u8>>, LineFault>
-    ensures { HasDone (Some play.now) (by_places play.now) (Some play.now) (text_in result) }
+    ensures { HasDone (Some play.now) (by_places play.now) (Some play.now) (bytes_in_text result) }
 {
     Ok(Some(write_placed(alloc, &play.regroup)?))
 }

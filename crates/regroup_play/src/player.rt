@@ -34,14 +34,14 @@ impl EraPlayer {
 
 impl Player for EraPlayer {
     ghost use Rattle.scenario_run.specs.Course.{fault_in, text_in};
-    ghost use Rattle.scenario_play.specs.Status.{told_at, told_of};
+    ghost use Rattle.scenario_play.specs.Status.{status_of_lines, told_at};
     ghost use Rattle.scenario_text.specs.declared.line.LineFault.TheVariants.{BadLine};
     ghost use Rattle.regroup_run.specs.Playing.{next_of};
     ghost use Rattle.regroup_play.specs.Doing.{ErasGoOn, end_in, log_len};
 
     ghost text = { λ play lines. text_in next_of play lines };
 
-    ghost verdict = { λ n play lines. told_of told_at (fault_in next_of BadLine n play lines) };
+    ghost verdict = { λ n play lines. status_of_lines told_at (fault_in next_of BadLine n play lines) };
 
     ghost entries = { λ play lines. log_len (end_in play lines) };
 

@@ -1,5 +1,5 @@
 ghost use Rattle.std.specs.Prelude.{◌≡◌, ◌≤◌, ◌++◌, ◌∷◌, [], drop, IfOk, OnOk};
-ghost use Rattle.group_regroup.specs.Last.{entries_of};
+ghost use Rattle.group_regroup.specs.Last.{entries_of_era};
 ghost use Rattle.scenario_run.specs.Marks.{marked_entries};
 ghost use Rattle.scenario_text.specs.Texts.{answer_text};
 ghost use Rattle.regroup_run.specs.Texts.{era_mark};
@@ -38,7 +38,7 @@ pub(crate) fn write_since(
 ) -> Result<(), AllocError>
     requires { era ≤ regroup.now.era }
     ensures { OnOk result (text.new.items ≡ text.old.items
-        ++ marked_entries (era_mark era) (drop from (entries_of era regroup.now.log))) }
+        ++ marked_entries (era_mark era) (drop from (entries_of_era era regroup.now.log))) }
 {
     let mark = write_mark(alloc, era)?;
     let entries = regroup.told(era, from)?;

@@ -10,7 +10,7 @@ use Rattle.group_run.specs.Progress.{load_of}
 use Rattle.group_run.specs.Shown.{is_down}
 use Rattle.group_run.specs.World.{World, step}
 use Rattle.law_progress.specs.Ends.{IsDelivery}
-use Rattle.scenario_run.specs.Playing.{draining}
+use Rattle.scenario_run.specs.Playing.{draining_unless_down}
 use Rattle.scenario_run.proofs.Draining.{Lightens, lightens, next-delivers}
 use Rattle.scenario_run.proofs.Leading.{IsLedTo, led-step}
 use Rattle.scenario_run.proofs.Truth.{up}
@@ -43,7 +43,7 @@ module _ (s : Dimensions) where
         let makes = delivers e x (next-delivers s w x led up is) (subst (λ (v : World). MayCome v x) (sym same) one.may) in
         (makes.0, later (era_step e x).eras (step w x).world (makes.1 ∙ ap (λ (v : World). (step v x).world) same) (led-step s w x led one.may) one.up)
 
-  pub drains : (e : Eras) → IsLedTo s e.world → MayAllMake e (draining e.world)
+  pub drains : (e : Eras) → IsLedTo s e.world → MayAllMake e (draining_unless_down e.world)
   drains e led = by (is_down e.world) refl where
     by : (b : Bool) → is_down e.world ≡ b → MayAllMake e (if b then [] else drain_events (load_of e.world) e.world)
     by true is = tt

@@ -10,15 +10,15 @@ use Rattle.group_run.specs.Meaning.{is_dead}
 use Rattle.group_run.specs.Shown.{HoldsTruth, held, is_down, told_bytes}
 use Rattle.group_run.specs.World.{opening}
 use Rattle.law_headline.proofs.Truth.{truth_always}
-use Rattle.scenario_text.specs.Meaning.{IsLineOf, line_of}
+use Rattle.scenario_text.specs.Meaning.{IsLineOf, line_meaning}
 use Rattle.scenario_text.specs.Texts.{shown_text}
-use Rattle.scenario_text.specs.Words.{words_of}
+use Rattle.scenario_text.specs.Words.{split_words}
 use Rattle.scenario_text.specs.declared.line.Line.{Line}
 use Rattle.scenario_text.specs.declared.line.Line.TheVariants.{Skipped, Group, Ask, Collect, Deliver, Fail, Flush, Trace, Drain, Show, Places, Time, Stop}
 use Rattle.scenario_text.specs.declared.line.LineFault.{LineFault}
 use Rattle.scenario_text.specs.declared.line.LineFault.TheVariants.{BadLine}
 use Rattle.scenario_text.proofs.Lines.{line_of-within}
-use Rattle.scenario_run.specs.Course.{Ends, Goes, Refused, fault_in, named_in, turns_in}
+use Rattle.scenario_run.specs.Course.{Ends, Goes, Refused, fault_in, named_in, turns_of_lines}
 use Rattle.scenario_run.specs.Lines.{lines_of}
 use Rattle.scenario_run.proofs.Following.{fault_after, named-line, turns_after}
 use Rattle.scenario_run.proofs.Running.{parts}
@@ -37,7 +37,7 @@ use Rattle.regroup_run.proofs.Running.{GoesOn, IsReady, Opens, line-leads, line-
 -- what follows a line, by what it does
 abbrev TrueAfter : Option EraPlay → List ℕ → EraNext → List (List ℕ) → Type 0
 TrueAfter play line next lines = elim next [
-  | Goes next turns text ↦ IsTrueLine play (line_of (shape_in play) line) text × AreTrueLines next lines
+  | Goes next turns text ↦ IsTrueLine play (line_meaning (shape_in play) line) text × AreTrueLines next lines
   | Ends ↦ Unit {0}
   | Refused fault ↦ Unit {0}
 ]
@@ -71,11 +71,11 @@ shows-truth e p run pin truth = ap (λ (text : List ℕ). text ++ 10 ∷ []) (by
   by false false isdown isdead = ap (look e p) (truth (up e.world isdown) p run (pin, isdead))
 
 module _ (s : Dimensions) where
-  runs : (p : EraPlay) (lines : List (List ℕ)) → IsReady s p → Runs p.eras (turns_in next_of (Some p) lines)
+  runs : (p : EraPlay) (lines : List (List ℕ)) → IsReady s p → Runs p.eras (turns_of_lines next_of (Some p) lines)
   runs p [] ready = none p.eras
   runs p (line ∷ lines) ready = by (next_of (Some p) line) refl (λ q. runs q lines) where
     by : (next : EraNext) → next_of (Some p) line ≡ next
-        → ((q : EraPlay) → IsReady s q → Runs q.eras (turns_in next_of (Some q) lines))
+        → ((q : EraPlay) → IsReady s q → Runs q.eras (turns_of_lines next_of (Some q) lines))
         → Runs p.eras (turns_after next_of next lines)
     by Ends is later = none p.eras
     by (Refused fault) is later = none p.eras
@@ -84,8 +84,8 @@ module _ (s : Dimensions) where
         let rest = later on.play (ready-on s p next turns ready on) in
         record {
           f = rest.f;
-          leads = leads-then p.eras on.play.eras rest.f turns (turns_in next_of next lines) on.leads
-              (subst (λ (q : Option EraPlay). Leads on.play.eras rest.f (turns_in next_of q lines)) (sym on.is) rest.leads);
+          leads = leads-then p.eras on.play.eras rest.f turns (turns_of_lines next_of next lines) on.leads
+              (subst (λ (q : Option EraPlay). Leads on.play.eras rest.f (turns_of_lines next_of q lines)) (sym on.is) rest.leads);
         }
 
   true-read : (p : EraPlay) (l : Result Line LineFault) (next : Option EraPlay) (turns : List Deed) (text : List ℕ)
@@ -111,18 +111,18 @@ module _ (s : Dimensions) where
   -- a line `regroup` is none that shows bytes
   true-line : (p : EraPlay) (line : List ℕ) (next : Option EraPlay) (turns : List Deed) (text : List ℕ)
       → IsLedTo s p.eras → next_of (Some p) line ≡ Goes next turns text
-      → IsTrueLine (Some p) (line_of (Some p.eras.world.shape) line) text
+      → IsTrueLine (Some p) (line_meaning (Some p.eras.world.shape) line) text
   true-line p line next turns text led is = by (regroups line) refl is where
-    refused : (l : Result Line LineFault) → line_of (Some p.eras.world.shape) line ≡ l → regroups line ≡ true → IsTrueLine (Some p) l text
+    refused : (l : Result Line LineFault) → line_meaning (Some p.eras.world.shape) line ≡ l → regroups line ≡ true → IsTrueLine (Some p) l text
     refused (Err fault) reads names = tt
     refused (Ok l) reads names = absurd (reads-no-regroup p.eras.world.shape line l names reads)
 
     by : (b : Bool) → regroups line ≡ b
-        → (if b then regroup_by p (regroup_line p.eras.world.shape.k (words_of line)) else next_by (Some p)
-        (line_of (Some p.eras.world.shape) line)) ≡ Goes next turns text
-        → IsTrueLine (Some p) (line_of (Some p.eras.world.shape) line) text
-    by true names goes = refused (line_of (Some p.eras.world.shape) line) refl names
-    by false names goes = true-read p (line_of (Some p.eras.world.shape) line) next turns text led
+        → (if b then regroup_by p (regroup_line p.eras.world.shape.k (split_words line)) else next_by (Some p)
+        (line_meaning (Some p.eras.world.shape) line)) ≡ Goes next turns text
+        → IsTrueLine (Some p) (line_meaning (Some p.eras.world.shape) line) text
+    by true names goes = refused (line_meaning (Some p.eras.world.shape) line) refl names
+    by false names goes = true-read p (line_meaning (Some p.eras.world.shape) line) next turns text led
         (λ l reads. line_of-within (Some p.eras.world.shape) line l reads) goes
 
   true-lines : (p : EraPlay) (lines : List (List ℕ)) → IsReady s p → AreTrueLines (Some p) lines
@@ -158,7 +158,7 @@ record Named (lines : List (List ℕ)) : Type 0 where
   shape : Dimensions
   limits : IsShape shape
   named : shape_in (named_in next_of None lines) ≡ Some shape
-  runs_are : Runs (first_era (opening shape)) (turns_in next_of None lines)
+  runs_are : Runs (first_era (opening shape)) (turns_of_lines next_of None lines)
   true_lines : AreTrueLines None lines
 
 begun-ready : (s : Dimensions) → IsShape s → IsReady s (record { eras = first_era (opening s); moment = 0 })
@@ -171,10 +171,10 @@ begins n (line ∷ lines) ends = by (next_of None line) refl ends (begins (n + 1
       → Opens next turns text → fault_in next_of BadLine (n + 1) next lines ≡ None
       → (fault_in next_of BadLine (n + 1) None lines ≡ None → Named lines) → Named (line ∷ lines)
   begun next turns text is opens rest later = either opens.is where
-    turns_are : (q : Option EraPlay) → next ≡ q → turns_in next_of None (line ∷ lines) ≡ turns_in next_of q lines
+    turns_are : (q : Option EraPlay) → next ≡ q → turns_of_lines next_of None (line ∷ lines) ≡ turns_of_lines next_of q lines
     turns_are q same = ap (λ (x : EraNext). turns_after next_of x lines) is
-        ∙ ap (λ (ts : List Deed). ts ++ turns_in next_of next lines) opens.quiet
-        ∙ ap (λ (x : Option EraPlay). turns_in next_of x lines) same
+        ∙ ap (λ (ts : List Deed). ts ++ turns_of_lines next_of next lines) opens.quiet
+        ∙ ap (λ (x : Option EraPlay). turns_of_lines next_of x lines) same
 
     shape_is : (q : Option EraPlay) → next ≡ q → shape_in (named_in next_of None (line ∷ lines)) ≡ shape_in (named_in next_of q lines)
     shape_is q same = ap shape_in (named-line next_of line lines (Goes next turns text) is ∙ ap (λ (x : Option EraPlay). named_in next_of x lines) same)

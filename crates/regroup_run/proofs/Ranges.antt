@@ -11,7 +11,7 @@ use Rattle.scenario_text.proofs.ActWords.{ReadsAct, ReadsStore}
 use Rattle.scenario_text.proofs.LineWords.{ReadsLine, line_of-words}
 use Rattle.scenario_text.proofs.Read.{chosen, passed}
 use Rattle.scenario_text.specs.Acts.{exptime_of}
-use Rattle.scenario_text.specs.Meaning.{line_of}
+use Rattle.scenario_text.specs.Meaning.{line_meaning}
 use Rattle.scenario_text.specs.declared.line.Line.{Line}
 use Rattle.scenario_text.specs.declared.line.Line.TheVariants.{Ask}
 use Rattle.group_eras.specs.Range.{HasLowExpiry, IsLow}
@@ -62,5 +62,5 @@ line-low s (Ask caller p a) read = act-low a read.2
 line-low s l read = tt
 
 -- a line behind the group line
-pub line_of-low : (s : Dimensions) (line : List ℕ) (l : Line) → line_of (Some s) line ≡ Ok l → IsLowLine l
+pub line_of-low : (s : Dimensions) (line : List ℕ) (l : Line) → line_meaning (Some s) line ≡ Ok l → IsLowLine l
 line_of-low s line l is = line-low s l (line_of-words s line l is)

@@ -18,8 +18,8 @@ use Rattle.group_run.specs.World.{World, opening}
 use Rattle.law_causes.specs.Drained.{NextTellsDrained}
 use Rattle.law_causes.proofs.Drained.{next_always}
 use Rattle.memc_table.specs.Asked.{Asked}
-use Rattle.scenario_text.specs.Meaning.{IsLineOf, first_out_of_range, line_of}
-use Rattle.scenario_text.specs.Words.{words_of}
+use Rattle.scenario_text.specs.Meaning.{IsLineOf, first_out_of_range, line_meaning}
+use Rattle.scenario_text.specs.Words.{split_words}
 use Rattle.scenario_text.specs.declared.line.Line.{Line}
 use Rattle.scenario_text.specs.declared.line.Line.TheVariants.{Skipped, Group, Ask, Collect, Deliver, Fail, Flush, Trace, Drain, Show, Places, Time, Stop}
 use Rattle.scenario_text.specs.declared.line.LineFault.{LineFault}
@@ -27,12 +27,12 @@ use Rattle.scenario_text.specs.declared.line.LineFault.TheVariants.{BadLine}
 use Rattle.scenario_text.proofs.Limits.{shape-of}
 use Rattle.scenario_text.proofs.Lines.{line_of-within}
 use Rattle.scenario_run.specs.Course.{Ends, Goes, Refused}
-use Rattle.scenario_run.specs.Playing.{draining}
+use Rattle.scenario_run.specs.Playing.{draining_unless_down}
 use Rattle.scenario_run.proofs.Running.{parts}
 use Rattle.scenario_run.proofs.Truth.{up}
 use Rattle.group_eras.specs.Carry.{carried}
 use Rattle.group_eras.specs.Eras.{Eras, MayMake, carrier, era_step, eras_after, first_era}
-use Rattle.group_eras.specs.Items.{bytes_in}
+use Rattle.group_eras.specs.Items.{bytes_in_partition}
 use Rattle.group_eras.specs.Promise.{Deed, Carries, IsLed, Makes}
 use Rattle.group_eras.specs.Refusal.{CanCarry}
 use Rattle.group_eras.proofs.Promises.{eras_are_runs}
@@ -123,7 +123,7 @@ then-leads s p (Trace caller call d from) next deeds text ready within low is =
     traces s p caller call (happens.Trace caller call d from) next deeds text ready
     (λ asked less. record { may = (within.0, asked, within.1, within.2); others = less; range = tt }) is
 then-leads s p Drain next deeds text ready within low is =
-    let es : List Event = draining p.eras.world in
+    let es : List Event = draining_unless_down p.eras.world in
     let q : EraPlay = record { eras = eras_after p.eras es; moment = p.moment } in
     let both = parts (Some q) next (map Makes es) deeds _ text is in
     record {
@@ -166,11 +166,11 @@ all-hold f a (suc n) d all low high = by (this-or-later a d low) (λ later. all-
   by (inr above) later = later above
 
 -- the group is at rest and there is space
-pub all-fit : (w : World) (s : Dimensions) (d : ℕ) → has_space w s ≡ true → d < w.shape.k → bytes_in w d ≤ space_of s
+pub all-fit : (w : World) (s : Dimensions) (d : ℕ) → has_space w s ≡ true → d < w.shape.k → bytes_in_partition w d ≤ space_of s
 all-fit w s d all below =
-    let fits : nat_le (bytes_in w d) (space_of s) ≡ true = all-hold (λ x. nat_le (bytes_in w x) (space_of s)) 0
+    let fits : nat_le (bytes_in_partition w d) (space_of s) ≡ true = all-hold (λ x. nat_le (bytes_in_partition w x) (space_of s)) 0
     w.shape.k d all (omega arith) (omega (arith, below)) in
-    at_most (bytes_in w d) (space_of s) fits
+    at_most (bytes_in_partition w d) (space_of s) fits
   where
     at_most : (a b : ℕ) → nat_le a b ≡ true → a ≤ b
     at_most a b fits = grind (arith, nat_tests)
@@ -264,11 +264,11 @@ pub line-leads : (s : Dimensions) (p : EraPlay) (line : List ℕ) (next : Option
     → next_of (Some p) line ≡ Goes next deeds text → GoesOn p next deeds
 line-leads s p line next deeds text ready is = by (regroups line) is where
   by : (b : Bool)
-      → (if b then regroup_by p (regroup_line p.eras.world.shape.k (words_of line)) else next_by (Some p)
-      (line_of (Some p.eras.world.shape) line)) ≡ Goes next deeds text → GoesOn p next deeds
-  by true goes = regroup-leads s p (regroup_line p.eras.world.shape.k (words_of line)) next deeds text ready
-      (line-named p.eras.world.shape.k (words_of line)) goes
-  by false goes = next-leads s p (line_of (Some p.eras.world.shape) line) next deeds text ready
+      → (if b then regroup_by p (regroup_line p.eras.world.shape.k (split_words line)) else next_by (Some p)
+      (line_meaning (Some p.eras.world.shape) line)) ≡ Goes next deeds text → GoesOn p next deeds
+  by true goes = regroup-leads s p (regroup_line p.eras.world.shape.k (split_words line)) next deeds text ready
+      (line-named p.eras.world.shape.k (split_words line)) goes
+  by false goes = next-leads s p (line_meaning (Some p.eras.world.shape) line) next deeds text ready
       (λ l reads. (line_of-within (Some p.eras.world.shape) line l reads, line_of-low p.eras.world.shape line l reads)) goes
 
 -- the group line, or a line before it
@@ -301,7 +301,7 @@ next-opens (Err fault) next deeds text within is = absurd (cc is)
 next-opens (Ok l) next deeds text within is = first-opens l next deeds text (within l refl) is
 
 pub line-opens : (line : List ℕ) (next : Option EraPlay) (deeds : List Deed) (text : List ℕ) → next_of None line ≡ Goes next deeds text → Opens next deeds text
-line-opens line next deeds text is = next-opens (line_of None line) next deeds text (λ l reads. line_of-within None line l reads) is
+line-opens line next deeds text is = next-opens (line_meaning None line) next deeds text (λ l reads. line_of-within None line l reads) is
 
 -- before the group line no line is the last
 never-ends-by : (l : Line) → IsLineOf None l → first_by l ≡ Ends → ⊥
@@ -324,4 +324,4 @@ never-ends-in (Err fault) within is = cc is
 never-ends-in (Ok l) within is = never-ends-by l (within l refl) is
 
 pub never-ends : (line : List ℕ) → next_of None line ≡ Ends → ⊥
-never-ends line is = never-ends-in (line_of None line) (λ l reads. line_of-within None line l reads) is
+never-ends line is = never-ends-in (line_meaning None line) (λ l reads. line_of-within None line l reads) is

@@ -13,19 +13,19 @@ use Rattle.group_run.specs.Draining.{next_delivery}
 use Rattle.group_run.specs.Meaning.{is_dead}
 use Rattle.group_run.specs.Shown.{held, is_down}
 use Rattle.group_run.specs.World.{World, opening}
-use Rattle.scenario_text.specs.Meaning.{is_skipped, line_of}
+use Rattle.scenario_text.specs.Meaning.{is_skipped, line_meaning}
 use Rattle.scenario_text.specs.Texts.{answer_text, shown_text}
-use Rattle.scenario_text.specs.Words.{words_of}
+use Rattle.scenario_text.specs.Words.{split_words}
 use Rattle.scenario_text.specs.declared.line.Line.{Line}
 use Rattle.scenario_text.specs.declared.line.Line.TheVariants.{Skipped, Group, Ask, Collect, Deliver, Fail, Flush, Trace, Drain, Show, Places, Time, Stop}
 use Rattle.scenario_text.specs.declared.line.LineFault.{LineFault}
 use Rattle.scenario_text.specs.declared.line.LineFault.TheVariants.{BadLine}
 use Rattle.scenario_run.specs.Course.{Next, Goes, Ends, Refused}
 use Rattle.scenario_run.specs.Placing.{placed_text}
-use Rattle.scenario_run.specs.Playing.{draining}
+use Rattle.scenario_run.specs.Playing.{draining_unless_down}
 use Rattle.group_eras.specs.Carry.{carried, many_carried}
 use Rattle.group_eras.specs.Eras.{EraEntry, Eras, carrier, era_step, eras_after, first_era, stamp_in}
-use Rattle.group_eras.specs.Items.{bytes_in}
+use Rattle.group_eras.specs.Items.{bytes_in_partition}
 use Rattle.group_eras.specs.Promise.{Deed, Makes, Carries}
 use Rattle.regroup_run.specs.Meaning.{is_regroup, regroup_line}
 use Rattle.regroup_run.specs.Texts.{era_entries_text}
@@ -87,7 +87,7 @@ refuses p text = Goes (Some p) [] (text ++ 10 ∷ [])
 
 -- no partition's items have more bytes than the new space
 abbrev pub has_space : World → Dimensions → Bool
-has_space w s = list_all (λ d. nat_le (bytes_in w d) (space_of s)) (range_with_len 0 w.shape.k)
+has_space w s = list_all (λ d. nat_le (bytes_in_partition w d) (space_of s)) (range_with_len 0 w.shape.k)
 
 -- the group is down, or else has messages on their way, or else the items are too long, or else they are carried
 abbrev pub by_regroup : EraPlay → Dimensions → EraNext
@@ -112,7 +112,7 @@ then_by p (Deliver from to) = by_event p (happens.Deliver from to)
 then_by p (Fail from keep) = by_event p (happens.Fail from keep)
 then_by p (Flush from) = by_event p (happens.Flush from)
 then_by p (Trace caller call partition from) = by_trace p caller call (happens.Trace caller call partition from)
-then_by p Drain = by_drain p (draining p.eras.world)
+then_by p Drain = by_drain p (draining_unless_down p.eras.world)
 then_by p (Show from run) = by_show p from run
 then_by p Places = by_places p
 then_by p (Time moment) = quietly (Some (record { eras = p.eras; moment = moment }))
@@ -135,9 +135,9 @@ regroup_by p (Ok shape) = by_regroup p shape
 
 -- a line that does not begin with `#` is `regroup`, or one of a script of one group
 abbrev pub regroups : List ℕ → Bool
-regroups line = if is_skipped line then false else is_regroup (words_of line)
+regroups line = if is_skipped line then false else is_regroup (split_words line)
 
 -- what a line does
 abbrev pub next_of : Option EraPlay → List ℕ → EraNext
-next_of None line = next_by None (line_of None line)
-next_of (Some p) line = if regroups line then regroup_by p (regroup_line p.eras.world.shape.k (words_of line)) else next_by (Some p) (line_of (shape_in (Some p)) line)
+next_of None line = next_by None (line_meaning None line)
+next_of (Some p) line = if regroups line then regroup_by p (regroup_line p.eras.world.shape.k (split_words line)) else next_by (Some p) (line_meaning (shape_in (Some p)) line)

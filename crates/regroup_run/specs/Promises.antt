@@ -7,7 +7,7 @@ use Rattle.group_types.specs.declared.process.ProcessId.{ProcessId}
 use Rattle.group_types.specs.declared.run.Run.{Run}
 use Rattle.group_run.specs.Shown.{told_bytes}
 use Rattle.group_run.specs.World.{opening}
-use Rattle.scenario_text.specs.Meaning.{line_of}
+use Rattle.scenario_text.specs.Meaning.{line_meaning}
 use Rattle.scenario_text.specs.declared.line.Line.{Line}
 use Rattle.scenario_text.specs.declared.line.Line.TheVariants.{Show}
 use Rattle.scenario_text.specs.declared.line.LineFault.{LineFault}
@@ -16,7 +16,7 @@ use Rattle.scenario_run.specs.Lines.{lines_of}
 use Rattle.group_eras.specs.Eras.{Eras, first_era}
 use Rattle.group_eras.specs.Promise.{Deed, Carries, HasCarried, HasPromise, MayAllBeDone, done}
 use Rattle.regroup_run.specs.Playing.{EraPlay, look, next_of, shape_in}
-use Rattle.regroup_run.specs.Script.{deeds_of, first_fault, shape_of}
+use Rattle.regroup_run.specs.Script.{deeds_of, era_script_shape, first_fault}
 
 -- what a carry leaves is what it should
 abbrev pub Keeps : Eras → Deed → Type 0
@@ -41,7 +41,7 @@ IsTrueLine _ _ text = Unit {0}
 abbrev pub AreTrueLines : Option EraPlay → List (List ℕ) → Type 0
 AreTrueLines play [] = Unit {0}
 AreTrueLines play (line ∷ lines) = elim (next_of play line) [
-  | Goes next turns text ↦ IsTrueLine play (line_of (shape_in play) line) text × AreTrueLines next lines
+  | Goes next turns text ↦ IsTrueLine play (line_meaning (shape_in play) line) text × AreTrueLines next lines
   | Ends ↦ Unit {0}
   | Refused fault ↦ Unit {0}
 ]
@@ -49,7 +49,7 @@ AreTrueLines play (line ∷ lines) = elim (next_of play line) [
 -- a script's eras keep their promises
 pub record KeepsPromises (text : List ℕ) : Type 0 where
   pub shape : Dimensions
-  pub named : shape_of text ≡ Some shape
+  pub named : era_script_shape text ≡ Some shape
   pub limits : IsShape shape
   pub may : MayAllBeDone (first_era (opening shape)) (deeds_of text)
   pub kept : KeepAll (first_era (opening shape)) (deeds_of text)

@@ -3,14 +3,14 @@ use Rattle.std.specs.Prelude.{◌≡◌, ℕ, ◌+◌, Bool, List, [], ◌∷◌
 use Rattle.std.specs.Option.{option_or}
 
 -- the number up to which updates are applied, the updates above it in order, and how many more fit without memory
-pub record Logged (U : Type 0) : Type 0 where
+pub record LogState (U : Type 0) : Type 0 where
   pub applied : ℕ
   pub updates : List U
   pub spare : ℕ
 
 -- the number of the last update, or the applied number where there is none
-abbrev pub last_of : {U : Type 0} → Logged U → ℕ
-last_of log = log.applied + length log.updates
+abbrev pub last_number : {U : Type 0} → LogState U → ℕ
+last_number log = log.applied + length log.updates
 
 -- the updates are numbered one by one from above `base` on
 abbrev pub IsNumbered : {U : Type 0} → (U → ℕ) → ℕ → List U → Type 0

@@ -7,7 +7,7 @@ ghost use Rattle.std.specs.Prelude.{◌≡◌, ℕ, ◌+◌, ◌-◌, ◌<◌, �
 ghost use Rattle.std.specs.Option.{option_map};
 ghost use Rattle.std.specs.VecDeque.Iter.{deque_iter_rest, deque_iter_steps};
 ghost use Rattle.std.specs.Iterator.Runs.{YieldsRefsInOrder};
-ghost use Rattle.request_log.specs.Logged.{last_of, find_last, IsNumbered};
+ghost use Rattle.request_log.specs.Logged.{last_number, find_last, IsNumbered};
 
 pub use numbering::Numbering;
 use std::alloc::{AllocError, Global};
@@ -30,9 +30,9 @@ pub struct Log<N: Numbering> {
 impl<N: Numbering> Model for Log<N> {
     ghost use Rattle.std.specs.Prelude.{ℕ, ◌+◌, ◌≤◌};
     ghost use Rattle.std.specs.VecDeque.{deque_len, deque_capacity};
-    ghost use Rattle.request_log.specs.Logged.{Logged, IsNumbered};
+    ghost use Rattle.request_log.specs.Logged.{IsNumbered, LogState};
 
-    ghost Value = { Logged N.Item };
+    ghost Value = { LogState N.Item };
 
     ghost view = { λ log. record { applied = log.applied; updates = log.updates.items; spare = log.spare } };
 
@@ -68,7 +68,7 @@ impl<N: Numbering> Log<N> {
 
     /// Adds an update at the end. It takes no memory.
     pub fn push(&mut self, update: N::Item)
-        requires next { N.number_of update ≡ last_of self.old + 1 }
+        requires next { N.number_of update ≡ last_number self.old + 1 }
         requires room { 0 < self.old.spare }
         ensures applied { self.new.applied ≡ self.old.applied }
         ensures updates { self.new.updates ≡ self.old.updates ++ update ∷ [] }
@@ -91,7 +91,7 @@ impl<N: Numbering> Log<N> {
 
     /// The number of the last update, or the applied number where the log is empty.
     pub fn last(&self) -> u64
-        ensures last { result ≡ last_of self.now }
+        ensures last { result ≡ last_number self.now }
         ensures numbered { IsNumbered N.number_of self.now.applied self.now.updates }
     {
         match self.updates.back() {

@@ -7,7 +7,7 @@ use Rattle.group_types.specs.Dimensions.{Dimensions}
 use Rattle.group_types.proofs.Lists.{length-put}
 use Rattle.group_run.specs.Process.{Copy}
 use Rattle.group_run.specs.Rows.{copy_in, is_copy, is_marked, marked}
-use Rattle.row_copies.specs.Row.{HaveOneEach, IsWhole, StandsAt, kept_until, marking}
+use Rattle.row_copies.specs.Row.{CopyStandsAt, HaveOneEach, IsWholeCopy, kept_until, marking}
 use Rattle.row_copies.proofs.Each.{each-filter, each-with, own_session, set_with, remove_without}
 
 module _ (P : Copy → Type 0) (p : Copy → Bool) where
@@ -22,7 +22,7 @@ module _ (P : Copy → Type 0) (p : Copy → Bool) where
 
 module _ (s : Dimensions) (d n : ℕ) where
   -- a mark leaves a copy whole
-  pub whole_marked : (c : Copy) → d < s.k → IsWhole s c → IsWhole s (marked d n c)
+  pub whole_marked : (c : Copy) → d < s.k → IsWholeCopy s c → IsWholeCopy s (marked d n c)
   whole_marked c below whole = record {
     leader = whole.leader;
     block = whole.block;
@@ -30,20 +30,21 @@ module _ (s : Dimensions) (d n : ℕ) where
     marks = let long = whole.marks in length-put None c.marks d (Some n) (omega (arith, long, below)) ∙ long;
   }
 
-  whole_chosen : (y c : Copy) (b : Bool) → IsWhole s y → IsWhole s c → IsWhole s (if b then y else c)
+  whole_chosen : (y c : Copy) (b : Bool) → IsWholeCopy s y → IsWholeCopy s c → IsWholeCopy s (if b then y else c)
   whole_chosen y c true one other = one
   whole_chosen y c false one other = other
 
-  whole_kept : (b : Bool) (y : Copy) (cs : List Copy) → IsWhole s y → All (IsWhole s) cs → All (IsWhole s) (kept_until b y cs).copies
-  whole_kept true y cs one all = All-filter (λ (c : Copy). not (is_copy y.leader y.number c)) (IsWhole s) cs all
-  whole_kept false y cs one all = All-map (IsWhole s) (λ (c : Copy). if is_copy y.leader y.number c then y else c) cs
+  whole_kept : (b : Bool) (y : Copy) (cs : List Copy) → IsWholeCopy s y → All (IsWholeCopy s) cs → All (IsWholeCopy s) (kept_until b y cs).copies
+  whole_kept true y cs one all = All-filter (λ (c : Copy). not (is_copy y.leader y.number c)) (IsWholeCopy s) cs all
+  whole_kept false y cs one all = All-map (IsWholeCopy s) (λ (c : Copy). if is_copy y.leader y.number c then y else c) cs
       (λ i e lt. whole_chosen y (get_or cs i e) (is_copy y.leader y.number (get_or cs i e)) one (all i e lt))
 
   each_kept : (b : Bool) (y : Copy) (cs : List Copy) → HaveOneEach cs → HaveOneEach (kept_until b y cs).copies
   each_kept true y cs each = each-filter (λ (c : Copy). not (is_copy y.leader y.number c)) cs each
   each_kept false y cs each = each-with y cs each
 
-  pub whole_after : (o : Option Copy) (cs : List Copy) → d < s.k → IfSome o (IsWhole s) → All (IsWhole s) cs → All (IsWhole s) (marking s d n o cs).copies
+  pub whole_after : (o : Option Copy) (cs : List Copy) → d < s.k → IfSome o (IsWholeCopy s) → All (IsWholeCopy s) cs
+      → All (IsWholeCopy s) (marking s d n o cs).copies
   whole_after None cs below one all = all
   whole_after (Some c) cs below one all = whole_kept (is_marked s (marked d n c)) (marked d n c) cs (whole_marked c below one) all
 
@@ -55,7 +56,7 @@ module _ (s : Dimensions) (d n : ℕ) where
     pub none_there : copy_in cs l k ≡ None → record { copies = cs; done = None } ≡ marking s d n (copy_in cs l k) cs
     none_there none = ap (λ (o : Option Copy). marking s d n o cs) (sym none)
 
-    module _ (i : ℕ) (x : Copy) (at_place : StandsAt l k cs i) (is : x ≡ get_or cs i x) (each : HaveOneEach cs) where
+    module _ (i : ℕ) (x : Copy) (at_place : CopyStandsAt l k cs i) (is : x ≡ get_or cs i x) (each : HaveOneEach cs) where
       found : copy_in cs l k ≡ Some x
       found = at_place.copy x ∙ ap Some (sym is)
 
@@ -75,6 +76,7 @@ module _ (s : Dimensions) (d n : ℕ) where
           (remove_without (marked d n x) cs i x each at_place.within own) ∙ told true test
 
 -- the copy for a session is there where its place is found
-pub found_is : (l n : ℕ) (cs : List Copy) (r : Option ℕ) → IfSome r (StandsAt l n cs) → IfNone r (copy_in cs l n ≡ None) → is_some r ≡ is_some (copy_in cs l n)
+pub found_is : (l n : ℕ) (cs : List Copy) (r : Option ℕ) → IfSome r (CopyStandsAt l n cs) → IfNone r (copy_in cs l n ≡ None)
+    → is_some r ≡ is_some (copy_in cs l n)
 found_is l n cs None some none = sym (ap is_some none)
 found_is l n cs (Some i) some none = sym (ap is_some (some.copy (record { leader = 0; number = 0; block = 0; bytes = []; marks = [] })))

@@ -21,7 +21,7 @@ abbrev pub unmarked : Dimensions → ℕ → ℕ → ℕ → List ℕ → Copy
 unmarked s leader number block bytes = record { leader = leader; number = number; block = block; bytes = bytes; marks = replicate s.k None }
 
 -- the copy is for a session of a parity process, has a block of the space, and a place for each mark
-pub record IsWhole (s : Dimensions) (copy : Copy) : Type 0 where
+pub record IsWholeCopy (s : Dimensions) (copy : Copy) : Type 0 where
   pub leader : copy.leader < s.m
   pub block : copy.block < s.blocks
   pub bytes : length copy.bytes ≡ s.block
@@ -36,11 +36,11 @@ HaveOneEach (copy ∷ copies) = (is_some (copy_in copies copy.leader copy.number
 pub record IsRow (row : Row) : Type 0 where
   pub number : row.number < row.shape.m
   pub leaders : length row.state.ceased ≡ row.shape.m
-  pub whole : All (IsWhole row.shape) row.state.copies
+  pub whole : All (IsWholeCopy row.shape) row.state.copies
   pub each : HaveOneEach row.state.copies
 
 -- the copy for a session stands at this place
-pub record StandsAt (leader number : ℕ) (copies : List Copy) (place : ℕ) : Type 0 where
+pub record CopyStandsAt (leader number : ℕ) (copies : List Copy) (place : ℕ) : Type 0 where
   pub within : place < length copies
   pub copy : (d : Copy) → copy_in copies leader number ≡ Some (slice_index_or copies place d)
 

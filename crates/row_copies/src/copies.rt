@@ -3,7 +3,7 @@ ghost use Rattle.std.specs.Prelude.{◌≡◌, ◌<◌, ◌≤◌, vec_len, vec_
 ghost use Rattle.group_types.specs.declared.process.ProcessId.TheVariants.{ParityNode};
 ghost use Rattle.group_run.specs.Applying.{copy_after};
 ghost use Rattle.group_run.specs.Rows.{copy_in};
-ghost use Rattle.row_copies.specs.Row.{HaveOneEach, IsWhole, StandsAt, marking};
+ghost use Rattle.row_copies.specs.Row.{CopyStandsAt, HaveOneEach, IsWholeCopy, marking};
 
 use crate::copy::Copy;
 use group_message::Update;
@@ -11,7 +11,7 @@ use group_types::{Partition, Shape};
 
 /// The place of the copy for a session, if there is one.
 pub fn place_of(copies: &[Copy], leader: u32, number: u64) -> Option<usize>
-    ensures some { IfSome result (StandsAt leader number copies.now) }
+    ensures some { IfSome result (CopyStandsAt leader number copies.now) }
     ensures none { IfNone result (copy_in copies.now leader number ≡ None) }
 {
     'copies: for place in 0..copies.len() {
@@ -24,14 +24,14 @@ pub fn place_of(copies: &[Copy], leader: u32, number: u64) -> Option<usize>
 
 /// Adds an update to each copy.
 pub fn add(copies: &mut Vec<Copy>, shape: Shape, number: u32, d: Partition, update: &Update)
-    requires whole { All (IsWhole shape) copies.old.items }
+    requires whole { All (IsWholeCopy shape) copies.old.items }
     requires number { number < shape.m }
     requires partition { d.0 < shape.k }
     ensures len { vec_len copies.new ≡ vec_len copies.old }
     ensures capacity { vec_capacity copies.new ≡ vec_capacity copies.old }
     ensures copies { copies.new.items
         ≡ map (copy_after shape (ParityNode number) d.0 (update.now ∷ [])) copies.old.items }
-    ensures whole { All (IsWhole shape) copies.new.items }
+    ensures whole { All (IsWholeCopy shape) copies.new.items }
 {
     'copies: for place in 0..copies.len() {
         copies[place].add(shape, number, d, update);
@@ -47,13 +47,13 @@ pub fn mark(
     d: Partition,
     n: u64,
 ) -> Option<Copy>
-    requires whole { All (IsWhole shape) copies.old.items }
+    requires whole { All (IsWholeCopy shape) copies.old.items }
     requires each { HaveOneEach copies.old.items }
     requires partition { d.0 < shape.k }
     ensures copies { copies.new.items
         ≡ (marking shape d.0 n (copy_in copies.old.items leader number) copies.old.items).copies }
     ensures done { result ≡ (marking shape d.0 n (copy_in copies.old.items leader number) copies.old.items).done }
-    ensures whole { IfSome result (IsWhole shape) }
+    ensures whole { IfSome result (IsWholeCopy shape) }
     ensures len { vec_len copies.new ≤ vec_len copies.old }
     ensures capacity { vec_capacity copies.new ≡ vec_capacity copies.old }
 {

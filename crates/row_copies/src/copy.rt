@@ -2,7 +2,7 @@ ghost use Rattle.std.specs.Prelude.{◌≡◌, ◌<◌, [], ◌∷◌, length, r
 ghost use Rattle.group_types.specs.declared.process.ProcessId.TheVariants.{ParityNode};
 ghost use Rattle.group_run.specs.Applying.{copy_after};
 ghost use Rattle.group_run.specs.Rows.{is_copy, is_marked, marked, marks_of};
-ghost use Rattle.row_copies.specs.Row.{IsWhole, unmarked};
+ghost use Rattle.row_copies.specs.Row.{IsWholeCopy, unmarked};
 
 use crate::area::add_body;
 use crate::marks::{are_all, write};
@@ -86,11 +86,11 @@ impl Copy {
     /// Adds what an update of a partition makes in the block, times the coefficient of parity process
     /// `number`, unless the partition is marked.
     pub(crate) fn add(&mut self, shape: Shape, number: u32, d: Partition, update: &Update)
-        requires whole { IsWhole shape self.old }
+        requires whole { IsWholeCopy shape self.old }
         requires number { number < shape.m }
         requires partition { d.0 < shape.k }
         ensures copy { self.new ≡ copy_after shape (ParityNode number) d.0 (update.now ∷ []) self.old }
-        ensures whole { IsWhole shape self.new }
+        ensures whole { IsWholeCopy shape self.new }
     {
         if self.marks[d.0 as usize].is_some() {
             return;

@@ -4,7 +4,7 @@ ghost use Rattle.group_types.specs.declared.process.ProcessId.TheVariants.{Parit
 ghost use Rattle.group_run.specs.Applying.{copy_after};
 ghost use Rattle.group_run.specs.Process.{Process, no_row_state};
 ghost use Rattle.group_run.specs.Rows.{copies_ceased, copy_in, leader_forgotten};
-ghost use Rattle.row_copies.specs.Row.{IsWhole, marking, unmarked};
+ghost use Rattle.row_copies.specs.Row.{IsWholeCopy, marking, unmarked};
 
 use crate::copies;
 use crate::copy::Copy;
@@ -126,7 +126,7 @@ impl Rows {
             ≡ (marking self.old.shape d.0 n (copy_in self.old.state.copies leader number) self.old.state.copies).copies }
         ensures done { result ≡ (marking self.old.shape d.0 n (copy_in self.old.state.copies leader number)
             self.old.state.copies).done }
-        ensures whole { IfSome result (IsWhole self.old.shape) }
+        ensures whole { IfSome result (IsWholeCopy self.old.shape) }
         ensures ceased { self.new.state.ceased ≡ self.old.state.ceased }
     {
         copies::mark(&mut self.copies, self.shape, leader, number, d, n)

@@ -7,7 +7,7 @@ use Rattle.std.proofs.lemmas.Bool.Decides.{nat_tests}
 use Rattle.std.proofs.lemmas.List.Elements.{All-nil, All-cons, All-head, All-tail, All-append, All-contains, All-weaker}
 use Rattle.std.proofs.lemmas.List.Elements.{Contains-append_cases, Contains-append_left, Contains-append_right}
 use Rattle.run_alloc.specs.declared.order.Run.{Run}
-use Rattle.run_alloc.specs.Free.{in_run}
+use Rattle.run_alloc.specs.Free.{in_run_at}
 use Rattle.run_alloc.specs.Runs.{in_runs, IsSpread, IsApart, IsCut, IsJoined, IsSame}
 use Rattle.run_alloc.specs.Shelves.{Rises, Adds}
 use Rattle.run_alloc.proofs.Around.{All-front, All-behind}
@@ -70,15 +70,15 @@ and_not true false _ = refl
 and_not false true _ = refl
 and_not false false _ = refl
 
-pub adds_in_runs : (old new : List Run) (run : Run) → Adds old new run → (a : ℕ) → in_runs new a ≡ (in_runs old a || in_run run.at run.len a)
+pub adds_in_runs : (old new : List Run) (run : Run) → Adds old new run → (a : ℕ) → in_runs new a ≡ (in_runs old a || in_run_at run.at run.len a)
 adds_in_runs old new run adds a =
     ap (λ (l : List Run). in_runs l a) adds.is
     ∙ in_runs-append adds.before (run ∷ adds.after) a
-    ∙ or_swap (in_runs adds.before a) (in_run run.at run.len a) (in_runs adds.after a)
-    ∙ ap (λ (b : Bool). b || in_run run.at run.len a) (sym (ap (λ (l : List Run). in_runs l a) adds.was ∙ in_runs-append adds.before adds.after a))
+    ∙ or_swap (in_runs adds.before a) (in_run_at run.at run.len a) (in_runs adds.after a)
+    ∙ ap (λ (b : Bool). b || in_run_at run.at run.len a) (sym (ap (λ (l : List Run). in_runs l a) adds.was ∙ in_runs-append adds.before adds.after a))
 
 -- an address of a run is in no run apart from it
-pub clear_of : (runs : List Run) (run : Run) (a : ℕ) → All (IsApart run) runs → in_run run.at run.len a ≡ true → in_runs runs a ≡ false
+pub clear_of : (runs : List Run) (run : Run) (a : ℕ) → All (IsApart run) runs → in_run_at run.at run.len a ≡ true → in_runs runs a ≡ false
 clear_of [] run a apart inside = refl
 clear_of (x ∷ runs) run a apart inside =
     let rest = clear_of runs run a (All-tail (IsApart run) x runs apart) inside in
@@ -99,9 +99,9 @@ module _ (old new : List Run) (run : Run) (adds : Adds new old run) (high : ℕ)
   pub removed_apart : All (IsApart run) new
   removed_apart = subst (λ (l : List Run). All (IsApart run) l) (sym adds.was) (others adds.before adds.after run 0 high spread_parts)
 
-  pub removed_taken : (a : ℕ) → in_runs new a ≡ (in_runs old a && not (in_run run.at run.len a))
-  removed_taken a = and_not (in_runs new a) (in_run run.at run.len a) (clear_of new run a removed_apart)
-      ∙ ap (λ (b : Bool). b && not (in_run run.at run.len a)) (sym (adds_in_runs new old run adds a))
+  pub removed_taken : (a : ℕ) → in_runs new a ≡ (in_runs old a && not (in_run_at run.at run.len a))
+  removed_taken a = and_not (in_runs new a) (in_run_at run.at run.len a) (clear_of new run a removed_apart)
+      ∙ ap (λ (b : Bool). b && not (in_run_at run.at run.len a)) (sym (adds_in_runs new old run adds a))
 
 pub removed_cut : (old new : List Run) (run : Run) → Adds new old run → IsSpread 0 old (2 ^ 32) → IsCut old new run.at run.len
 removed_cut old new run adds spread = record {

@@ -9,7 +9,7 @@ use Rattle.std.proofs.lemmas.Bool.{cases_lt}
 use Rattle.std.proofs.lemmas.Bool.Decides.{nat_tests}
 use Rattle.std.proofs.lemmas.List.Elements.{All-contains, Contains-append_right, Contains-append_cases, Contains-get_or}
 use Rattle.run_alloc.specs.declared.order.Run.{Run}
-use Rattle.run_alloc.specs.Free.{in_run, AllFree, NoneFree, IsFreeRun, IsBestRun, IsPlace, NoPlace}
+use Rattle.run_alloc.specs.Free.{in_run_at, AllFree, NoneFree, IsFreeRun, IsBestRun, IsPlace, NoPlace}
 use Rattle.run_alloc.specs.Runs.{in_runs, free_set, IsSpread, IsApart, IsClear, IsShortest, IsCut, IsJoined, IsWidened}
 use Rattle.run_alloc.specs.Shelves.{Adds, IsLastBelow}
 use Rattle.run_alloc.proofs.Around.{around}
@@ -87,11 +87,11 @@ pair_apart runs high run other spread first second =
     ]
 
 -- a run that has the address
-pub holder : (runs : List Run) (a : ℕ) → in_runs runs a ≡ true → (run : Run) × (Contains runs run × (in_run run.at run.len a ≡ true))
+pub holder : (runs : List Run) (a : ℕ) → in_runs runs a ≡ true → (run : Run) × (Contains runs run × (in_run_at run.at run.len a ≡ true))
 holder [] a is = absurd (true≢false (sym is))
 holder (run ∷ runs) a is =
-    elim (in_run run.at run.len a) as (λ b. in_run run.at run.len a ≡ b → (b || in_runs runs a) ≡ true → (r : Run)
-    × (Contains (run ∷ runs) r × (in_run r.at r.len a ≡ true))) [
+    elim (in_run_at run.at run.len a) as (λ b. in_run_at run.at run.len a ≡ b → (b || in_runs runs a) ≡ true → (r : Run)
+    × (Contains (run ∷ runs) r × (in_run_at r.at r.len a ≡ true))) [
       | true ↦ λ here _. (run, ((0, (omega arith), refl), here))
       | false ↦ λ _ rest. let later = holder runs a rest in (later.0, (Contains-append_right (run ∷ []) runs later.0 later.1.0, later.1.1))
     ] refl is
@@ -191,11 +191,11 @@ pub none_free_in_runs : (runs : List Run) (at len : ℕ) → NoneFree (in_set ru
 none_free_in_runs runs at len none a low high = sym (contains-free_set runs a) ∙ none a low high
 
 pub cut_in_set : (old new : List Run) (at len : ℕ) → IsCut old new at len → (a : ℕ) → set.contains (free_set new) a
-    ≡ (set.contains (free_set old) a && not (in_run at len a))
+    ≡ (set.contains (free_set old) a && not (in_run_at at len a))
 cut_in_set old new at len cut a = rw (contains-free_set new a, contains-free_set old a) (cut.taken a)
 
 pub joined_in_set : (old new : List Run) (at len : ℕ) → IsJoined old new at len → (a : ℕ)
-    → set.contains (free_set new) a ≡ (set.contains (free_set old) a || in_run at len a)
+    → set.contains (free_set new) a ≡ (set.contains (free_set old) a || in_run_at at len a)
 joined_in_set old new at len joined a = rw (contains-free_set new a, contains-free_set old a) (joined.given a)
 
 pub whole_in_set : (old new : List Run) (size : ℕ) → old ≡ [] → IsJoined old new 0 size → (a : ℕ) → set.contains (free_set new) a ≡ nat_lt a size
@@ -211,7 +211,7 @@ none_to runs at free above =
     omega (arith, in_run-true held.0.at held.0.len at held.1.1, All-contains (λ (r : Run). at + 1 ≤ r.at) runs held.0 above held.1.0)
 
 -- an address of a run is free
-pub contained : (runs : List Run) (run : Run) (a : ℕ) → Contains runs run → in_run run.at run.len a ≡ true → in_runs runs a ≡ true
+pub contained : (runs : List Run) (run : Run) (a : ℕ) → Contains runs run → in_run_at run.at run.len a ≡ true → in_runs runs a ≡ true
 contained runs run a is inside =
     let parts = split_at runs run is in
     adds_in_runs parts.0 runs run parts.1 a ∙ ap (λ (b : Bool). in_runs parts.0 a || b) inside ∙ or-true (in_runs parts.0 a)
@@ -239,17 +239,17 @@ none_clear runs high at len some spread none k d lt =
     ]
 
 -- what stays of a run that is taken out is put back
-cut_bool : (o : Bool) (run front behind : Run) (at len a : ℕ) → (in_run run.at run.len a ≡ true → o ≡ true)
+cut_bool : (o : Bool) (run front behind : Run) (at len a : ℕ) → (in_run_at run.at run.len a ≡ true → o ≡ true)
     → front.at ≡ run.at → front.at + front.len ≡ at → behind.at ≡ at + len
     → behind.at + behind.len ≡ run.at + run.len
-    → (((o && not (in_run run.at run.len a)) || in_run front.at front.len a) || in_run behind.at behind.len a)
-    ≡ (o && not (in_run at len a))
+    → (((o && not (in_run_at run.at run.len a)) || in_run_at front.at front.len a) || in_run_at behind.at behind.len a)
+    ≡ (o && not (in_run_at at len a))
 cut_bool true run front behind at len a here begins meets follows last = grind (arith, nat_tests)
 cut_bool false run front behind at len a here begins meets follows last =
-    elim (in_run run.at run.len a) as
-    (λ b. in_run run.at run.len a ≡ b
-    → (((false && not b) || in_run front.at front.len a) || in_run behind.at behind.len a)
-    ≡ (false && not (in_run at len a))) [
+    elim (in_run_at run.at run.len a) as
+    (λ b. in_run_at run.at run.len a ≡ b
+    → (((false && not b) || in_run_at front.at front.len a) || in_run_at behind.at behind.len a)
+    ≡ (false && not (in_run_at at len a))) [
       | true ↦ λ inside. absurd (true≢false (sym (here inside)))
       | false ↦ λ outside. grind (arith, nat_tests, outside)
     ] refl
@@ -262,8 +262,8 @@ cut_by old rest with_front new run front behind at len kept cut first second beg
   spread = λ high spread.
       let end = All-contains (λ (r : Run). r.at + r.len < high) old run (spread-ends old 0 high spread) kept in
       second.spread high (omega arith) (first.spread high (omega arith) (cut.spread high spread));
-  taken = λ a. second.given a ∙ ap (λ (b : Bool). b || in_run behind.at behind.len a)
-      (first.given a ∙ ap (λ (b : Bool). b || in_run front.at front.len a) (cut.taken a))
+  taken = λ a. second.given a ∙ ap (λ (b : Bool). b || in_run_at behind.at behind.len a)
+      (first.given a ∙ ap (λ (b : Bool). b || in_run_at front.at front.len a) (cut.taken a))
       ∙ cut_bool (in_runs old a) run front behind at len a (contained old run a kept) begins meets follows last;
 }
 
@@ -278,12 +278,12 @@ wide_bool false false false w here is = rw is refl
 
 module _ (old new : List Run) (run other wide : Run) (kept : Contains old other)
     (cut : IsCut old new other.at other.len) (spread : IsSpread 0 old (2 ^ 32)) (apart : All (IsApart other) new) where
-  widened : wide.len ≡ run.len + other.len → ((a : ℕ) → in_run wide.at wide.len a ≡ (in_run run.at run.len a || in_run other.at other.len a))
+  widened : wide.len ≡ run.len + other.len → ((a : ℕ) → in_run_at wide.at wide.len a ≡ (in_run_at run.at run.len a || in_run_at other.at other.len a))
       → ((high : ℕ) → run.at + run.len < high → other.at + other.len < high → wide.at + wide.len < high) → IsWidened old new run wide
   widened long both ends = record {
     spread = cut.spread;
-    given = λ a. ap (λ (b : Bool). b || in_run wide.at wide.len a) (cut.taken a)
-        ∙ wide_bool (in_runs old a) (in_run other.at other.len a) (in_run run.at run.len a) (in_run wide.at wide.len a)
+    given = λ a. ap (λ (b : Bool). b || in_run_at wide.at wide.len a) (cut.taken a)
+        ∙ wide_bool (in_runs old a) (in_run_at other.at other.len a) (in_run_at run.at run.len a) (in_run_at wide.at wide.len a)
         (contained old other a kept) (both a);
     some = omega arith;
     inside = λ high below s. ends high below (All-contains (λ (r : Run). r.at + r.len < high) old other (spread-ends old 0 high s) kept);

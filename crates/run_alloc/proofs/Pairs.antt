@@ -7,7 +7,7 @@ use Rattle.std.proofs.lemmas.List.Elements.{All-append, All-cons, All-weaker, Al
 use Rattle.run_alloc.specs.declared.order.Run.{Run}
 use Rattle.run_alloc.specs.declared.order.Order.{Order}
 use Rattle.run_alloc.specs.declared.order.Order.TheVariants.{Length}
-use Rattle.run_alloc.specs.Order.{rank_of}
+use Rattle.run_alloc.specs.Order.{order_key}
 use Rattle.run_alloc.specs.Shelf.{Shelved}
 use Rattle.run_alloc.specs.Shelves.{Rises, Adds, IsFirstFrom, IsLastBelow}
 use Rattle.run_alloc.specs.Runs.{IsSpread, IsApart, IsShortest}
@@ -26,54 +26,54 @@ module _ (a l : Shelved) (spare : ℕ) (paired : IsPaired a l spare) where
   low : (run : Run) → Contains a.runs run → run.at + run.len < 2 ^ 32
   low run is = All-contains (λ (r : Run). r.at + r.len < 2 ^ 32) a.runs run (spread-ends a.runs 0 (2 ^ 32) paired.spread) is
 
-  pub none_long : (want : ℕ) → All (λ (r : Run). rank_of l.order r < want * 2 ^ 32) l.runs → All (λ (r : Run). r.len < want) a.runs
+  pub none_long : (want : ℕ) → All (λ (r : Run). order_key l.order r < want * 2 ^ 32) l.runs → All (λ (r : Run). r.len < want) a.runs
   none_long want none k d lt =
-      let all = subst (λ (o : Order). All (λ (r : Run). rank_of o r < want * 2 ^ 32) l.runs) paired.by_length none in
-      omega (arith, All-contains (λ (r : Run). rank_of Length r < want * 2 ^ 32) l.runs _ all (paired.same.there _ (Contains-get_or a.runs k d lt)))
+      let all = subst (λ (o : Order). All (λ (r : Run). order_key o r < want * 2 ^ 32) l.runs) paired.by_length none in
+      omega (arith, All-contains (λ (r : Run). order_key Length r < want * 2 ^ 32) l.runs _ all (paired.same.there _ (Contains-get_or a.runs k d lt)))
 
-  pub first_is_shortest : (want : ℕ) (run : Run) → IsFirstFrom (rank_of l.order) l.runs (want * 2 ^ 32) run
-      → Rises (rank_of l.order) 0 l.runs (2 ^ 64) → IsShortest a.runs want run
+  pub first_is_shortest : (want : ℕ) (run : Run) → IsFirstFrom (order_key l.order) l.runs (want * 2 ^ 32) run
+      → Rises (order_key l.order) 0 l.runs (2 ^ 64) → IsShortest a.runs want run
   first_is_shortest want run found rises =
-      let first = subst (λ (o : Order). IsFirstFrom (rank_of o) l.runs (want * 2 ^ 32) run) paired.by_length found in
-      let in_order = subst (λ (o : Order). Rises (rank_of o) 0 l.runs (2 ^ 64)) paired.by_length rises in
+      let first = subst (λ (o : Order). IsFirstFrom (order_key o) l.runs (want * 2 ^ 32) run) paired.by_length found in
+      let in_order = subst (λ (o : Order). Rises (order_key o) 0 l.runs (2 ^ 64)) paired.by_length rises in
       let adds : Adds (first.before ++ first.after) l.runs run = record { before = first.before; after = first.after; was = refl; is = first.parts } in
       let kept = paired.same.back run (adds_has (first.before ++ first.after) l.runs run adds) in
-      let behind = rises-above (rank_of Length) first.after (rank_of Length run + 1) (2 ^ 64)
-      (rises-behind (rank_of Length) first.before (run ∷ first.after) 0 (2 ^ 64)
-      (subst (λ (x : List Run). Rises (rank_of Length) 0 x (2 ^ 64)) first.parts in_order)).1 in
+      let behind = rises-above (order_key Length) first.after (order_key Length run + 1) (2 ^ 64)
+      (rises-behind (order_key Length) first.before (run ∷ first.after) 0 (2 ^ 64)
+      (subst (λ (x : List Run). Rises (order_key Length) 0 x (2 ^ 64)) first.parts in_order)).1 in
       record {
         kept = kept;
         fits = omega (arith, first.reached, low run kept);
         least = λ other is enough.
             elim (Contains-append_cases first.before (run ∷ first.after) other
             (subst (λ (x : List Run). Contains x other) first.parts (paired.same.there other is))) [
-              | inl before ↦ absurd (omega (arith, All-contains (λ (r : Run). rank_of Length r < want * 2 ^ 32) first.before other first.below before))
+              | inl before ↦ absurd (omega (arith, All-contains (λ (r : Run). order_key Length r < want * 2 ^ 32) first.before other first.below before))
               | inr rest ↦ elim (Contains-append_cases (run ∷ []) first.after other rest) [
                 | inl here ↦ let same = only run other here in inr (ap (λ (r : Run). r.len) same, omega (arith, ap (λ (r : Run). r.at) same))
                 | inr after ↦ longer run other (low other is)
-                    (All-contains (λ (r : Run). rank_of Length run + 1 ≤ rank_of Length r) first.after other behind
+                    (All-contains (λ (r : Run). order_key Length run + 1 ≤ order_key Length r) first.after other behind
                     after)
               ]
             ];
       }
     where
-      longer : (x y : Run) → y.at + y.len < 2 ^ 32 → rank_of Length x + 1 ≤ rank_of Length y → (x.len < y.len) ⊎ ((x.len ≡ y.len) × (x.at ≤ y.at))
+      longer : (x y : Run) → y.at + y.len < 2 ^ 32 → order_key Length x + 1 ≤ order_key Length y → (x.len < y.len) ⊎ ((x.len ≡ y.len) × (x.at ≤ y.at))
       longer x y fits le = elim (cases_lt x.len y.len) [ inl lt ↦ inl lt | inr ge ↦ inr (omega arith, omega arith) ]
 
   pub shortest_of : (want : ℕ) (result : Option Run)
-      → MatchOption result (All (λ (r : Run). rank_of l.order r < want * 2 ^ 32) l.runs)
-      (IsFirstFrom (rank_of l.order) l.runs (want * 2 ^ 32))
-      → Rises (rank_of l.order) 0 l.runs (2 ^ 64) → MatchOption result (All (λ (r : Run). r.len < want) a.runs) (IsShortest a.runs want)
+      → MatchOption result (All (λ (r : Run). order_key l.order r < want * 2 ^ 32) l.runs)
+      (IsFirstFrom (order_key l.order) l.runs (want * 2 ^ 32))
+      → Rises (order_key l.order) 0 l.runs (2 ^ 64) → MatchOption result (All (λ (r : Run). r.len < want) a.runs) (IsShortest a.runs want)
   shortest_of want None found rises = none_long want found
   shortest_of want (Some run) found rises = first_is_shortest want run found rises
 
   module _ (run : Run) (apart : All (IsApart run) a.runs) (inside : run.at + run.len < 2 ^ 32) where
-    pub fresh_by_length : All (λ (r : Run). rank_of l.order r ≢ rank_of l.order run) l.runs
-    fresh_by_length = subst (λ (o : Order). All (λ (r : Run). rank_of o r ≢ rank_of o run) l.runs) (sym paired.by_length) (λ k d lt same.
+    pub fresh_by_length : All (λ (r : Run). order_key l.order r ≢ order_key l.order run) l.runs
+    fresh_by_length = subst (λ (o : Order). All (λ (r : Run). order_key o r ≢ order_key o run) l.runs) (sym paired.by_length) (λ k d lt same.
         let kept = paired.same.back _ (Contains-get_or l.runs k d lt) in
         clash (get_or l.runs k d) same (low (get_or l.runs k d) kept) (All-contains (IsApart run) a.runs _ apart kept))
       where
-        clash : (r : Run) → rank_of Length r ≡ rank_of Length run → r.at + r.len < 2 ^ 32 → IsApart run r → ⊥
+        clash : (r : Run) → order_key Length r ≡ order_key Length run → r.at + r.len < 2 ^ 32 → IsApart run r → ⊥
         clash r same fits apart_r = elim apart_r [ inl below ↦ omega arith | inr above ↦ omega arith ]
 
     pub paired_added : (a' l' : Shelved) (n : ℕ) → a'.order ≡ a.order → l'.order ≡ l.order → Adds a.runs a'.runs run
@@ -106,12 +106,12 @@ module _ (a l : Shelved) (spare : ℕ) (paired : IsPaired a l spare) where
   }
 
   pub paired_removed : (a' l' : Shelved) (run : Run) → a'.order ≡ a.order → l'.order ≡ l.order → Adds a'.runs a.runs run → Adds l'.runs l.runs run
-      → Rises (rank_of a.order) 0 a.runs (2 ^ 64) → Rises (rank_of l.order) 0 l.runs (2 ^ 64)
+      → Rises (order_key a.order) 0 a.runs (2 ^ 64) → Rises (order_key l.order) 0 l.runs (2 ^ 64)
       → a'.spare ≡ a.spare + 1 → l'.spare ≡ l.spare + 1 → IsPaired a' l' (spare + 1)
   paired_removed a' l' run same_a same_l first second rises rises_l room_a room_l = record {
     by_address = same_a ∙ paired.by_address;
     by_length = same_l ∙ paired.by_length;
-    same = same_removed (rank_of a.order) (rank_of l.order) (2 ^ 64) a.runs a'.runs l.runs l'.runs run paired.same first second rises rises_l;
+    same = same_removed (order_key a.order) (order_key l.order) (2 ^ 64) a.runs a'.runs l.runs l'.runs run paired.same first second rises rises_l;
     spread = removed_spread a.runs a'.runs run first (2 ^ 32) paired.spread;
     room = omega (arith, paired.room);
     length_room = omega (arith, paired.length_room);

@@ -5,23 +5,23 @@ use Rattle.std.specs.FinSet as set
 use Rattle.std.proofs.lemmas.List.Folds.{list_any-append}
 use Rattle.std.proofs.lemmas.Bool.Decides.{nat_tests}
 use Rattle.run_alloc.specs.declared.order.Run.{Run}
-use Rattle.run_alloc.specs.Free.{in_run}
+use Rattle.run_alloc.specs.Free.{in_run_at}
 use Rattle.run_alloc.specs.Runs.{addresses_from, addresses, free_set, in_runs, IsSpread}
 
-pub in_run-inside : (at len a : ℕ) → at ≤ a → a < at + len → in_run at len a ≡ true
+pub in_run-inside : (at len a : ℕ) → at ≤ a → a < at + len → in_run_at at len a ≡ true
 in_run-inside at len a low high = grind (arith, nat_tests)
 
-pub in_run-below : (at len a : ℕ) → a < at → in_run at len a ≡ false
+pub in_run-below : (at len a : ℕ) → a < at → in_run_at at len a ≡ false
 in_run-below at len a below = grind (arith, nat_tests)
 
-pub in_run-above : (at len a : ℕ) → at + len ≤ a → in_run at len a ≡ false
+pub in_run-above : (at len a : ℕ) → at + len ≤ a → in_run_at at len a ≡ false
 in_run-above at len a above = grind (arith, nat_tests)
 
-pub in_run-true : (at len a : ℕ) → in_run at len a ≡ true → (at ≤ a) × (a < at + len)
+pub in_run-true : (at len a : ℕ) → in_run_at at len a ≡ true → (at ≤ a) × (a < at + len)
 in_run-true at len a inside = (grind (arith, nat_tests), grind (arith, nat_tests))
 
 -- a run is a run and the one behind it
-pub in_run-add : (at m n a : ℕ) → in_run at (m + n) a ≡ (in_run at m a || in_run (at + m) n a)
+pub in_run-add : (at m n a : ℕ) → in_run_at at (m + n) a ≡ (in_run_at at m a || in_run_at (at + m) n a)
 in_run-add at m n a = grind (arith, nat_tests)
 
 pub spread-lower : (runs : List Run) (low from high : ℕ) → low ≤ from → IsSpread from runs high → IsSpread low runs high
@@ -66,9 +66,9 @@ in_runs-above (run ∷ runs) low high a spread above =
     grind (arith, in_run-above run.at run.len a (omega (arith, spread-bounds runs _ high spread.1.1)), in_runs-above runs _ high a spread.1.1 above)
 
 pub in_runs-append : (xs ys : List Run) (a : ℕ) → in_runs (xs ++ ys) a ≡ (in_runs xs a || in_runs ys a)
-in_runs-append xs ys a = list_any-append (λ run. in_run run.at run.len a) xs ys
+in_runs-append xs ys a = list_any-append (λ run. in_run_at run.at run.len a) xs ys
 
-listed-from : (at len a : ℕ) → list_any (λ y. y == a) (addresses_from at len) ≡ in_run at len a
+listed-from : (at len a : ℕ) → list_any (λ y. y == a) (addresses_from at len) ≡ in_run_at at len a
 listed-from at zero a = grind (arith, nat_tests)
 listed-from at (suc len) a = grind (arith, nat_tests, listed-from (suc at) len a)
 

@@ -5,23 +5,23 @@ use Rattle.std.specs.Ordering.{nat_cmp}
 use Rattle.std.specs.FinSet as set
 
 -- a space of `size` addresses, those of them that are free, and how many runs can be given back or cut without memory
-pub record Space : Type 0 where
+pub record AddressSpace : Type 0 where
   pub size : ℕ
   pub free : set.FinSet nat_cmp
   pub spare : ℕ
 
 -- a space is stored as its three parts
-abbrev pub space_code : Coded Space
+abbrev pub space_code : Coded AddressSpace
 space_code =
     code_by (ℕ × (set.FinSet nat_cmp × ℕ)) (coded× coded_ℕ (coded× (set.code coded_ℕ) coded_ℕ)) (λ s. (s.size, (s.free, s.spare))) (λ p. record { size = p.0; free = p.1.0; spare = p.1.1 }) (λ _. refl)
 
 -- whether the address is free
-abbrev pub is_free : Space → ℕ → Bool
-is_free s a = set.contains s.free a
+abbrev pub is_free_address : AddressSpace → ℕ → Bool
+is_free_address s a = set.contains s.free a
 
 -- whether the address lies in the run of `len` addresses from `at` on
-abbrev pub in_run : ℕ → ℕ → ℕ → Bool
-in_run at len a = nat_le at a && nat_lt a (at + len)
+abbrev pub in_run_at : ℕ → ℕ → ℕ → Bool
+in_run_at at len a = nat_le at a && nat_lt a (at + len)
 
 -- each address of the run is free
 abbrev pub AllFree : (ℕ → Bool) → ℕ → ℕ → Type 0

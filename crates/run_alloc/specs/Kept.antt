@@ -6,7 +6,7 @@ use Rattle.run_alloc.specs.Runs.{IsSpread, IsSame}
 use Rattle.run_alloc.specs.Shelf.{Shelved}
 
 -- runs in the order of their addresses, and how many more can be added without memory
-pub record Kept : Type 0 where
+pub record KeptRuns : Type 0 where
   pub runs : List Run
   pub spare : ℕ
 

@@ -5,6 +5,6 @@ use Rattle.run_alloc.specs.declared.order.Order.{Order}
 use Rattle.run_alloc.specs.declared.order.Order.TheVariants.{Address, Length}
 
 -- the number by which a run is ordered
-abbrev pub rank_of : Order → Run → ℕ
-rank_of Address run = run.at
-rank_of Length run = run.len * 2 ^ 32 + run.at
+abbrev pub order_key : Order → Run → ℕ
+order_key Address run = run.at
+order_key Length run = run.len * 2 ^ 32 + run.at

@@ -3,7 +3,7 @@ use Rattle.std.specs.Prelude.{◌≡◌, ℕ, zero, suc, ◌+◌, ◌<◌, ◌�
 use Rattle.std.specs.Ordering.{nat_cmp}
 use Rattle.std.specs.FinSet as set
 use Rattle.std.specs.List.{Contains, list_any}
-use Rattle.run_alloc.specs.Free.{in_run}
+use Rattle.run_alloc.specs.Free.{in_run_at}
 use Rattle.run_alloc.specs.declared.order.Run.{Run}
 
 -- the addresses from `at` on, `len` of them
@@ -22,7 +22,7 @@ free_set runs = set.from_list (addresses runs)
 
 -- whether the address lies in one of the runs
 abbrev pub in_runs : List Run → ℕ → Bool
-in_runs runs a = list_any (λ run. in_run run.at run.len a) runs
+in_runs runs a = list_any (λ run. in_run_at run.at run.len a) runs
 
 -- the runs rise from `low` on, with a gap behind each, and the last gap ends at or before `high`
 abbrev pub IsSpread : ℕ → List Run → ℕ → Type 0
@@ -36,12 +36,12 @@ run_at runs place = slice_index_or runs place (record { at = 0; len = 0 })
 -- the run was taken out: the runs lie within the same bounds, and have its addresses no more
 pub record IsCut (old new : List Run) (at len : ℕ) : Type 0 where
   pub spread : (high : ℕ) → IsSpread 0 old high → IsSpread 0 new high
-  pub taken : (a : ℕ) → in_runs new a ≡ (in_runs old a && not (in_run at len a))
+  pub taken : (a : ℕ) → in_runs new a ≡ (in_runs old a && not (in_run_at at len a))
 
 -- the run was added: the runs lie within the same bounds, and have its addresses besides
 pub record IsJoined (old new : List Run) (at len : ℕ) : Type 0 where
   pub spread : (high : ℕ) → at + len < high → IsSpread 0 old high → IsSpread 0 new high
-  pub given : (a : ℕ) → in_runs new a ≡ (in_runs old a || in_run at len a)
+  pub given : (a : ℕ) → in_runs new a ≡ (in_runs old a || in_run_at at len a)
 
 -- no address of one run is in the other, nor beside it
 abbrev pub IsApart : Run → Run → Type 0
@@ -54,7 +54,7 @@ IsClear run other = (other.at + other.len ≤ run.at) ⊎ (run.at + run.len ≤ 
 -- the wider run has the addresses of the run and of those that were taken out
 pub record IsWidened (old new : List Run) (run wide : Run) : Type 0 where
   pub spread : (high : ℕ) → IsSpread 0 old high → IsSpread 0 new high
-  pub given : (a : ℕ) → (in_runs new a || in_run wide.at wide.len a) ≡ (in_runs old a || in_run run.at run.len a)
+  pub given : (a : ℕ) → (in_runs new a || in_run_at wide.at wide.len a) ≡ (in_runs old a || in_run_at run.at run.len a)
   pub some : run.len ≤ wide.len
   pub inside : (high : ℕ) → run.at + run.len < high → IsSpread 0 old high → wide.at + wide.len < high
 

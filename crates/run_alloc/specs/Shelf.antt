@@ -5,7 +5,7 @@ use Rattle.std.specs.declared.alloc.Global.{Global}
 use Rattle.run_alloc.specs.declared.order.Run.{Run}
 use Rattle.run_alloc.specs.declared.order.Order.{Order}
 use Rattle.run_alloc.specs.declared.chunk.Chunk.{Chunk}
-use Rattle.run_alloc.specs.Order.{rank_of}
+use Rattle.run_alloc.specs.Order.{order_key}
 use Rattle.run_alloc.specs.Shelves.{runs_in, fence, IsLaid, IsEven, IsBlank}
 
 -- runs in an order, and how many more can be put in without memory
@@ -16,7 +16,7 @@ pub record Shelved : Type 0 where
 
 -- the chunks are laid out in the order from 0 on, and chunks and vectors together have room for 128 runs each but for two of them
 pub record IsShelf (order : Order) (chunks : Vec Chunk Global) (stock : Vec (Vec Run Global) Global) (spare : ℕ) : Type 0 where
-  pub laid : IsLaid (rank_of order) chunks.items (2 ^ 64)
+  pub laid : IsLaid (order_key order) chunks.items (2 ^ 64)
   pub starts : fence chunks.items 1 ≡ 0
   pub even : IsEven chunks.items
   pub blank : All IsBlank stock.items

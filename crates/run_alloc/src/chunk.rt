@@ -2,7 +2,7 @@
 ghost use Rattle.std.specs.Prelude.{◌≡◌, ℕ, ◌+◌, ◌*◌, ◌<◌, ◌≤◌, ◌^◌, [], ◌∷◌, ◌++◌, length, vec_len, vec_capacity, IfSome, IfNone};
 ghost use Rattle.std.specs.List.{All, Contains};
 ghost use Rattle.std.specs.List.Sorted.{IsNonDecreasingBy};
-ghost use Rattle.run_alloc.specs.Order.{rank_of};
+ghost use Rattle.run_alloc.specs.Order.{order_key};
 ghost use Rattle.run_alloc.specs.Shelves.{fence, Rises, IsPlaceOf, IsChunkOf, IsBlank, IsHalved, Puts, Adds};
 
 use crate::order::{Order, Run};
@@ -23,8 +23,8 @@ pub struct Chunk {
 
 /// How many runs have a rank below `rank`.
 pub fn place_of(runs: &[Run], order: Order, rank: u64) -> usize
-    requires { IsNonDecreasingBy (rank_of order) runs.now }
-    ensures { IsPlaceOf (rank_of order) runs.now rank result }
+    requires { IsNonDecreasingBy (order_key order) runs.now }
+    ensures { IsPlaceOf (order_key order) runs.now rank result }
 {
     runs.partition_point(|run| order.rank(*run) < rank)
 }
@@ -40,9 +40,9 @@ pub fn chunk_of(chunks: &[Chunk], rank: u64) -> usize
 
 /// Puts a run into its place.
 pub fn put(runs: &mut Vec<Run>, order: Order, run: Run)
-    requires rises { IsNonDecreasingBy (rank_of order) runs.old.items }
+    requires rises { IsNonDecreasingBy (order_key order) runs.old.items }
     requires room { length runs.old.items < vec_capacity runs.old }
-    ensures puts { Puts (rank_of order) runs.old.items runs.new.items run }
+    ensures puts { Puts (order_key order) runs.old.items runs.new.items run }
     ensures capacity { vec_capacity runs.new ≡ vec_capacity runs.old }
 {
     let place = place_of(runs, order, order.rank(run));
@@ -54,7 +54,7 @@ pub fn put(runs: &mut Vec<Run>, order: Order, run: Run)
 
 /// Takes a run out.
 pub fn pull(runs: &mut Vec<Run>, order: Order, run: Run)
-    requires rises { Rises (rank_of order) 0 runs.old.items (2 ^ 64) }
+    requires rises { Rises (order_key order) 0 runs.old.items (2 ^ 64) }
     requires kept { Contains runs.old.items run }
     ensures pulls { Adds runs.new.items runs.old.items run }
     ensures capacity { vec_capacity runs.new ≡ vec_capacity runs.old }
@@ -89,7 +89,7 @@ pub fn halve(chunk: &mut Chunk, order: Order, empty: Vec<Run>) -> Chunk
     requires light { length chunk.old.runs.items < 640 }
     requires room { 640 ≤ vec_capacity chunk.old.runs }
     requires blank { IsBlank empty }
-    ensures { IsHalved (rank_of order) chunk.old chunk.new result }
+    ensures { IsHalved (order_key order) chunk.old chunk.new result }
 {
     let mut runs = empty;
     match runs.extend_from_slice(&chunk.runs[FULL / 2..]) {

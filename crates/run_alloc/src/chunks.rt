@@ -1,7 +1,7 @@
 // Chunks in a row: where a run belongs, and that none is too long or too short.
 ghost use Rattle.std.specs.Prelude.{◌≡◌, ◌≢◌, ◌+◌, ◌<◌, ◌≤◌, ◌^◌, length, vec_len, vec_capacity, IfOk, MatchOption};
 ghost use Rattle.std.specs.List.{All, Contains, HoldsAt};
-ghost use Rattle.run_alloc.specs.Order.{rank_of};
+ghost use Rattle.run_alloc.specs.Order.{order_key};
 ghost use Rattle.run_alloc.specs.Shelves.{runs_in, fence, Rises, IsLaid, IsEven, IsAmid, IsRich, IsBlank, Adds, IsFirstFrom, IsLastBelow};
 
 use crate::chunk::{Chunk, FEW, FULL, ROOM, chunk_of, halve, join, place_of, pull, put};
@@ -18,11 +18,11 @@ fn runs_at(chunks: &[Chunk], place: usize) -> &[Run]
 
 /// The first run in the chunks whose rank isn't below `rank`.
 pub fn first_in(chunks: &[Chunk], order: Order, rank: u64) -> Option<Run>
-    requires laid { IsLaid (rank_of order) chunks.now (2 ^ 64) }
+    requires laid { IsLaid (order_key order) chunks.now (2 ^ 64) }
     requires starts { fence chunks.now 1 ≡ 0 }
     requires even { IsEven chunks.now }
-    ensures { MatchOption result (All (λ run. rank_of order run < rank) (runs_in chunks.now))
-        (IsFirstFrom (rank_of order) (runs_in chunks.now) rank) }
+    ensures { MatchOption result (All (λ run. order_key order run < rank) (runs_in chunks.now))
+        (IsFirstFrom (order_key order) (runs_in chunks.now) rank) }
 {
     let place = chunk_of(chunks, rank);
     let runs = runs_at(chunks, place);
@@ -42,11 +42,11 @@ pub fn first_in(chunks: &[Chunk], order: Order, rank: u64) -> Option<Run>
 
 /// The last run in the chunks whose rank is below `rank`.
 pub fn last_in(chunks: &[Chunk], order: Order, rank: u64) -> Option<Run>
-    requires laid { IsLaid (rank_of order) chunks.now (2 ^ 64) }
+    requires laid { IsLaid (order_key order) chunks.now (2 ^ 64) }
     requires starts { fence chunks.now 1 ≡ 0 }
     requires even { IsEven chunks.now }
-    ensures { MatchOption result (All (λ run. rank ≤ rank_of order run) (runs_in chunks.now))
-        (IsLastBelow (rank_of order) (runs_in chunks.now) rank) }
+    ensures { MatchOption result (All (λ run. rank ≤ order_key order run) (runs_in chunks.now))
+        (IsLastBelow (order_key order) (runs_in chunks.now) rank) }
 {
     let place = chunk_of(chunks, rank);
     let runs = runs_at(chunks, place);
@@ -75,12 +75,12 @@ pub fn blanks(alloc: Global, count: usize) -> Result<Vec<Vec<Run>>, AllocError>
 
 /// Puts a run into its chunk.
 pub fn put_in(chunks: &mut Vec<Chunk>, order: Order, run: Run) -> usize
-    requires laid { IsLaid (rank_of order) chunks.old.items (2 ^ 64) }
+    requires laid { IsLaid (order_key order) chunks.old.items (2 ^ 64) }
     requires starts { fence chunks.old.items 1 ≡ 0 }
     requires even { IsEven chunks.old.items }
-    requires fresh { All (λ other. rank_of order other ≢ rank_of order run) (runs_in chunks.old.items) }
+    requires fresh { All (λ other. order_key order other ≢ order_key order run) (runs_in chunks.old.items) }
     ensures adds { Adds (runs_in chunks.old.items) (runs_in chunks.new.items) run }
-    ensures laid { IsLaid (rank_of order) chunks.new.items (2 ^ 64) }
+    ensures laid { IsLaid (order_key order) chunks.new.items (2 ^ 64) }
     ensures starts { fence chunks.new.items 1 ≡ 0 }
     ensures amid { IsAmid chunks.new.items result }
     ensures len { vec_len chunks.new ≡ vec_len chunks.old }
@@ -93,12 +93,12 @@ pub fn put_in(chunks: &mut Vec<Chunk>, order: Order, run: Run) -> usize
 
 /// Takes a run out of its chunk.
 pub fn pull_from(chunks: &mut Vec<Chunk>, order: Order, run: Run) -> usize
-    requires laid { IsLaid (rank_of order) chunks.old.items (2 ^ 64) }
+    requires laid { IsLaid (order_key order) chunks.old.items (2 ^ 64) }
     requires starts { fence chunks.old.items 1 ≡ 0 }
     requires even { IsEven chunks.old.items }
     requires kept { Contains (runs_in chunks.old.items) run }
     ensures adds { Adds (runs_in chunks.new.items) (runs_in chunks.old.items) run }
-    ensures laid { IsLaid (rank_of order) chunks.new.items (2 ^ 64) }
+    ensures laid { IsLaid (order_key order) chunks.new.items (2 ^ 64) }
     ensures starts { fence chunks.new.items 1 ≡ 0 }
     ensures amid { IsAmid chunks.new.items result }
     ensures len { vec_len chunks.new ≡ vec_len chunks.old }
@@ -112,13 +112,13 @@ pub fn pull_from(chunks: &mut Vec<Chunk>, order: Order, run: Run) -> usize
 /// Joins the chunk with the next where it has few runs, and halves it where it has many.
 pub fn settle(chunks: &mut Vec<Chunk>, stock: &mut Vec<Vec<Run>>, order: Order, place: usize)
     requires amid { IsAmid chunks.old.items place }
-    requires laid { IsLaid (rank_of order) chunks.old.items (2 ^ 64) }
+    requires laid { IsLaid (order_key order) chunks.old.items (2 ^ 64) }
     requires blank { All IsBlank stock.old.items }
     requires stocked { 0 < vec_len stock.old }
     requires fits { vec_len chunks.old + vec_len stock.old ≤ vec_capacity chunks.old }
     requires stock_fits { vec_len chunks.old + vec_len stock.old ≤ vec_capacity stock.old }
     ensures runs { runs_in chunks.new.items ≡ runs_in chunks.old.items }
-    ensures laid { IsLaid (rank_of order) chunks.new.items (2 ^ 64) }
+    ensures laid { IsLaid (order_key order) chunks.new.items (2 ^ 64) }
     ensures starts { fence chunks.new.items 1 ≡ fence chunks.old.items 1 }
     ensures even { IsEven chunks.new.items }
     ensures blank { All IsBlank stock.new.items }
@@ -132,11 +132,11 @@ pub fn settle(chunks: &mut Vec<Chunk>, stock: &mut Vec<Vec<Run>>, order: Order, 
 
 fn join_few(chunks: &mut Vec<Chunk>, stock: &mut Vec<Vec<Run>>, order: Order, place: usize)
     requires amid { IsAmid chunks.old.items place }
-    requires laid { IsLaid (rank_of order) chunks.old.items (2 ^ 64) }
+    requires laid { IsLaid (order_key order) chunks.old.items (2 ^ 64) }
     requires blank { All IsBlank stock.old.items }
     requires stock_fits { vec_len chunks.old + vec_len stock.old ≤ vec_capacity stock.old }
     ensures runs { runs_in chunks.new.items ≡ runs_in chunks.old.items }
-    ensures laid { IsLaid (rank_of order) chunks.new.items (2 ^ 64) }
+    ensures laid { IsLaid (order_key order) chunks.new.items (2 ^ 64) }
     ensures starts { fence chunks.new.items 1 ≡ fence chunks.old.items 1 }
     ensures rich { IsRich chunks.new.items place }
     ensures blank { All IsBlank stock.new.items }
@@ -157,12 +157,12 @@ fn join_few(chunks: &mut Vec<Chunk>, stock: &mut Vec<Vec<Run>>, order: Order, pl
 
 fn halve_full(chunks: &mut Vec<Chunk>, stock: &mut Vec<Vec<Run>>, order: Order, place: usize)
     requires rich { IsRich chunks.old.items place }
-    requires laid { IsLaid (rank_of order) chunks.old.items (2 ^ 64) }
+    requires laid { IsLaid (order_key order) chunks.old.items (2 ^ 64) }
     requires blank { All IsBlank stock.old.items }
     requires stocked { 0 < vec_len stock.old }
     requires fits { vec_len chunks.old + vec_len stock.old ≤ vec_capacity chunks.old }
     ensures runs { runs_in chunks.new.items ≡ runs_in chunks.old.items }
-    ensures laid { IsLaid (rank_of order) chunks.new.items (2 ^ 64) }
+    ensures laid { IsLaid (order_key order) chunks.new.items (2 ^ 64) }
     ensures starts { fence chunks.new.items 1 ≡ fence chunks.old.items 1 }
     ensures even { IsEven chunks.new.items }
     ensures blank { All IsBlank stock.new.items }

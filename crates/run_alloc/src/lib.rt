@@ -4,7 +4,7 @@
 #![tactic(auto)]
 
 ghost use Rattle.std.specs.Prelude.{◌≡◌, ℕ, ◌+◌, ◌-◌, ◌<◌, ◌≤◌, ◌^◌, ◌||◌, ◌&&◌, Some, codes, max, nat_lt, not, false, IfOk, IsOk, OnOk, OnErr, MatchOption, MatchResult};
-ghost use Rattle.run_alloc.specs.Free.{is_free, in_run, AllFree, NoneFree, IsPlace, NoPlace};
+ghost use Rattle.run_alloc.specs.Free.{is_free_address, in_run_at, AllFree, NoneFree, IsPlace, NoPlace};
 
 use cuts::carve;
 use joins::join;
@@ -43,9 +43,9 @@ pub struct FreeRuns {
 
 impl Model for FreeRuns {
     ghost use Rattle.std.specs.Prelude.{◌+◌};
-    ghost use Rattle.run_alloc.specs.Free.{Space, space_code};
+    ghost use Rattle.run_alloc.specs.Free.{AddressSpace, space_code};
 
-    ghost Value = { Space };
+    ghost Value = { AddressSpace };
 
     ghost coded = { space_code };
 
@@ -60,7 +60,7 @@ impl FreeRuns {
     /// A space of `size` addresses.
     pub fn new(alloc: Global, size: u32) -> Result<Self, AllocError>
         ensures size { IfOk result (λ space. space.size ≡ size) }
-        ensures free { IfOk result (λ space. (a : ℕ) → is_free space a ≡ nat_lt a size) }
+        ensures free { IfOk result (λ space. (a : ℕ) → is_free_address space a ≡ nat_lt a size) }
         ensures most { IfOk result (λ space. space.spare ≤ 1) }
     {
         let mut kept = Runs::new(alloc)?;
@@ -88,8 +88,8 @@ impl FreeRuns {
     /// The address that `take` would give.
     pub fn fits(&self, len: u32) -> Option<u32>
         requires { 0 < len }
-        ensures { MatchOption result (NoPlace self.now.size (is_free self.now) len)
-            (IsPlace self.now.size (is_free self.now) len) }
+        ensures { MatchOption result (NoPlace self.now.size (is_free_address self.now) len)
+            (IsPlace self.now.size (is_free_address self.now) len) }
     {
         let run = self.kept.shortest(len)?;
         Some(run.at)
@@ -98,8 +98,8 @@ impl FreeRuns {
     /// The end of the free run that an address is in, or the address itself where it isn't free.
     pub fn free_to(&self, at: u32) -> u32
         ensures reaches { at ≤ result }
-        ensures free { AllFree (is_free self.now) at (result - at) }
-        ensures ends { is_free self.now result ≡ false }
+        ensures free { AllFree (is_free_address self.now) at (result - at) }
+        ensures ends { is_free_address self.now result ≡ false }
     {
         let Some(run) = self.kept.last_to(at) else {
             return at;
@@ -112,9 +112,9 @@ impl FreeRuns {
     /// tie, and gives the first of them.
     pub fn take(&mut self, len: u32) -> Result<u32, NoRun>
         requires { 0 < len }
-        ensures place { MatchResult result (IsPlace self.old.size (is_free self.old) len)
-            (λ _. NoPlace self.old.size (is_free self.old) len) }
-        ensures taken { IfOk result (λ at. (a : ℕ) → is_free self.new a ≡ (is_free self.old a && not (in_run at len a))) }
+        ensures place { MatchResult result (IsPlace self.old.size (is_free_address self.old) len)
+            (λ _. NoPlace self.old.size (is_free_address self.old) len) }
+        ensures taken { IfOk result (λ at. (a : ℕ) → is_free_address self.new a ≡ (is_free_address self.old a && not (in_run_at at len a))) }
         ensures none { OnErr result (self.new.free ≡ self.old.free) }
         ensures size { self.new.size ≡ self.old.size }
         ensures spare { self.old.spare ≤ self.new.spare }
@@ -129,9 +129,9 @@ impl FreeRuns {
 
     /// Takes the run of `len` addresses from `at` on. A run of no addresses changes nothing.
     pub fn take_at(&mut self, at: u32, len: u32)
-        requires free { AllFree (is_free self.old) at len }
+        requires free { AllFree (is_free_address self.old) at len }
         requires room { 0 < len → 0 < self.old.spare }
-        ensures taken { (a : ℕ) → is_free self.new a ≡ (is_free self.old a && not (in_run at len a)) }
+        ensures taken { (a : ℕ) → is_free_address self.new a ≡ (is_free_address self.old a && not (in_run_at at len a)) }
         ensures size { self.new.size ≡ self.old.size }
         ensures spare { self.old.spare ≤ self.new.spare + 1 }
         ensures most { self.new.spare ≤ self.old.spare + 1 }
@@ -147,9 +147,9 @@ impl FreeRuns {
     /// Gives back the run of `len` addresses from `at` on. A run of no addresses changes nothing.
     pub fn give(&mut self, at: u32, len: u32)
         requires inside { at + len ≤ self.old.size }
-        requires taken { NoneFree (is_free self.old) at len }
+        requires taken { NoneFree (is_free_address self.old) at len }
         requires room { 0 < len → 0 < self.old.spare }
-        ensures given { (a : ℕ) → is_free self.new a ≡ (is_free self.old a || in_run at len a) }
+        ensures given { (a : ℕ) → is_free_address self.new a ≡ (is_free_address self.old a || in_run_at at len a) }
         ensures size { self.new.size ≡ self.old.size }
         ensures spare { self.old.spare ≤ self.new.spare + 1 }
         ensures most { self.new.spare ≤ self.old.spare + 1 }

@@ -1,6 +1,6 @@
 // Runs, and the two orders in which they are kept.
 ghost use Rattle.std.specs.Prelude.{◌≡◌};
-ghost use Rattle.run_alloc.specs.Order.{rank_of};
+ghost use Rattle.run_alloc.specs.Order.{order_key};
 
 /// The `len` addresses from `at` on.
 #[derive(Clone, Copy, Debug, PartialEq, Eq)]
@@ -19,7 +19,7 @@ pub enum Order {
 impl Order {
     /// The number by which a run is ordered.
     pub fn rank(self, run: Run) -> u64
-        ensures { result ≡ rank_of self run }
+        ensures { result ≡ order_key self run }
     {
         match self {
             Order::Address => u64::from(run.at),

@@ -18,9 +18,9 @@ pub struct Runs {
 }
 
 impl Model for Runs {
-    ghost use Rattle.run_alloc.specs.Kept.{Kept, IsPaired};
+    ghost use Rattle.run_alloc.specs.Kept.{IsPaired, KeptRuns};
 
-    ghost Value = { Kept };
+    ghost Value = { KeptRuns };
 
     ghost view = { λ r. record { runs = r.by_address.runs; spare = r.spare } };
 

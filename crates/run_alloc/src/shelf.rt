@@ -1,7 +1,7 @@
 // A set of runs in one order, which is searched by halves and changed in one chunk.
 ghost use Rattle.std.specs.Prelude.{◌≡◌, ◌≢◌, ◌+◌, ◌<◌, ◌≤◌, ◌^◌, [], length, max, IfOk, IsOk, OnOk, OnErr, MatchOption};
 ghost use Rattle.std.specs.List.{All, Contains};
-ghost use Rattle.run_alloc.specs.Order.{rank_of};
+ghost use Rattle.run_alloc.specs.Order.{order_key};
 ghost use Rattle.run_alloc.specs.Shelves.{Rises, Adds, IsFirstFrom, IsLastBelow};
 
 use crate::chunk::{Chunk, FEW, ROOM};
@@ -89,28 +89,28 @@ impl Shelf {
 
     /// The first run whose rank isn't below `rank`.
     pub fn first_from(&self, rank: u64) -> Option<Run>
-        ensures first { MatchOption result (All (λ run. rank_of self.now.order run < rank) self.now.runs)
-            (IsFirstFrom (rank_of self.now.order) self.now.runs rank) }
-        ensures rises { Rises (rank_of self.now.order) 0 self.now.runs (2 ^ 64) }
+        ensures first { MatchOption result (All (λ run. order_key self.now.order run < rank) self.now.runs)
+            (IsFirstFrom (order_key self.now.order) self.now.runs rank) }
+        ensures rises { Rises (order_key self.now.order) 0 self.now.runs (2 ^ 64) }
     {
         first_in(&self.chunks, self.order, rank)
     }
 
     /// The last run whose rank is below `rank`.
     pub fn last_below(&self, rank: u64) -> Option<Run>
-        ensures last { MatchOption result (All (λ run. rank ≤ rank_of self.now.order run) self.now.runs)
-            (IsLastBelow (rank_of self.now.order) self.now.runs rank) }
+        ensures last { MatchOption result (All (λ run. rank ≤ order_key self.now.order run) self.now.runs)
+            (IsLastBelow (order_key self.now.order) self.now.runs rank) }
     {
         last_in(&self.chunks, self.order, rank)
     }
 
     /// Adds a run. It takes no memory.
     pub fn insert(&mut self, run: Run)
-        requires fresh { All (λ other. rank_of self.old.order other ≢ rank_of self.old.order run) self.old.runs }
+        requires fresh { All (λ other. order_key self.old.order other ≢ order_key self.old.order run) self.old.runs }
         requires room { 0 < self.old.spare }
         ensures order { self.new.order ≡ self.old.order }
         ensures adds { Adds self.old.runs self.new.runs run }
-        ensures rises { Rises (rank_of self.new.order) 0 self.new.runs (2 ^ 64) }
+        ensures rises { Rises (order_key self.new.order) 0 self.new.runs (2 ^ 64) }
         ensures spare { self.new.spare + 1 ≡ self.old.spare }
     {
         let place = put_in(&mut self.chunks, self.order, run);
@@ -123,8 +123,8 @@ impl Shelf {
         requires kept { Contains self.old.runs run }
         ensures order { self.new.order ≡ self.old.order }
         ensures adds { Adds self.new.runs self.old.runs run }
-        ensures rises { Rises (rank_of self.old.order) 0 self.old.runs (2 ^ 64) }
-        ensures rises_still { Rises (rank_of self.new.order) 0 self.new.runs (2 ^ 64) }
+        ensures rises { Rises (order_key self.old.order) 0 self.old.runs (2 ^ 64) }
+        ensures rises_still { Rises (order_key self.new.order) 0 self.new.runs (2 ^ 64) }
         ensures spare { self.new.spare ≡ self.old.spare + 1 }
     {
         let place = pull_from(&mut self.chunks, self.order, run);

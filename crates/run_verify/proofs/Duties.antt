@@ -4,16 +4,16 @@ use Rattle.std.proofs.lemmas.List.{drop_all, drop_more, take_more}
 use Rattle.group_types.specs.Lists.{at}
 use Rattle.group_types.specs.declared.run.Run.{Run}
 use Rattle.run_verify.specs.Dues.{due_at, dues_in, dues_left, dues_on, is_written}
-use Rattle.run_verify.specs.Passing.{Due, due_for, dues_of}
+use Rattle.run_verify.specs.Passing.{DuePlace, due_for, due_places_of}
 use Rattle.run_verify.specs.declared.change.Change.{Change}
 use Rattle.run_verify.specs.declared.change.Effect.{Effect}
 use Rattle.run_verify.specs.declared.change.Effect.TheVariants.{Writes, Removes, Keeps}
 
 -- behind so many places, what is due is for the own changes of partition d from a place on, and for the partitions behind
 abbrev pub IsAt : List (List Change) → ℕ → List Change → ℕ → ℕ → Type 0
-IsAt changes d own place passed = dues_left changes passed ≡ dues_of d (take place own) (drop place own) ++ dues_on changes (d + 1)
+IsAt changes d own place passed = dues_left changes passed ≡ due_places_of d (take place own) (drop place own) ++ dues_on changes (d + 1)
 
-due-else : (d : ℕ) (before : List Change) (e : Effect) (more : List Due) → is_written e ≡ false → due_for d before e more ≡ more
+due-else : (d : ℕ) (before : List Change) (e : Effect) (more : List DuePlace) → is_written e ≡ false → due_for d before e more ≡ more
 due-else d before (Writes value run) more is = absurd (cc is)
 due-else d before Removes more is = refl
 due-else d before Keeps more is = refl
@@ -23,11 +23,12 @@ pub part_begins : (changes : List (List Change)) (d passed : ℕ) (own : List Ch
     → own ≡ at [] changes d → dues_left changes passed ≡ dues_on changes d → IsAt changes d own 0 passed
 part_begins changes d passed own below same is =
     is ∙ ap (dues_in changes d) (let e : length changes - d ≡ suc (length changes - (d + 1)) = omega (arith, below) in
-    e) ∙ ap (λ (cs : List Change). dues_of d [] cs ++ dues_on changes (d + 1)) (sym same)
+    e) ∙ ap (λ (cs : List Change). due_places_of d [] cs ++ dues_on changes (d + 1)) (sym same)
 
 pub part_ends : (changes : List (List Change)) (d : ℕ) (own : List Change) (place passed : ℕ)
     → IsAt changes d own place passed → length own ≤ place → dues_left changes passed ≡ dues_on changes (d + 1)
-part_ends changes d own place passed is end = is ∙ ap (λ (cs : List Change). dues_of d (take place own) cs ++ dues_on changes (d + 1)) (drop_all place own end)
+part_ends changes d own place passed is end =
+    is ∙ ap (λ (cs : List Change). due_places_of d (take place own) cs ++ dues_on changes (d + 1)) (drop_all place own end)
 
 pub none_left : (changes : List (List Change)) (d passed : ℕ) → length changes ≤ d → dues_left changes passed
     ≡ dues_on changes d → dues_left changes passed ≡ []
@@ -44,8 +45,8 @@ module _ (changes : List (List Change)) (d : ℕ) (own : List Change) (place pas
   before : List Change
   before = take place own
 
-  more : List Due
-  more = dues_of d (take (place + 1) own) (drop (place + 1) own)
+  more : List DuePlace
+  more = due_places_of d (take (place + 1) own) (drop (place + 1) own)
 
   pub taken : take (place + 1) own ≡ take place own ++ c ∷ []
   taken = take_more own place c below ∙ ap (λ (x : Change). take place own ++ x ∷ []) (sym here)
@@ -53,23 +54,24 @@ module _ (changes : List (List Change)) (d : ℕ) (own : List Change) (place pas
   split : drop place own ≡ c ∷ drop (place + 1) own
   split = drop_more own place c below ∙ ap (λ (x : Change). x ∷ drop (place + 1) own) (sym here)
 
-  unfolded : dues_of d (take place own) (drop place own) ≡ due_for d (take place own) c.effect more
+  unfolded : due_places_of d (take place own) (drop place own) ≡ due_for d (take place own) c.effect more
   unfolding more
-  unfolded = ap (dues_of d (take place own)) split
-      ∙ ap (λ (b : List Change). due_for d (take place own) c.effect (dues_of d b (drop (place + 1) own))) (sym taken)
+  unfolded = ap (due_places_of d (take place own)) split
+      ∙ ap (λ (b : List Change). due_for d (take place own) c.effect (due_places_of d b (drop (place + 1) own))) (sym taken)
 
   pub at_silent : is_written c.effect ≡ false → IsAt changes d own (place + 1) passed
   unfolding more
-  at_silent silent = is ∙ ap (λ (ds : List Due). ds ++ dues_on changes (d + 1)) (unfolded ∙ due-else d (take place own) c.effect more silent)
+  at_silent silent = is ∙ ap (λ (ds : List DuePlace). ds ++ dues_on changes (d + 1)) (unfolded ∙ due-else d (take place own) c.effect more silent)
 
   pub at_due : (value : List ℕ) (run : Option Run) → c.effect ≡ Writes value run
-      → dues_left changes passed ≡ due_at d (take place own) value run ∷ (dues_of d (take (place + 1) own) (drop (place + 1) own) ++ dues_on changes (d + 1))
+      → dues_left changes passed ≡ due_at d (take place own) value run ∷
+      (due_places_of d (take (place + 1) own) (drop (place + 1) own) ++ dues_on changes (d + 1))
   unfolding more
-  at_due value run writes = is ∙ ap (λ (ds : List Due). ds ++ dues_on changes (d + 1))
+  at_due value run writes = is ∙ ap (λ (ds : List DuePlace). ds ++ dues_on changes (d + 1))
       (unfolded ∙ ap (λ (e : Effect). due_for d (take place own) e more) writes)
 
   pub at_next : (value : List ℕ) (run : Option Run) → c.effect ≡ Writes value run → IsAt changes d own (place + 1) (passed + 1)
   at_next value run writes =
       ap (λ (n : ℕ). drop n (dues_on changes 0)) (let e : passed + 1 ≡ suc passed = omega arith in e)
       ∙ next-dropped passed (dues_on changes 0) (due_at d (take place own) value run)
-      (dues_of d (take (place + 1) own) (drop (place + 1) own) ++ dues_on changes (d + 1)) (at_due value run writes)
+      (due_places_of d (take (place + 1) own) (drop (place + 1) own) ++ dues_on changes (d + 1)) (at_due value run writes)

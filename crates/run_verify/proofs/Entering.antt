@@ -11,8 +11,8 @@ use Rattle.scenario_text.specs.Texts.{entry_text}
 use Rattle.transcript_text.specs.Texts.{FitsName, text_of_name}
 use Rattle.transcript_text.specs.declared.name.Name.{Name}
 use Rattle.transcript_text.proofs.Entries.{entry-line, entry-names}
-use Rattle.run_verify.specs.Judging.{HasApplied, HasRead, entry_on, open_if, open_in, open_op, with_table}
-use Rattle.run_verify.specs.Passing.{Account, Begins, TellsEntry}
+use Rattle.run_verify.specs.Judging.{HasAppliedOp, HasReadEntry, entry_on, open_if, open_in, open_op, with_table}
+use Rattle.run_verify.specs.Passing.{Account, IsFrontOf, LineTellsEntry}
 use Rattle.run_verify.specs.declared.call.Call.{Call}
 
 abbrev given : Asked → Option Asked → Asked
@@ -36,23 +36,23 @@ open-is (Some call) op is = ap Some (open-by call.taken call.reply call.op op is
 -- a line without a name tells no entry
 pub unnamed : (a : Account) (line : List ℕ)
     → ((name : Name) (rest : List ℕ) → FitsName name → text_of_name name ++ rest ≢ line) → (e : Entry)
-    → ¬ (TellsEntry a line e)
+    → ¬ (LineTellsEntry a line e)
 unnamed a line none e is = none (record { caller = e.caller; call = e.call }) _ is.named (sym (entry-line e) ∙ sym is.text)
 
 -- the entry that a line with this name tells
-module _ (a : Account) (line : List ℕ) (name : Name) (fits : FitsName name) (front : Begins (text_of_name name) line) where
-  one-name : (e : Entry) → TellsEntry a line e → (e.caller ≡ name.caller) × (e.call ≡ name.call)
+module _ (a : Account) (line : List ℕ) (name : Name) (fits : FitsName name) (front : IsFrontOf (text_of_name name) line) where
+  one-name : (e : Entry) → LineTellsEntry a line e → (e.caller ≡ name.caller) × (e.call ≡ name.call)
   one-name e is = entry-names e name.caller name.call front.0
       (record { caller = is.named.0; call = is.named.1; reply = is.fits }) fits.0 fits.1 (sym is.text ∙ front.1)
 
-  one-op : (e : Entry) → TellsEntry a line e → open_in a.calls name.caller name.call ≡ Some e.op
+  one-op : (e : Entry) → LineTellsEntry a line e → open_in a.calls name.caller name.call ≡ Some e.op
   one-op e is = let same = one-name e is in
       ap (λ (n : ℕ). open_in a.calls n name.call) (sym same.0) ∙ ap (λ (n : ℕ). open_in a.calls e.caller n) (sym same.1) ∙ ap (option_and_then open_op) is.call
 
-  pub closed : open_in a.calls name.caller name.call ≡ None → (e : Entry) → ¬ (TellsEntry a line e)
+  pub closed : open_in a.calls name.caller name.call ≡ None → (e : Entry) → ¬ (LineTellsEntry a line e)
   closed none e is = absurd (cc (none, one-op e is))
 
-  one-entry : (op : Asked) → open_in a.calls name.caller name.call ≡ Some op → (e : Entry) → TellsEntry a line e → e ≡ entry_on a name op
+  one-entry : (op : Asked) → open_in a.calls name.caller name.call ≡ Some op → (e : Entry) → LineTellsEntry a line e → e ≡ entry_on a name op
   one-entry op opened e is =
       let same = one-name e is in
       let ops : e.op ≡ op = cc (one-op e is, opened) in
@@ -60,7 +60,7 @@ module _ (a : Account) (line : List ℕ) (name : Name) (fits : FitsName name) (f
       λ i. record { caller = same.0 i; call = same.1 i; op = ops i; reply = reply i }
 
   pub entered : (op : Asked) (now : Account) (o : Option Entry) → open_in a.calls name.caller name.call ≡ Some op
-      → HasApplied a name op line now o → HasRead a line now o
+      → HasAppliedOp a name op line now o → HasReadEntry a line now o
   entered op now None opened other = λ e is. other (is.text ∙ ap entry_text (one-entry op opened e is))
   entered op now (Some e) opened (same, reply, text, table) = (
     record {
@@ -76,7 +76,7 @@ module _ (a : Account) (line : List ℕ) (name : Name) (fits : FitsName name) (f
   )
 
   pub entered_ok : {E : Type 0} (op : Asked) (now : Account) (r : Result (Option Entry) E)
-      → open_in a.calls name.caller name.call ≡ Some op → IfOk r (HasApplied a name op line now)
-      → IfOk r (HasRead a line now)
+      → open_in a.calls name.caller name.call ≡ Some op → IfOk r (HasAppliedOp a name op line now)
+      → IfOk r (HasReadEntry a line now)
   entered_ok op now (Ok o) opened is = entered op now o opened is
   entered_ok op now (Err e) opened is = tt

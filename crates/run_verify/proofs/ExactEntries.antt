@@ -19,7 +19,7 @@ use Rattle.memc_table.specs.declared.act.Act.TheVariants.{Get, Set, Add, Replace
 use Rattle.memc_table.specs.declared.holding.Holding.{Holding}
 use Rattle.memc_table.specs.declared.reply.Reply.{Reply}
 use Rattle.group_calls.specs.Log.{IsLegal, IsLegalFrom, table_of}
-use Rattle.group_calls.specs.Turns.{CallName, Turn, accepts, entry_of, log_of, name_of}
+use Rattle.group_calls.specs.Turns.{CallName, Turn, accepts, call_entry, log_of, name_of}
 use Rattle.group_calls.specs.Within.{IsAsk, IsTaken}
 use Rattle.group_calls.specs.declared.entry.Entry.{Entry}
 use Rattle.group_calls.specs.declared.event.Event.{Event}
@@ -28,8 +28,8 @@ use Rattle.group_run.specs.Meaning.{Logged, is_update_of}
 use Rattle.scenario_text.specs.Texts.{entry_text}
 use Rattle.transcript_text.specs.Forms.{FitsReply}
 use Rattle.run_verify.specs.Checked.{ArePlaced, RepliesWithin}
-use Rattle.run_verify.specs.Passing.{Account, FitsRun, IsRunIn, IsToldFor, IsToldRun, TellsEntry, after_entry, call_of}
-use Rattle.run_verify.specs.Passing.{change_of, changes_at, effect_of, is_taken, part_of, value_in, with_change}
+use Rattle.run_verify.specs.Passing.{Account, IsRunIn, IsToldFor, IsToldRun, LineTellsEntry, RunFitsValue, account_after_entry, call_named}
+use Rattle.run_verify.specs.Passing.{change_of, changes_at, effect_of, entry_partition, takes_effect, value_in, with_change}
 use Rattle.run_verify.specs.Sheet.{Sheet}
 use Rattle.run_verify.specs.Updates.{StandsRight, brings_value, updates_by}
 use Rattle.run_verify.specs.declared.call.Call.{Call}
@@ -61,7 +61,7 @@ pub record Checks (sheet : Sheet) (turns : List Turn) (runs : List (List (Option
   pub within : RepliesWithin turns
   pub placed : ArePlaced sheet.script.shape (log_of turns) runs
   pub found : (d len : ℕ) (run : Run) (front back : List (Option Run)) → d < sheet.script.shape.k
-      → FitsRun sheet.script.shape len run → at [] runs d ≡ front ++ Some run ∷ back
+      → RunFitsValue sheet.script.shape len run → at [] runs d ≡ front ++ Some run ∷ back
       → IsRunIn sheet.lines sheet.script.shape d (suc (length front)) len (Some run)
   pub fits : (j : ℕ) (t : Turn) → slice_get turns j ≡ Some t → FitsAsk t.event
   pub few : (caller j : ℕ) (t : Turn) (name : CallName) (op : Asked) → IsAsk turns j t name op → name.call < 2 ^ 64
@@ -131,7 +131,7 @@ module _ (sheet : Sheet) (turns : List Turn) (runs : List (List (Option Run))) (
   s = sheet.script.shape
 
   abbrev d : ℕ
-  d = part_of sheet e
+  d = entry_partition sheet e
 
   low : d < s.k
   low = home-in (key_of e.op.act) s.k c.shape.k.0
@@ -167,7 +167,7 @@ module _ (sheet : Sheet) (turns : List Turn) (runs : List (List (Option Run))) (
       let up = update accepted in
       let value_is : value ≡ h.item.value = ap value_in (sym item-is ∙ item) in
       let long = clear.long in
-      let fits : FitsRun s (length value) run = (long ∙ ap length (sym value_is), clear.inside) in
+      let fits : RunFitsValue s (length value) run = (long ∙ ap length (sym value_is), clear.inside) in
       let us : List Logged = updates_by s runs before d in
       let place : at [] runs d ≡ map (λ v. v.run) us ++ Some run ∷ up.back = up.runs_are ∙ ap (λ (r : Option Run). map (λ v. v.run) us ++ r ∷ up.back) run_is in
       let found = c.found d (length value) run (map (λ v. v.run) us) up.back low fits place in
@@ -195,7 +195,7 @@ module _ (sheet : Sheet) (turns : List Turn) (runs : List (List (Option Run))) (
       let run_is = told-run e.op.act value u.run (no-run s (updates_by s runs before d) u (brings_value e.op.act) (update accepted).right) in
       record { key = m.key; run = sym run_is; kind = rw item-is m.kind }
 
-  next-changes : (p : ℕ) → p < s.k → MatchAll (changes_at (after_entry sheet a e u.run) p) (updates_by s runs (before ++ e ∷ []) p)
+  next-changes : (p : ℕ) → p < s.k → MatchAll (changes_at (account_after_entry sheet a e u.run) p) (updates_by s runs (before ++ e ∷ []) p)
   next-changes p below = by (accepts e.reply) refl (cases_eq p d)
     where
       by : (b : Bool) → accepts e.reply ≡ b → (p ≡ d) ⊎ (p ≢ d)
@@ -228,22 +228,22 @@ module _ (sheet : Sheet) (turns : List Turn) (runs : List (List (Option Run))) (
     contains : Contains (log_of turns) e
     contains = contains-get (log_of turns) (length before) e entry-there
 
-    taken : is_taken h.answer ≡ true
-    taken = by (is_taken h.answer) refl
+    taken : takes_effect h.answer ≡ true
+    taken = by (takes_effect h.answer) refl
       where
-        never : is_taken h.answer ≡ false → ¬ (IsTaken ask.answer)
-        never not (inl (reply, is)) = cc (sym not ∙ ap is_taken (answer ∙ is))
-        never not (inr (n, is)) = cc (sym not ∙ ap is_taken (answer ∙ is))
+        never : takes_effect h.answer ≡ false → ¬ (IsTaken ask.answer)
+        never not (inl (reply, is)) = cc (sym not ∙ ap takes_effect (answer ∙ is))
+        never not (inr (n, is)) = cc (sym not ∙ ap takes_effect (answer ∙ is))
 
-        by : (b : Bool) → is_taken h.answer ≡ b → is_taken h.answer ≡ true
+        by : (b : Bool) → takes_effect h.answer ≡ b → takes_effect h.answer ≡ true
         by true is = is
         by false is = absurd (c.within.refused j ask (name_of e) e.op e asked (never is) contains refl)
 
-    called : (call : Call) → call_of a (name_of e) ≡ Some call → call.op ≡ e.op → call.taken ≡ is_taken h.answer
-        → call_of a (name_of e) ≡ Some (call_with e None)
+    called : (call : Call) → call_named a (name_of e) ≡ Some call → call.op ≡ e.op → call.taken ≡ takes_effect h.answer
+        → call_named a (name_of e) ≡ Some (call_with e None)
     called call is op_is taken_is = by call.reply refl
       where
-        by : (r : Option Reply) → call.reply ≡ r → call_of a (name_of e) ≡ Some (call_with e None)
+        by : (r : Option Reply) → call.reply ≡ r → call_named a (name_of e) ≡ Some (call_with e None)
         by None none =
             let t_is = taken_is ∙ taken in
             let eq : record { op = call.op; taken = call.taken; reply = call.reply }
@@ -252,15 +252,15 @@ module _ (sheet : Sheet) (turns : List Turn) (runs : List (List (Option Run))) (
         by (Some reply) some =
             let by_ask = now.stands.asked (name_of e) call is in
             let behind = by_ask.logged reply some in
-            let inside = get-within before behind.0 (entry_of (name_of e) call.op reply) behind.1 in
-            let first : slice_get (log_of turns) behind.0 ≡ Some (entry_of (name_of e) call.op reply) =
+            let inside = get-within before behind.0 (call_entry (name_of e) call.op reply) behind.1 in
+            let first : slice_get (log_of turns) behind.0 ≡ Some (call_entry (name_of e) call.op reply) =
             rw log_is (get-front before (e ∷ more) behind.0 _ behind.1) in
-            absurd (c.within.once behind.0 (length before) (entry_of (name_of e) call.op reply) e inside first entry-there refl)
+            absurd (c.within.once behind.0 (length before) (call_entry (name_of e) call.op reply) e inside first entry-there refl)
 
     fits-op : (e.caller < callers) × FitsAct e.op.act → FitsTable (length before + 1) (table_after a.table e.op)
     fits-op fits = table-fits (length before) a.table e.op now.fits short fits.1
 
-    tells : (e.caller < callers) × FitsAct e.op.act → TellsEntry a (entry_text e) e
+    tells : (e.caller < callers) × FitsAct e.op.act → LineTellsEntry a (entry_text e) e
     tells fits =
         let call = now.stands.called j h (name_of e) e.op head in
         record {
@@ -272,8 +272,8 @@ module _ (sheet : Sheet) (turns : List Turn) (runs : List (List (Option Run))) (
         }
 
     -- the entry passes
-    pub entry_passes : (run : Option Run) × TellsEntry a (entry_text e) e × IsToldRun (accepts e.reply) sheet a e run
-        × Now sheet runs (after_entry sheet a e run) hs (before ++ e ∷ [])
+    pub entry_passes : (run : Option Run) × LineTellsEntry a (entry_text e) e × IsToldRun (accepts e.reply) sheet a e run
+        × Now sheet runs (account_after_entry sheet a e run) hs (before ++ e ∷ [])
     entry_passes =
         let fits : (e.caller < callers) × FitsAct e.op.act = subst FitsAsk asked.event (c.fits j ask asked.there) in
         let tell = tells fits in (

@@ -15,7 +15,7 @@ use Rattle.memc_table.specs.Act.{key_of}
 use Rattle.memc_table.specs.Asked.{Asked}
 use Rattle.memc_table.specs.Contents.{Contents, after_ruling, count_of, empty_table, partition_of, reply_in, reply_of, ruling_on, table_after}
 use Rattle.memc_table.specs.Expiry.{is_live, live_at}
-use Rattle.memc_table.specs.Numeral.{number_of, value_of}
+use Rattle.memc_table.specs.Numeral.{number_of, numeral_value}
 use Rattle.memc_table.specs.Ruling.{anew, changed, counted, joined, longest_value, lowered, raised, ruling_of}
 use Rattle.memc_table.specs.declared.act.Act.{Act}
 use Rattle.memc_table.specs.declared.act.Act.TheVariants.{Get, Set, Add, Replace, Cas, Delete, Touch, Append, Prepend, Incr, Decr}
@@ -74,7 +74,7 @@ decimal-bytes n fits = digits-bytes (decimal n) (digits_decimal own n fits)
 -- a number that is read has 64 bits
 pub number-fits : (word : List ℕ) (n : ℕ) → number_of word ≡ Some n → n < 2 ^ 64
 number-fits word n is =
-    let outer = passed (nat_le 1 (length word) && nat_le (length word) 20) (value_of word) n is in
+    let outer = passed (nat_le 1 (length word) && nat_le (length word) 20) (numeral_value word) n is in
     let inner = passed (all_ascii_digits word && nat_lt (digits_value 10 word) (2 ^ 64)) (Some (digits_value 10 word)) n outer.1 in
     let digits = both (all_ascii_digits word) (nat_lt (digits_value 10 word) (2 ^ 64)) inner.0 in
     let value : digits_value 10 word ≡ n = cc (inner.1) in

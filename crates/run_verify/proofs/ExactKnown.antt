@@ -18,10 +18,10 @@ use Rattle.group_calls.specs.declared.event.Event.TheVariants as happens
 use Rattle.scenario_text.specs.Texts.{entry_text}
 use Rattle.run_verify.specs.Checked.{ArePlaced, IsChecked}
 use Rattle.run_verify.specs.Passing.{IsRunIn}
-use Rattle.run_verify.specs.Plain.{EndsPlacing, FitSteps, FitsEvent, FitsStep}
+use Rattle.run_verify.specs.Plain.{EndsPlacing, FitSteps, FitsStep, IsEventInRange}
 use Rattle.run_verify.specs.Sheet.{Sheet}
 use Rattle.run_verify.specs.Told.{Made, Drained, Shown, Lost, Down, Placed}
-use Rattle.run_verify.specs.Told.{IsDelivery, TellAll, Tells, Told, drained_line, lines_told, runs_told, told_lines, turns_in, turns_told}
+use Rattle.run_verify.specs.Told.{CanBeTold, IsDelivery, TellAll, Told, drained_line, lines_told, runs_told, told_lines, turns_told, turns_told_in}
 use Rattle.run_verify.specs.Updates.{updates_by}
 use Rattle.run_verify.specs.declared.step.Step.{Step}
 use Rattle.run_verify.specs.declared.step.Step.TheVariants.{Make, Deliveries, Look, Placing}
@@ -33,7 +33,7 @@ use Rattle.run_verify.proofs.ImpliedShadow.{log-append}
 
 -- ---- steps
 
-event-fits : (event : Event) → FitsAsk event → FitsEvent event
+event-fits : (event : Event) → FitsAsk event → IsEventInRange event
 event-fits (happens.Ask caller op p) fits = fits.0
 event-fits (happens.Collect caller call p) fits = fits
 event-fits (happens.Trace caller call d p) fits = fits
@@ -68,7 +68,7 @@ delivery-fits t is = by t.event is
     by (happens.Trace caller call d p) is = absurd is
 
 -- the turns that are told for a step
-told-fits : (s : Dimensions) (step : Step) (told : Told) → FitsFully s step → Tells step told → All FitsTurn (turns_in told)
+told-fits : (s : Dimensions) (step : Step) (told : Told) → FitsFully s step → CanBeTold step told → All FitsTurn (turns_told_in told)
 told-fits s (Make event) (Made t) fits tells = All-cons FitsTurn t [] (subst FitsAsk (sym tells.0) fits) (All-nil FitsTurn)
 told-fits s Deliveries (Made t) fits tells = absurd tells
 told-fits s (Look p run) (Made t) fits tells = absurd tells
@@ -87,7 +87,7 @@ turns-fit s [] [] fit tells = All-nil FitsTurn
 turns-fit s [] (told ∷ more) fit tells = absurd tells
 turns-fit s (step ∷ steps) [] fit tells = absurd tells
 turns-fit s (step ∷ steps) (told ∷ more) (first, fit) (tell, tells) =
-    All-append FitsTurn (turns_in told) (turns_told more) (told-fits s step told first tell)
+    All-append FitsTurn (turns_told_in told) (turns_told more) (told-fits s step told first tell)
     (turns-fit s steps more fit tells)
 
 all-get : (ts : List Turn) (j : ℕ) (t : Turn) → All FitsTurn ts → slice_get ts j ≡ Some t → FitsTurn t
@@ -124,7 +124,7 @@ asks-append : (caller : ℕ) (xs ys : List Turn) → asks_of caller (xs ++ ys) �
 asks-append caller [] ys = omega arith
 asks-append caller (x ∷ xs) ys = let rest = asks-append caller xs ys in omega (arith, rest)
 
-asks-told : (caller : ℕ) (step : Step) (told : Told) → Tells step told → asks_of caller (turns_in told) ≤ 1
+asks-told : (caller : ℕ) (step : Step) (told : Told) → CanBeTold step told → asks_of caller (turns_told_in told) ≤ 1
 asks-told caller step (Made t) tells = let one = asks-one caller t.event in omega (arith, one)
 asks-told caller Deliveries (Drained ts n) tells = let none = drained-none caller ts tells.0 in omega (arith, none)
 asks-told caller (Make event) (Drained ts n) tells = absurd tells
@@ -142,7 +142,7 @@ asks-few caller (step ∷ steps) [] tells = absurd tells
 asks-few caller (step ∷ steps) (told ∷ more) (tell, tells) =
     let one = asks-told caller step told tell in
     let rest = asks-few caller steps more tells in
-    let both = asks-append caller (turns_in told) (turns_told more) in
+    let both = asks-append caller (turns_told_in told) (turns_told more) in
     omega (arith, one, rest, both)
 
 asks-take : (caller j : ℕ) (ts : List Turn) → asks_of caller (take j ts) ≤ asks_of caller ts
@@ -152,7 +152,7 @@ asks-take caller (suc j) (t ∷ ts) = let rest = asks-take caller j ts in omega 
 
 -- ---- lines
 
-told-long : (told : Told) → length (log_of (turns_in told)) ≤ length (told_lines told)
+told-long : (told : Told) → length (log_of (turns_told_in told)) ≤ length (told_lines told)
 told-long (Made t) = let log = ap length (append-nil t.logged) in omega (arith, log, length-map t.logged entry_text)
 told-long (Drained ts n) = omega (arith, length-append (map entry_text (log_of ts)) (drained_line n ∷ []), length-map (log_of ts) entry_text)
 told-long (Shown stamp bytes) = omega arith
@@ -165,8 +165,8 @@ log-long [] = omega arith
 log-long (told ∷ more) =
     let here = told-long told in
     let rest = log-long more in
-    let logs = ap length (log-append (turns_in told) (turns_told more)) in
-    omega (arith, here, rest, logs, length-append (log_of (turns_in told)) (log_of (turns_told more)), length-append (told_lines told) (lines_told more))
+    let logs = ap length (log-append (turns_told_in told) (turns_told more)) in
+    omega (arith, here, rest, logs, length-append (log_of (turns_told_in told)) (log_of (turns_told more)), length-append (told_lines told) (lines_told more))
 
 -- ---- runs
 

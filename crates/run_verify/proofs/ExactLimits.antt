@@ -3,14 +3,14 @@ use Rattle.std.proofs.Common.{◌≡◌, ◌<◌, ◌^◌, ℕ, ℤ, nat_lt, Lis
 use Rattle.std.proofs.lemmas.Bool.Decides.{nat_tests}
 use Rattle.std.specs.Prelude.{⊤}
 use Rattle.group_types.specs.Dimensions.{Dimensions}
-use Rattle.memc_table.specs.Act.{value_of}
+use Rattle.memc_table.specs.Act.{act_value}
 use Rattle.memc_table.specs.Numeral.{number_of}
 use Rattle.memc_table.specs.declared.act.Act.{Act}
 use Rattle.memc_table.specs.declared.act.Act.TheVariants as act
 use Rattle.scenario_text.proofs.ActWords.{ReadsAct, ReadsStore}
 use Rattle.scenario_text.proofs.LineWords.{ReadsLine, line_of-words}
 use Rattle.scenario_text.proofs.Read.{passed}
-use Rattle.scenario_text.specs.Meaning.{line_of}
+use Rattle.scenario_text.specs.Meaning.{line_meaning}
 use Rattle.scenario_text.specs.Words.{number_below}
 use Rattle.scenario_text.specs.declared.line.Line.{Line}
 use Rattle.scenario_text.specs.declared.line.Line.TheVariants.{Ask, Collect, Trace}
@@ -50,7 +50,7 @@ act-flags (act.Replace key flags expiry value) read = store-flags flags expiry v
 act-flags (act.Cas key flags expiry cas value) read = store-flags flags expiry value read.1
 act-flags a read = tt
 
-pub act-fits : (a : Act) → FlagsFit a → AreBytes (value_of a) → FitsAct a
+pub act-fits : (a : Act) → FlagsFit a → AreBytes (act_value a) → FitsAct a
 act-fits (act.Get key) flags bytes = tt
 act-fits (act.Set key f expiry value) flags bytes = (flags, bytes)
 act-fits (act.Add key f expiry value) flags bytes = (flags, bytes)
@@ -78,5 +78,5 @@ line-limits s (Collect caller call p) read = number-fits read.1.0 call read.1.1
 line-limits s (Trace caller call d p) read = number-fits read.1.0 call read.1.1
 line-limits s l read = tt
 
-pub read-limits : (s : Dimensions) (line : List ℕ) (l : Line) → line_of (Some s) line ≡ Ok l → Limits l
+pub read-limits : (s : Dimensions) (line : List ℕ) (l : Line) → line_meaning (Some s) line ≡ Ok l → Limits l
 read-limits s line l is = line-limits s l (line_of-words s line l is)

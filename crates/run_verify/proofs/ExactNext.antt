@@ -22,10 +22,10 @@ use Rattle.group_calls.specs.declared.event.Event.{Event}
 use Rattle.group_calls.specs.declared.event.Event.TheVariants as happens
 use Rattle.scenario_text.specs.Texts.{answer_text}
 use Rattle.transcript_text.proofs.Entries.{FitsEntry, entry-line, entry-names}
-use Rattle.run_verify.specs.Passing.{Account, Due, FailsAt, IsToldFor, IsToldRun, PassAll, Passes, PassesBy}
-use Rattle.run_verify.specs.Passing.{PassesEntry, PassesPlace, PassesStep, State, TellsEntry, after_entry, after_event}
-use Rattle.run_verify.specs.Passing.{begins_entry, call_of, change_of, changes_at, dues_from, effect_of, first_account}
-use Rattle.run_verify.specs.Passing.{is_taken, part_of, value_in, with_account, with_change}
+use Rattle.run_verify.specs.Passing.{Account, DuePlace, FailsAt, IsToldFor, IsToldRun, PassAll, Passes, PassesBy}
+use Rattle.run_verify.specs.Passing.{JudgingState, LineTellsEntry, PassesEntry, PassesPlace, PassesStep, account_after_entry, after_event}
+use Rattle.run_verify.specs.Passing.{begins_entry, call_named, change_of, changes_at, dues_from, effect_of, first_account}
+use Rattle.run_verify.specs.Passing.{entry_partition, takes_effect, value_in, with_account, with_change}
 use Rattle.run_verify.specs.Sheet.{Sheet}
 use Rattle.run_verify.specs.declared.call.Call.{Call}
 use Rattle.run_verify.specs.declared.change.Change.{Change}
@@ -50,7 +50,7 @@ taken_by (a ∷ []) = false
 taken_by (a ∷ b ∷ []) = false
 taken_by (a ∷ b ∷ c ∷ more) = if a == 116 then true else (if a == 114 then c == 112 else false)
 
-taken-text : (answer : Answer) → taken_by (answer_text answer) ≡ is_taken answer
+taken-text : (answer : Answer) → taken_by (answer_text answer) ≡ takes_effect answer
 taken-text (answered.Reply reply) = refl
 taken-text (answered.Ticket n) = refl
 taken-text answered.NotYet = refl
@@ -96,7 +96,7 @@ effect-once sheet d n act value run other shape fd fn = by act
 -- the account with other changes
 abbrev changed : Sheet → Account → Entry → List (List Change) → Account
 changed sheet a e changes = record {
-  calls = (after_entry sheet a e None).calls;
+  calls = (account_after_entry sheet a e None).calls;
   table = table_after a.table e.op;
   changes = changes;
   entries = a.entries + 1;
@@ -105,16 +105,18 @@ changed sheet a e changes = record {
 }
 
 after-once : (sheet : Sheet) (a : Account) (e : Entry) (run other : Option Run) (m : ℕ) → IsShape sheet.script.shape → AreFew m a.changes → m + 1 < 2 ^ 64
-    → IsToldRun (accepts e.reply) sheet a e run → IsToldRun (accepts e.reply) sheet a e other → after_entry sheet a e run ≡ after_entry sheet a e other
+    → IsToldRun (accepts e.reply) sheet a e run → IsToldRun (accepts e.reply) sheet a e other
+    → account_after_entry sheet a e run ≡ account_after_entry sheet a e other
 after-once sheet a e run other m shape few small told also = by (accepts e.reply) refl told also
   where
     d : ℕ
-    d = part_of sheet e
+    d = entry_partition sheet e
 
     low : d < 2 ^ 64
     low = let some = shape.k.0 in let most = shape.k.1 in let home = home-in (key_of e.op.act) sheet.script.shape.k some in omega (arith, home, most)
 
-    by : (b : Bool) → accepts e.reply ≡ b → IsToldRun b sheet a e run → IsToldRun b sheet a e other → after_entry sheet a e run ≡ after_entry sheet a e other
+    by : (b : Bool) → accepts e.reply ≡ b → IsToldRun b sheet a e run → IsToldRun b sheet a e other
+        → account_after_entry sheet a e run ≡ account_after_entry sheet a e other
     by false refused told also =
         ap (changed sheet a e) (ap (λ (b : Bool). with_change b d (change_of a e run) a.changes) refused
         ∙ sym (ap (λ (b : Bool). with_change b d (change_of a e other) a.changes) refused))
@@ -126,31 +128,32 @@ after-once sheet a e run other m shape few small told also = by (accepts e.reply
         ap (changed sheet a e) (ap (λ (c : Change). with_change (accepts e.reply) d c a.changes) both)
 
 -- a line tells one entry
-entry-once : (a : Account) (line : List ℕ) (e f : Entry) → TellsEntry a line e → TellsEntry a line f → e ≡ f
+entry-once : (a : Account) (line : List ℕ) (e f : Entry) → LineTellsEntry a line e → LineTellsEntry a line f → e ≡ f
 entry-once a line e f tells also =
     let fits : FitsEntry e = record { caller = tells.named.0; call = tells.named.1; reply = tells.fits } in
     let names = entry-names e f.caller f.call _ fits also.named.0 also.named.1 (sym tells.text ∙ also.text ∙ entry-line f) in
     let caller = names.0 in
     let call = names.1 in
     let name : record { caller = e.caller; call = e.call } ≡ record { caller = f.caller; call = f.call } = cc (caller, call) in
-    let calls : Some (call_with e None) ≡ Some (call_with f None) = sym tells.call ∙ ap (λ (n : CallName). call_of a n) name ∙ also.call in
+    let calls : Some (call_with e None) ≡ Some (call_with f None) = sym tells.call ∙ ap (λ (n : CallName). call_named a n) name ∙ also.call in
     let op : e.op ≡ f.op = ap (λ (c : Call). c.op) (some_same (call_with e None) (call_with f None) calls) in
     let reply : e.reply ≡ f.reply = tells.reply ∙ ap (λ (o : Asked). reply_of a.table o) op ∙ sym also.reply in
     let eq : record { caller = e.caller; call = e.call; op = e.op; reply = e.reply }
     ≡ record { caller = f.caller; call = f.call; op = f.op; reply = f.reply } = cc (caller, call, op, reply) in
     eq
 
-logged-once : (sheet : Sheet) (s : State) (m : ℕ) (line : List ℕ) (one other : State) → IsShape sheet.script.shape → AreFew m s.account.changes → m + 1 < 2 ^ 64
+logged-once : (sheet : Sheet) (s : JudgingState) (m : ℕ) (line : List ℕ) (one other : JudgingState) → IsShape sheet.script.shape → AreFew m s.account.changes
+    → m + 1 < 2 ^ 64
     → PassesEntry sheet s line one → PassesEntry sheet s line other → one ≡ other
 logged-once sheet s m line one other shape few small (may, e, run, tells, told, is) (may', f, run', tells', told', is') =
     let same : f ≡ e = entry-once s.account line f e tells' tells in
     let also = subst (λ (x : Entry). IsToldRun (accepts x.reply) sheet s.account x run') same told' in
     is ∙ ap (with_account s) (after-once sheet s.account e run run' m shape few small told also)
-    ∙ sym (is' ∙ ap (λ (x : Entry). with_account s (after_entry sheet s.account x run')) same)
+    ∙ sym (is' ∙ ap (λ (x : Entry). with_account s (account_after_entry sheet s.account x run')) same)
 
 -- ---- other lines
 
-place-once : (sheet : Sheet) (a : Account) (steps : List Step) (dues : List Due) (line : List ℕ) (one other : State)
+place-once : (sheet : Sheet) (a : Account) (steps : List Step) (dues : List DuePlace) (line : List ℕ) (one other : JudgingState)
     → PassesPlace sheet a steps dues line one → PassesPlace sheet a steps dues line other → one ≡ other
 place-once sheet a steps [] line one other (text, is) (text', is') = is ∙ sym is'
 place-once sheet a steps (due ∷ dues) line one other (tells, is) (tells', is') = is ∙ sym is'
@@ -160,11 +163,11 @@ shows-not : (line : List ℕ) (more : List ℕ) (word : List ℕ) → line ≡ 1
 shows-not line more word shows is other = let yes' : true ≡ (at 0 word 0 == 115) = ap (λ (t : List ℕ). at 0 t 0 == 115) (sym shows ∙ is) in cc (yes' ∙ other)
 
 step-once : (sheet : Sheet) (a : Account) (steps : List Step) (line : List ℕ) (ahead : List (List ℕ))
-    (one other : State) → PassesStep sheet a steps line ahead one → PassesStep sheet a steps line ahead other
+    (one other : JudgingState) → PassesStep sheet a steps line ahead one → PassesStep sheet a steps line ahead other
     → one ≡ other
 step-once sheet a [] line ahead one other first second = absurd first
 step-once sheet a (Make event ∷ steps) line ahead one other (answer, ans, is) (answer', ans', is') =
-    let taken : is_taken answer ≡ is_taken answer' = sym (taken-text answer) ∙ ap taken_by (sym ans.text ∙ ans'.text) ∙ taken-text answer' in
+    let taken : takes_effect answer ≡ takes_effect answer' = sym (taken-text answer) ∙ ap taken_by (sym ans.text ∙ ans'.text) ∙ taken-text answer' in
     is ∙ ap (λ (b : Bool). record { account = after_event a event b; steps = steps; logging = true }) taken ∙ sym is'
 step-once sheet a (Deliveries ∷ steps) line ahead one other (n, fits, text, is) (n', fits', text', is') = is ∙ sym is'
 step-once sheet a (Look p run ∷ steps) line ahead one other (inl (bytes, is)) (inl (bytes', is')) = is ∙ sym is'
@@ -180,7 +183,7 @@ step-once sheet a (Look p run ∷ steps) line ahead one other (inr (word, is)) (
 step-once sheet a (Placing ∷ steps) line ahead one other first second =
     place-once sheet a steps (drop a.placed (dues_from a 0 sheet.script.shape.k)) line one other first second
 
-pub passes_once : (sheet : Sheet) (s : State) (m : ℕ) (line : List ℕ) (ahead : List (List ℕ)) (one other : State)
+pub passes_once : (sheet : Sheet) (s : JudgingState) (m : ℕ) (line : List ℕ) (ahead : List (List ℕ)) (one other : JudgingState)
     → IsShape sheet.script.shape → AreFew m s.account.changes → m + 1 < 2 ^ 64
     → Passes sheet s line ahead one → Passes sheet s line ahead other → one ≡ other
 passes_once sheet s m line ahead one other shape few small first second = by (begins_entry line) first second
@@ -209,35 +212,35 @@ few-answer m a (happens.Fail p keep) b few = few-more m a.changes few
 few-answer m a (happens.Flush p) b few = few-more m a.changes few
 few-answer m a (happens.Trace caller call d p) b few = few-more m a.changes few
 
-few-as : (m : ℕ) (s next : State) → next ≡ s → AreFew m s.account.changes → AreFew m next.account.changes
-few-as m s next is few = subst (λ (x : State). AreFew m x.account.changes) (sym is) few
+few-as : (m : ℕ) (s next : JudgingState) → next ≡ s → AreFew m s.account.changes → AreFew m next.account.changes
+few-as m s next is few = subst (λ (x : JudgingState). AreFew m x.account.changes) (sym is) few
 
-few-place : (sheet : Sheet) (m : ℕ) (a : Account) (steps : List Step) (dues : List Due) (line : List ℕ) (next : State)
+few-place : (sheet : Sheet) (m : ℕ) (a : Account) (steps : List Step) (dues : List DuePlace) (line : List ℕ) (next : JudgingState)
     → PassesPlace sheet a steps dues line next → AreFew m a.changes → AreFew (m + 1) next.account.changes
 few-place sheet m a steps [] line next (text, is) few = few-as (m + 1) _ next is (few-more m a.changes few)
 few-place sheet m a steps (due ∷ dues) line next (tells, is) few = few-as (m + 1) _ next is (few-more m a.changes few)
 
 few-step : (sheet : Sheet) (m : ℕ) (a : Account) (steps : List Step) (line : List ℕ) (ahead : List (List ℕ))
-    (next : State) → PassesStep sheet a steps line ahead next → AreFew m a.changes → AreFew (m + 1) next.account.changes
+    (next : JudgingState) → PassesStep sheet a steps line ahead next → AreFew m a.changes → AreFew (m + 1) next.account.changes
 few-step sheet m a [] line ahead next first few = absurd first
-few-step sheet m a (Make event ∷ steps) line ahead next (answer, ans, is) few = few-as (m + 1) _ next is (few-answer m a event (is_taken answer) few)
+few-step sheet m a (Make event ∷ steps) line ahead next (answer, ans, is) few = few-as (m + 1) _ next is (few-answer m a event (takes_effect answer) few)
 few-step sheet m a (Deliveries ∷ steps) line ahead next (n, fits, text, is) few = few-as (m + 1) _ next is (few-more m a.changes few)
 few-step sheet m a (Look p run ∷ steps) line ahead next (inl (bytes, is)) few = few-as (m + 1) _ next is (few-more m a.changes few)
 few-step sheet m a (Look p run ∷ steps) line ahead next (inr (word, is)) few = few-as (m + 1) _ next is (few-more m a.changes few)
 few-step sheet m a (Placing ∷ steps) line ahead next first few =
     few-place sheet m a steps (drop a.placed (dues_from a 0 sheet.script.shape.k)) line next first few
 
-few-passes : (sheet : Sheet) (m : ℕ) (s : State) (line : List ℕ) (ahead : List (List ℕ)) (next : State)
+few-passes : (sheet : Sheet) (m : ℕ) (s : JudgingState) (line : List ℕ) (ahead : List (List ℕ)) (next : JudgingState)
     → Passes sheet s line ahead next → AreFew m s.account.changes → AreFew (m + 1) next.account.changes
 few-passes sheet m s line ahead next passes few = by (begins_entry line) passes
   where
     by : (b : Bool) → PassesBy b sheet s line ahead next → AreFew (m + 1) next.account.changes
     by true (may, e, run, tells, told, is) =
-        few-as (m + 1) _ next is (few-change m (accepts e.reply) (part_of sheet e) (change_of s.account e run)
+        few-as (m + 1) _ next is (few-change m (accepts e.reply) (entry_partition sheet e) (change_of s.account e run)
         s.account.changes few)
     by false first = few-step sheet m s.account s.steps line ahead next first few
 
-never-both : (sheet : Sheet) (lines : List (List ℕ)) (s : State) (m n : ℕ) (account : Account)
+never-both : (sheet : Sheet) (lines : List (List ℕ)) (s : JudgingState) (m n : ℕ) (account : Account)
     → IsShape sheet.script.shape → AreFew m s.account.changes → m + length lines < 2 ^ 64
     → PassAll sheet s lines account → ¬ (FailsAt sheet n s lines)
 never-both sheet lines s m zero account shape few small passes fails = fails
@@ -247,7 +250,7 @@ never-both sheet [] s m (suc (suc n)) account shape few small passes fails = fai
 never-both sheet (line ∷ lines) s m (suc (suc n)) account shape few small (next, first, passes) (next', first', fails) =
     let same = passes_once sheet s m line lines next' next shape few (omega (arith, small)) first' first in
     never-both sheet lines next (m + 1) (suc n) account shape (few-passes sheet m s line lines next first few)
-    (omega (arith, small)) passes (subst (λ (x : State). FailsAt sheet (suc n) x lines) same fails)
+    (omega (arith, small)) passes (subst (λ (x : JudgingState). FailsAt sheet (suc n) x lines) same fails)
 
 -- lines that all pass have none that fails
 pub never_fails : (sheet : Sheet) (n k : ℕ) (account : Account) (steps : List Step) → IsShape sheet.script.shape → length sheet.lines < 2 ^ 64

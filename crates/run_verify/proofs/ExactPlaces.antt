@@ -10,11 +10,12 @@ use Rattle.group_types.specs.declared.run.Run.{Run}
 use Rattle.memc_table.specs.declared.holding.Holding.{Holding}
 use Rattle.group_run.specs.Meaning.{Logged}
 use Rattle.scenario_text.specs.Texts.{place_text}
-use Rattle.run_verify.specs.Changes.{run_behind}
-use Rattle.run_verify.specs.Passing.{Account, Due, PassAll, PassesBy, PassesPlace, begins_entry, changes_at, due_for, dues_from, dues_of, on_to, with_placed}
+use Rattle.run_verify.specs.Changes.{run_after_changes}
+use Rattle.run_verify.specs.Passing.{Account, DuePlace, PassAll, PassesBy, PassesPlace, begins_entry, changes_at, due_for, due_places_of, dues_from, on_to}
+use Rattle.run_verify.specs.Passing.{with_placed}
 use Rattle.run_verify.specs.Sheet.{Sheet}
 use Rattle.run_verify.specs.Told.{place_lines, placed_line, run_lines}
-use Rattle.run_verify.specs.Updates.{IsClear, StandRight, StandsRight, brings_value}
+use Rattle.run_verify.specs.Updates.{IsClearRun, StandRight, StandsRight, brings_value}
 use Rattle.run_verify.specs.declared.change.Change.{Change}
 use Rattle.run_verify.specs.declared.change.Effect.{Effect}
 use Rattle.run_verify.specs.declared.change.Effect.TheVariants.{Writes, Removes, Keeps}
@@ -59,7 +60,7 @@ all_clear s before us (c ∷ cs) (u ∷ more) all (one, matches) (first, stand) 
 
 -- ---- their lines
 
-told-one : (s : Dimensions) (d : ℕ) (before : List Change) (e : Effect) (dues : List Due) (runs : List (Option Run))
+told-one : (s : Dimensions) (d : ℕ) (before : List Change) (e : Effect) (dues : List DuePlace) (runs : List (Option Run))
     → IsClearBy s before e → AllTold s dues (run_lines d (suc (length before)) runs)
     → AllTold s (due_for d before e dues) (run_lines d (length before) (run_told e ∷ runs))
 told-one s d before Removes dues runs clear told = told
@@ -72,21 +73,21 @@ told-one s d before (Writes value (Some q)) dues runs (r, some, clear) told =
         run = q;
         is = refl;
         text = ap (λ (n : ℕ). place_text d n q) number;
-        clear = subst (λ (x : Run). IsClear s (λ key. run_behind key None before) x (length value)) same clear;
+        clear = subst (λ (x : Run). IsClearRun s (λ key. run_after_changes key None before) x (length value)) same clear;
       },
       told,
     )
 
 told-part : (s : Dimensions) (d : ℕ) (before cs : List Change) → AreClear s before cs
-    → AllTold s (dues_of d before cs) (run_lines d (length before) (runs_for cs))
+    → AllTold s (due_places_of d before cs) (run_lines d (length before) (runs_for cs))
 told-part s d before [] clear = tt
 told-part s d before (c ∷ cs) (first, clear) =
     let rest = told-part s d (before ++ c ∷ []) cs clear in
     let many : length (before ++ c ∷ []) ≡ suc (length before) = length-append before (c ∷ []) ∙ omega arith in
-    told-one s d before c.effect (dues_of d (before ++ c ∷ []) cs) (runs_for cs) first
-    (subst (λ (n : ℕ). AllTold s (dues_of d (before ++ c ∷ []) cs) (run_lines d n (runs_for cs))) many rest)
+    told-one s d before c.effect (due_places_of d (before ++ c ∷ []) cs) (runs_for cs) first
+    (subst (λ (n : ℕ). AllTold s (due_places_of d (before ++ c ∷ []) cs) (run_lines d n (runs_for cs))) many rest)
 
-told-append : (s : Dimensions) (xs ys : List Due) (ls ms : List (List ℕ)) → AllTold s xs ls → AllTold s ys ms → AllTold s (xs ++ ys) (ls ++ ms)
+told-append : (s : Dimensions) (xs ys : List DuePlace) (ls ms : List (List ℕ)) → AllTold s xs ls → AllTold s ys ms → AllTold s (xs ++ ys) (ls ++ ms)
 told-append s [] ys [] ms told more = more
 told-append s [] ys (l ∷ ls) ms told more = absurd told
 told-append s (x ∷ xs) ys [] ms told more = absurd told
@@ -98,7 +99,7 @@ told_all s a d zero clear = tt
 told_all s a d (suc n) clear =
     let rest = told_all s a (d + 1) n (λ p low high. clear p (omega (arith, low)) (omega (arith, high))) in
     let next : d + 1 ≡ suc d = omega arith in
-    told-append s (dues_of d [] (changes_at a d)) (dues_from a (d + 1) n) (run_lines d 0 (runs_for (changes_at a d)))
+    told-append s (due_places_of d [] (changes_at a d)) (dues_from a (d + 1) n) (run_lines d 0 (runs_for (changes_at a d)))
     (place_lines (suc d) (runs_of a (d + 1) n))
     (told-part s d [] (changes_at a d) (clear d (omega arith) (omega arith)))
     (subst (λ (m : ℕ). AllTold s (dues_from a (d + 1) n) (place_lines m (runs_of a (d + 1) n))) next rest)
@@ -110,14 +111,14 @@ drop-next n [] y ys is = absurd (cc (sym (drop-nil n) ∙ is))
 drop-next zero (x ∷ xs) y ys is = cc is
 drop-next (suc n) (x ∷ xs) y ys is = drop-next n xs y ys is
 
-pub places_pass : (sheet : Sheet) (dues : List Due) (a : Account) (logging : Bool) (places : List (List ℕ))
+pub places_pass : (sheet : Sheet) (dues : List DuePlace) (a : Account) (logging : Bool) (places : List (List ℕ))
     → drop a.placed (dues_from a 0 sheet.script.shape.k) ≡ dues → AllTold sheet.script.shape dues places
     → (final : Account) × PassAll sheet (state a (Placing ∷ []) logging) (places ++ placed_line (a.placed + length dues) ∷ []) final
 places_pass sheet [] a logging [] is told =
     let none : a.placed + 0 ≡ a.placed = omega arith in
     let line : List ℕ = placed_line (a.placed + 0) in
     let here : PassesPlace sheet a [] (drop a.placed (dues_from a 0 sheet.script.shape.k)) line (on_to a []) =
-    subst (λ (ds : List Due). PassesPlace sheet a [] ds line (on_to a [])) (sym is) (ap placed_line none, refl) in
+    subst (λ (ds : List DuePlace). PassesPlace sheet a [] ds line (on_to a [])) (sym is) (ap placed_line none, refl) in
     (a, (on_to a [], here, (refl, refl)))
 places_pass sheet [] a logging (line ∷ places) is told = absurd told
 places_pass sheet (due ∷ dues) a logging [] is told = absurd told
@@ -130,7 +131,7 @@ places_pass sheet (due ∷ dues) a logging (line ∷ places) is (tells, told) =
     let count : a.placed + 1 + length dues ≡ a.placed + suc (length dues) = omega arith in
     let onward = subst (λ (n : ℕ). PassAll sheet (on_to (with_placed a) (Placing ∷ [])) (places ++ placed_line n ∷ []) rest.0) count rest.1 in
     let here : PassesPlace sheet a [] (drop a.placed (dues_from a 0 sheet.script.shape.k)) line (on_to (with_placed a) (Placing ∷ [])) =
-    subst (λ (ds : List Due). PassesPlace sheet a [] ds line (on_to (with_placed a) (Placing ∷ []))) (sym is) (tells, refl) in
+    subst (λ (ds : List DuePlace). PassesPlace sheet a [] ds line (on_to (with_placed a) (Placing ∷ []))) (sym is) (tells, refl) in
     let begins : begins_entry line ≡ false = ap begins_entry tells.text in
     let ahead : List (List ℕ) = places ++ placed_line (a.placed + suc (length dues)) ∷ [] in (
       rest.0,
@@ -144,7 +145,7 @@ places_pass sheet (due ∷ dues) a logging (line ∷ places) is (tells, told) =
   where
     dues-same : (d n : ℕ) → dues_from a d n ≡ dues_from (with_placed a) d n
     dues-same d zero = refl
-    dues-same d (suc n) = ap (λ (ds : List Due). dues_of d [] (changes_at a d) ++ ds) (dues-same (d + 1) n)
+    dues-same d (suc n) = ap (λ (ds : List DuePlace). due_places_of d [] (changes_at a d) ++ ds) (dues-same (d + 1) n)
 
     same-dues : drop a.placed (dues_from a 0 sheet.script.shape.k) ≡ due ∷ dues → drop a.placed (dues_from (with_placed a) 0 sheet.script.shape.k) ≡ due ∷ dues
     same-dues is = ap (drop a.placed) (sym (dues-same 0 sheet.script.shape.k)) ∙ is

@@ -11,11 +11,11 @@ use Rattle.group_calls.specs.declared.event.Answer.{Answer}
 use Rattle.group_calls.specs.declared.event.Answer.TheVariants as answered
 use Rattle.group_calls.specs.declared.event.Cause.TheVariants.{Pending, Block}
 use Rattle.scenario_text.specs.Texts.{answer_text, entry_text, place_text, shown_text}
-use Rattle.run_verify.specs.Passing.{FitsRun, IsRunIn}
+use Rattle.run_verify.specs.Passing.{IsRunIn, RunFitsValue}
 use Rattle.run_verify.specs.Plain.{EndsPlacing}
 use Rattle.run_verify.specs.Told.{Made, Drained, Shown, Lost, Down, Placed}
-use Rattle.run_verify.specs.Told.{TellAll, Tells, Told, count_placed, drained_line, lines_told, place_lines}
-use Rattle.run_verify.specs.Told.{placed_line, run_lines, runs_in, runs_told, told_lines}
+use Rattle.run_verify.specs.Told.{CanBeTold, TellAll, Told, count_placed, drained_line, lines_told, place_lines}
+use Rattle.run_verify.specs.Told.{placed_line, run_lines, runs_told, runs_told_in, told_lines}
 use Rattle.run_verify.specs.declared.step.Step.{Step}
 use Rattle.run_verify.specs.declared.step.Step.TheVariants.{Make, Deliveries, Look, Placing}
 use Rattle.run_verify.proofs.ExactOnce.{place_once}
@@ -61,7 +61,7 @@ no-entries d n [] = tt
 no-entries d n (e ∷ es) = (starts-other d n (entry_text e) refl, no-entries d n es)
 
 -- the lines that are told for a step that isn't the one of the places
-no-told : (d n : ℕ) (step : Step) (told : Told) → step ≢ Placing → Tells step told → (runs_in told ≡ []) × NoneOf d n (told_lines told)
+no-told : (d n : ℕ) (step : Step) (told : Told) → step ≢ Placing → CanBeTold step told → (runs_told_in told ≡ []) × NoneOf d n (told_lines told)
 no-told d n step (Made turn) other tells = (refl, (no-answer d n turn.answer, no-entries d n turn.logged))
 no-told d n step (Drained turns m) other tells = (
   refl,
@@ -86,7 +86,7 @@ other-runs d n e m (None ∷ runs) fd fn fe fm other = other-runs d n e (suc m) 
 other-runs d n e m (Some q ∷ runs) fd fn fe fm other =
     ((λ run same. other (place_once e (suc m) d n q run fe (omega (arith, fm)) fd fn same).0), other-runs d n e (suc m) runs fd fn fe (omega (arith, fm)) other)
 
-module _ (s : Dimensions) (d len : ℕ) (run : Run) (fd : d < 2 ^ 64) (fits : FitsRun s len run) (back : List (Option Run)) where
+module _ (s : Dimensions) (d len : ℕ) (run : Run) (fd : d < 2 ^ 64) (fits : RunFitsValue s len run) (back : List (Option Run)) where
   own-run : (front : List (Option Run)) (m : ℕ) (rest : List (List ℕ)) → m + length front + 1 < 2 ^ 64
       → IsRunIn (run_lines d m (front ++ Some run ∷ back) ++ rest) s d (suc (m + length front)) len (Some run)
   own-run [] m rest fm = let one : suc m ≡ suc (m + 0) = omega arith in inl (run, ap (λ (n : ℕ). place_text d n run) one, fits, refl)
@@ -134,7 +134,7 @@ module _ (s : Dimensions) (d len : ℕ) (run : Run) (fd : d < 2 ^ 64) (fits : Fi
       (behind-none s d (suc (length front)) len (Some run) (run_lines e 0 rs) (place_lines (suc e) others ++ rest) none behind)
 
   -- found behind the lines of another step
-  behind-told : (told : Told) (more : List Told) (front : List (Option Run)) → (runs_in told ≡ [])
+  behind-told : (told : Told) (more : List Told) (front : List (Option Run)) → (runs_told_in told ≡ [])
       × NoneOf d (suc (length front)) (told_lines told)
       → ((j : ℕ) → length (at [] (runs_told (told ∷ more)) j) + 1 < 2 ^ 64)
       → at [] (runs_told (told ∷ more)) d ≡ front ++ Some run ∷ back

@@ -10,16 +10,17 @@ use Rattle.group_types.specs.Shape.{IsShape}
 use Rattle.group_calls.specs.declared.event.Event.{Event}
 use Rattle.group_calls.specs.declared.event.Event.TheVariants as happens
 use Rattle.scenario_text.proofs.Lines.{line_of-within}
-use Rattle.scenario_text.specs.Meaning.{is_skipped, line_of}
+use Rattle.scenario_text.specs.Meaning.{is_skipped, line_meaning}
 use Rattle.scenario_text.specs.declared.line.Line.{Line}
 use Rattle.scenario_text.specs.declared.line.Line.TheVariants.{Skipped, Group, Ask, Collect, Deliver, Fail, Flush, Trace, Drain, Show, Places, Time, Stop}
 use Rattle.scenario_text.specs.declared.line.LineFault.{LineFault}
 use Rattle.scenario_text.specs.declared.line.LineFault.TheVariants.{BadLine}
 use Rattle.scenario_run.specs.Course.{Fault, Goes, Ends, Refused}
 use Rattle.scenario_run.specs.Lines.{lines_of}
-use Rattle.run_verify.specs.Sheet.{Sheet, before_separator, behind_separator, joined, separator, sheet_of}
+use Rattle.run_verify.specs.Sheet.{Sheet, before_separator, behind_separator, separator, sheet_joined, sheet_of}
 use Rattle.run_verify.proofs.Judged.{lines-few}
-use Rattle.run_verify.specs.Steps.{Script, Setting, StepNext, asks_for, behind, by_trace, ended, from_line, next_by, next_of, script_in, stands_well}
+use Rattle.run_verify.specs.Steps.{Script, Setting, StepNext, asks_for, behind, ended, script_from_line, script_in, stands_well, steps_by_meaning}
+use Rattle.run_verify.specs.Steps.{steps_of_line, trace_steps}
 use Rattle.run_verify.specs.declared.step.Step.{Step}
 use Rattle.run_verify.specs.declared.step.Step.TheVariants.{Make, Deliveries, Look, Placing}
 use Rattle.run_verify.proofs.ExactEntries.{FitsAsk}
@@ -61,17 +62,17 @@ GoodLine setting (Refused cause) = Unit {0}
 none-ask : (s : Setting) → GoodNext (Some s) (Some s) []
 none-ask s = (refl, tt, omega arith)
 
-traced : (s : Setting) (caller call : ℕ) (e : Event) → FitsAsk e → GoodLine (Some s) (by_trace s caller call e)
+traced : (s : Setting) (caller call : ℕ) (e : Event) → FitsAsk e → GoodLine (Some s) (trace_steps s caller call e)
 traced s caller call e fits = by (nat_lt call (slice_index s.asked caller))
   where
     by : (b : Bool) → GoodLine (Some s) (if b then asks_for s (Make e) else Refused BadLine)
     by true = (refl, (fits, tt), omega arith)
     by false = tt
 
-good-line : (setting : Option Setting) (line : List ℕ) → Good setting → GoodLine setting (next_of setting line)
-good-line None line good = by (line_of None line) refl
+good-line : (setting : Option Setting) (line : List ℕ) → Good setting → GoodLine setting (steps_of_line setting line)
+good-line None line good = by (line_meaning None line) refl
   where
-    by : (r : Result Line LineFault) → line_of None line ≡ r → GoodLine None (next_by None r)
+    by : (r : Result Line LineFault) → line_meaning None line ≡ r → GoodLine None (steps_by_meaning None r)
     by (Err fault) is = tt
     by (Ok Skipped) is = (tt, refl)
     by (Ok (Group shape)) is = (line_of-within None line (Group shape) is, refl)
@@ -86,9 +87,9 @@ good-line None line good = by (line_of None line) refl
     by (Ok Places) is = tt
     by (Ok (Time moment)) is = tt
     by (Ok Stop) is = tt
-good-line (Some s) line good = by (line_of (Some s.shape) line) refl
+good-line (Some s) line good = by (line_meaning (Some s.shape) line) refl
   where
-    by : (r : Result Line LineFault) → line_of (Some s.shape) line ≡ r → GoodLine (Some s) (next_by (Some s) r)
+    by : (r : Result Line LineFault) → line_meaning (Some s.shape) line ≡ r → GoodLine (Some s) (steps_by_meaning (Some s) r)
     by (Err fault) is = tt
     by (Ok Skipped) is = none-ask s
     by (Ok (Group shape)) is = tt
@@ -168,7 +169,7 @@ Goal lines = (n : ℕ) (setting : Option Setting) (script : Script) → Good set
 
 good-from : (n : ℕ) (setting : Option Setting) (line : List ℕ) (lines : List (List ℕ)) (script : Script) → Goal lines
     → Good setting → (next : StepNext) → GoodLine setting next → (well : Bool)
-    → from_line false well n setting next (λ s. script_in (n + 1) s lines) ≡ Ok script → GoodScript setting (suc (length lines)) script
+    → script_from_line false well n setting next (λ s. script_in (n + 1) s lines) ≡ Ok script → GoodScript setting (suc (length lines)) script
 good-from n setting line lines script onward good (Goes next steps text) fine false is = cc is
 good-from n setting line lines script onward good (Goes next steps text) fine true is =
     let rest = behind-ok steps (script_in (n + 1) next lines) script is in
@@ -185,13 +186,15 @@ good-script (line ∷ lines) n setting script good is = by (is_skipped line) ref
     by : (b : Bool) → is_skipped line ≡ b → Goal lines → GoodScript setting (suc (length lines)) script
     by true skipped onward =
         let read : script_in (n + 1) setting lines ≡ Ok script =
-        sym (ap (λ (x : StepNext). from_line true (stands_well line lines) n setting x
+        sym (ap (λ (x : StepNext). script_from_line true (stands_well line lines) n setting x
         (λ s. script_in (n + 1) s lines)) (skips line setting skipped))
-        ∙ sym (ap (λ (b : Bool). from_line b (stands_well line lines) n setting (next_of setting line) (λ s. script_in (n + 1) s lines)) skipped) ∙ is in
+        ∙ sym (ap (λ (b : Bool). script_from_line b (stands_well line lines) n setting (steps_of_line setting line) (λ s. script_in (n + 1) s lines)) skipped)
+        ∙ is in
         more-lines setting (length lines) script (onward (n + 1) setting script good read)
     by false written onward =
-        good-from n setting line lines script onward good (next_of setting line) (good-line setting line good) (stands_well line lines)
-        (sym (ap (λ (b : Bool). from_line b (stands_well line lines) n setting (next_of setting line) (λ s. script_in (n + 1) s lines)) written) ∙ is)
+        good-from n setting line lines script onward good (steps_of_line setting line) (good-line setting line good) (stands_well line lines)
+        (sym (ap (λ (b : Bool). script_from_line b (stands_well line lines) n setting (steps_of_line setting line) (λ s. script_in (n + 1) s lines)) written)
+        ∙ is)
 
 -- ---- sheets
 
@@ -212,7 +215,7 @@ behind-few (line ∷ lines) more is = by (bytes_eq line separator) is (behind-fe
     by true is few = let same : lines ≡ more = cc is in let many = ap length same in omega (arith, many)
     by false is few = let most = few is in omega (arith, most)
 
-joined-ok : (n : ℕ) (r : Outcome) (lines : Option (List (List ℕ))) (sheet : Sheet) → joined n r lines ≡ Ok sheet
+joined-ok : (n : ℕ) (r : Outcome) (lines : Option (List (List ℕ))) (sheet : Sheet) → sheet_joined n r lines ≡ Ok sheet
     → (r ≡ Ok sheet.script) × (lines ≡ Some sheet.lines)
 joined-ok n (Err fault) lines sheet is = cc is
 joined-ok n (Ok script) None sheet is = cc is

@@ -22,17 +22,17 @@ use Rattle.group_calls.specs.declared.event.Event.TheVariants as happens
 use Rattle.group_run.specs.Meaning.{Logged, is_update_of, runs_left, updates_from}
 use Rattle.group_run.specs.World.{front_if}
 use Rattle.scenario_text.specs.Texts.{answer_text, entry_text, shown_text}
-use Rattle.transcript_text.specs.Forms.{FitsAnswer, MayAnswer, kind_of}
+use Rattle.transcript_text.specs.Forms.{FitsAnswer, MayAnswer, kind_of_event}
 use Rattle.transcript_text.specs.Texts.{FitsNumber}
 use Rattle.run_verify.specs.Changes.{space_behind}
 use Rattle.run_verify.specs.Checked.{AreWellShown, IsWellShown}
-use Rattle.run_verify.specs.Passing.{Account, Answers, PassAll, PassesBy, State, TellsBytes, after_answer, begins_entry}
+use Rattle.run_verify.specs.Passing.{Account, JudgingState, PassAll, PassesBy, TellsAnswer, TellsBytes, after_answer, begins_entry}
 use Rattle.run_verify.specs.Passing.{changes_at, dues_from, on_to, with_shown}
 use Rattle.run_verify.specs.Plain.{EndsPlacing, FitSteps}
 use Rattle.run_verify.specs.Sheet.{Sheet}
 use Rattle.run_verify.specs.Told.{Made, Drained, Shown, Lost, Down, Placed}
 use Rattle.run_verify.specs.Told.{IsDelivery, TellAll, Told, count_placed, drained_line, lines_told, place_lines, placed_line, runs_told, turns_told}
-use Rattle.run_verify.specs.Updates.{IsStampOf, StandRight, space_after, updates_by}
+use Rattle.run_verify.specs.Updates.{IsStampOf, StandRight, space_after_updates, updates_by}
 use Rattle.run_verify.specs.declared.step.Step.{Step}
 use Rattle.run_verify.specs.declared.step.Step.TheVariants.{Make, Deliveries, Look, Placing}
 use Rattle.run_verify.proofs.ExactEntries.{Checks, Now}
@@ -139,7 +139,7 @@ module _ (sheet : Sheet) (turns : List Turn) (runs : List (List (Option Run))) (
   shows before after a p run stamp bytes is now within (can, bytes_are) =
       let counts : (d : ℕ) → d < s.k → length (updates_by s runs (log_of before) d) ≡ length (changes_at a d) =
       λ d below. sym (length-same (changes_at a d) (updates_by s runs (log_of before) d) (now.changes d below)) in
-      let spaces : (d n : ℕ) → d < s.k → space_after s (updates_by s runs (log_of before) d) n
+      let spaces : (d n : ℕ) → d < s.k → space_after_updates s (updates_by s runs (log_of before) d) n
       ≡ space_behind s (take n (changes_at a d)) =
       λ d n below. sym (spaces-same s (changes_at a d) (updates_by s runs (log_of before) d) n
       (now.changes d below)) in
@@ -151,7 +151,7 @@ module _ (sheet : Sheet) (turns : List Turn) (runs : List (List (Option Run))) (
             (λ d below. let most = updates-few s.k d (log_of before) (empty_table s.k) (at [] runs d) in
             omega (arith, most, few)) within can;
         text = ap (shown_text stamp)
-            (bytes_are ∙ shown-same s (λ d n. space_after s (updates_by s runs (log_of before) d) n)
+            (bytes_are ∙ shown-same s (λ d n. space_after_updates s (updates_by s runs (log_of before) d) n)
             (λ d n. space_behind s (take n (changes_at a d))) (λ d. length (updates_by s runs (log_of before) d)) p run
             stamp spaces within can);
       }
@@ -211,7 +211,7 @@ module _ (sheet : Sheet) (turns : List Turn) (runs : List (List (Option Run))) (
       × PassAll sheet (state a steps logging) (lines_told more) final
 
   made-passes : (event : Event) (t : Turn) (steps : List Step) (more : List Told) (before : List Turn) (a : Account)
-      (logging : Bool) → turns ≡ before ++ t ∷ turns_told more → t.event ≡ event → MayAnswer (kind_of event) t.answer
+      (logging : Bool) → turns ≡ before ++ t ∷ turns_told more → t.event ≡ event → MayAnswer (kind_of_event event) t.answer
       → FitsAnswer t.answer
       → NowFor a before → Onward steps more (before ++ t ∷ []) → (final : Account)
       × PassAll sheet (state a (Make event ∷ steps) logging) (lines_told (Made t ∷ more)) final
@@ -223,9 +223,9 @@ module _ (sheet : Sheet) (turns : List Turn) (runs : List (List (Option Run))) (
       let right = answer_right sheet turns runs c before t (turns_told more) is a now
       (fits-go sheet t.logged (after_answer a t.event t.answer) go.0 go.1) (lines_told more) event t.answer event_is
       refl may in
-      let next : State = state (after_answer a event t.answer) steps true in
+      let next : JudgingState = state (after_answer a event t.answer) steps true in
       let ahead : List (List ℕ) = map entry_text t.logged ++ lines_told more in
-      let answers : Answers a event (answer_text t.answer) ahead t.answer = record { can = may; fits = fits; text = refl; right = right } in (
+      let answers : TellsAnswer a event (answer_text t.answer) ahead t.answer = record { can = may; fits = fits; text = refl; right = right } in (
         rest.0,
         (
           next,

@@ -9,7 +9,7 @@ use Rattle.group_types.specs.declared.process.ProcessId.{ProcessId}
 use Rattle.group_types.specs.declared.run.Run.{Run}
 use Rattle.memc_table.specs.Asked.{Asked}
 use Rattle.memc_table.specs.declared.reply.Reply.{Reply}
-use Rattle.group_calls.specs.Turns.{CallName, Turn, accepts, asks_of, entry_of, log_of, name_of}
+use Rattle.group_calls.specs.Turns.{CallName, Turn, accepts, asks_of, call_entry, log_of, name_of}
 use Rattle.group_calls.specs.Within.{Fetches, IsAsk, IsLoggedSince}
 use Rattle.group_calls.specs.declared.entry.Entry.{Entry}
 use Rattle.group_calls.specs.declared.event.Answer.{Answer}
@@ -17,9 +17,9 @@ use Rattle.group_calls.specs.declared.event.Answer.TheVariants as answered
 use Rattle.group_calls.specs.declared.event.Event.{Event}
 use Rattle.group_calls.specs.declared.event.Event.TheVariants as happens
 use Rattle.scenario_text.specs.Texts.{entry_text, reply_text}
-use Rattle.transcript_text.specs.Forms.{MayAnswer, kind_of}
-use Rattle.run_verify.specs.Passing.{Account, IsReplyTo, IsRight, IsThere, IsToldRun, LogsAhead, MayLog, PassAll, State}
-use Rattle.run_verify.specs.Passing.{TellsEntry, after_answer, after_entry, call_of, front_of, logged_reply, next_name}
+use Rattle.transcript_text.specs.Forms.{MayAnswer, kind_of_event}
+use Rattle.run_verify.specs.Passing.{Account, IsAnswerRight, IsEntryThere, IsReplyTo, IsToldRun, JudgingState, LogsAhead, MayLog, PassAll}
+use Rattle.run_verify.specs.Passing.{LineTellsEntry, account_after_entry, after_answer, call_named, entry_front, logged_reply, next_call_name}
 use Rattle.run_verify.specs.Passing.{with_account}
 use Rattle.run_verify.specs.Sheet.{Sheet}
 use Rattle.run_verify.specs.declared.call.Call.{Call}
@@ -35,29 +35,29 @@ use Rattle.run_verify.proofs.ImpliedShadow.{log-append}
 -- entries pass one after the other
 abbrev pub LogsGo : Sheet → Account → List Entry → Account → Type 0
 LogsGo sheet a [] b = a ≡ b
-LogsGo sheet a (e ∷ es) b = (run : Option Run) × TellsEntry a (entry_text e) e × IsToldRun (accepts e.reply) sheet a e
-    run × LogsGo sheet (after_entry sheet a e run) es b
+LogsGo sheet a (e ∷ es) b = (run : Option Run) × LineTellsEntry a (entry_text e) e × IsToldRun (accepts e.reply) sheet a e
+    run × LogsGo sheet (account_after_entry sheet a e run) es b
 
 pub go-append : (sheet : Sheet) (es fs : List Entry) (a b c : Account) → LogsGo sheet a es b → LogsGo sheet b fs c → LogsGo sheet a (es ++ fs) c
 go-append sheet [] fs a b c same go = subst (λ (x : Account). LogsGo sheet x fs c) (sym same) go
-go-append sheet (e ∷ es) fs a b c (run, tells, told, rest) go = (run, tells, told, go-append sheet es fs (after_entry sheet a e run) b c rest go)
+go-append sheet (e ∷ es) fs a b c (run, tells, told, rest) go = (run, tells, told, go-append sheet es fs (account_after_entry sheet a e run) b c rest go)
 
 -- so do their lines
-pub logs-pass : (sheet : Sheet) (es : List Entry) (s : State) (b final : Account) (rest : List (List ℕ)) → MayLog s
+pub logs-pass : (sheet : Sheet) (es : List Entry) (s : JudgingState) (b final : Account) (rest : List (List ℕ)) → MayLog s
     → LogsGo sheet s.account es b → PassAll sheet (with_account s b) rest final
     → PassAll sheet s (map entry_text es ++ rest) final
 logs-pass sheet [] s b final rest may same passes = subst (λ (x : Account). PassAll sheet (with_account s x) rest final) (sym same) passes
 logs-pass sheet (e ∷ es) s b final rest may (run, tells, told, go) passes = (
-  with_account s (after_entry sheet s.account e run),
+  with_account s (account_after_entry sheet s.account e run),
   (may, e, run, tells, told, refl),
-  logs-pass sheet es (with_account s (after_entry sheet s.account e run)) b final rest may go passes,
+  logs-pass sheet es (with_account s (account_after_entry sheet s.account e run)) b final rest may go passes,
 )
 
 pub fits-go : (sheet : Sheet) (es : List Entry) (a b : Account) → LogsGo sheet a es b → AllFit es
 fits-go sheet [] a b go = tt
 fits-go sheet (e ∷ es) a b (run, tells, told, go) = (
   record { caller = tells.named.0; call = tells.named.1; reply = tells.fits },
-  fits-go sheet es (after_entry sheet a e run) b go,
+  fits-go sheet es (account_after_entry sheet a e run) b go,
 )
 
 take-front : {A : Type 0} (xs ys : List A) → take (length xs) (xs ++ ys) ≡ xs
@@ -111,8 +111,8 @@ module _ (sheet : Sheet) (turns : List Turn) (runs : List (List (Option Run))) (
       }
 
   entry-passes : (done more : List Entry) (e : Entry) (a : Account) → t.logged ≡ done ++ e ∷ more → Now sheet runs a hs (log_of before ++ done)
-      → (run : Option Run) × TellsEntry a (entry_text e) e × IsToldRun (accepts e.reply) sheet a e run
-      × Now sheet runs (after_entry sheet a e run) hs ((log_of before ++ done) ++ e ∷ [])
+      → (run : Option Run) × LineTellsEntry a (entry_text e) e × IsToldRun (accepts e.reply) sheet a e run
+      × Now sheet runs (account_after_entry sheet a e run) hs ((log_of before ++ done) ++ e ∷ [])
   entry-passes done more e a logged now =
       let inside : Contains t.logged e = subst (λ (es : List Entry). Contains es e) (sym logged) (contains-middle done more e) in
       let asked = c.within.asked (length before) t e turn-there inside in
@@ -130,8 +130,8 @@ module _ (sheet : Sheet) (turns : List Turn) (runs : List (List (Option Run))) (
   logs_go [] done a logged now = (a, refl, subst (λ (es : List Entry). Now sheet runs a hs (log_of before ++ es)) (sym (logged ∙ append-nil done)) now)
   logs_go (e ∷ more) done a logged now =
       let one = entry-passes done more e a logged now in
-      let rest = logs_go more (done ++ e ∷ []) (after_entry sheet a e one.0) (logged ∙ sym (append_assoc done (e ∷ []) more))
-      (subst (λ (es : List Entry). Now sheet runs (after_entry sheet a e one.0) hs es) (append_assoc (log_of before) done (e ∷ [])) one.3) in
+      let rest = logs_go more (done ++ e ∷ []) (account_after_entry sheet a e one.0) (logged ∙ sym (append_assoc done (e ∷ []) more))
+      (subst (λ (es : List Entry). Now sheet runs (account_after_entry sheet a e one.0) hs es) (append_assoc (log_of before) done (e ∷ [])) one.3) in
       (rest.0, (one.0, one.1, one.2, rest.1), rest.2)
 
   -- ---- the answer
@@ -149,14 +149,14 @@ module _ (sheet : Sheet) (turns : List Turn) (runs : List (List (Option Run))) (
 
     -- an entry that this turn logged is found ahead
     found-ahead : (i : ℕ) (name : CallName) (op : Asked) (reply : Reply)
-        → slice_get t.logged i ≡ Some (entry_of name op reply) → name.caller < callers → name.call < 2 ^ 64
-        → LogsAhead (front_of name) (reply_text reply) ahead
-    found-ahead i name op reply is fc fn = logs-ahead t.logged rest i (entry_of name op reply) fit named-apart fc fn is
+        → slice_get t.logged i ≡ Some (call_entry name op reply) → name.caller < callers → name.call < 2 ^ 64
+        → LogsAhead (entry_front name) (reply_text reply) ahead
+    found-ahead i name op reply is fc fn = logs-ahead t.logged rest i (call_entry name op reply) fit named-apart fc fn is
 
     at-once : (caller : ℕ) (op : Asked) (p : ProcessId) (reply : Reply) → t.event ≡ happens.Ask caller op p
-        → t.answer ≡ answered.Reply reply → LogsAhead (front_of (next_name a caller)) (reply_text reply) ahead
+        → t.answer ≡ answered.Reply reply → LogsAhead (entry_front (next_call_name a caller)) (reply_text reply) ahead
     at-once caller op p reply event answer =
-        let name : CallName = next_name a caller in
+        let name : CallName = next_call_name a caller in
         let front = ap (take (length before)) turns_are ∙ take-front before (t ∷ after) in
         let ask : IsAsk turns (length before) t name op =
         record {
@@ -166,7 +166,7 @@ module _ (sheet : Sheet) (turns : List Turn) (runs : List (List (Option Run))) (
           place = ap (asks_of caller) front
               ∙ sym (asks-heads caller 0 before) ∙ sym (now.stands.many caller);
         } in
-        let entry = get-contains t.logged (entry_of name op reply) (c.within.at_once (length before) t name op reply ask answer) in
+        let entry = get-contains t.logged (call_entry name op reply) (c.within.at_once (length before) t name op reply ask answer) in
         let fits : FitsAsk (happens.Ask caller op p) = subst FitsAsk event (c.fits (length before) t turn-there) in
         found-ahead entry.0 name op reply entry.1 fits.0 (c.few caller (length before) t name op ask)
 
@@ -179,46 +179,46 @@ module _ (sheet : Sheet) (turns : List Turn) (runs : List (List (Option Run))) (
         ∙ ap log_of (take-front (before ++ t ∷ []) after) ∙ log-push before t
 
     later : (name : CallName) (reply : Reply) → Fetches t.event name → t.answer ≡ answered.Reply reply
-        → name.caller < callers → name.call < 2 ^ 64 → IsThere (logged_reply a name) name reply ahead
+        → name.caller < callers → name.call < 2 ^ 64 → IsEntryThere (logged_reply a name) name reply ahead
     later name reply fetches answer fc fn =
-        by (get-parts (log_of before) t.logged since.place (entry_of name since.op reply)
-        (subst (λ (es : List Entry). slice_get es since.place ≡ Some (entry_of name since.op reply)) log-next
+        by (get-parts (log_of before) t.logged since.place (call_entry name since.op reply)
+        (subst (λ (es : List Entry). slice_get es since.place ≡ Some (call_entry name since.op reply)) log-next
         since.entry))
       where
         since : IsLoggedSince turns (length before) name reply
         since = c.within.later (length before) t name reply turn-there fetches answer
 
         -- it was logged before, or isn't logged yet
-        not-yet : (j : ℕ) → slice_get t.logged j ≡ Some (entry_of name since.op reply) → (o : Option Call)
-            → call_of a name ≡ o → IsThere (option_and_then (λ call. call.reply) o) name reply ahead
+        not-yet : (j : ℕ) → slice_get t.logged j ≡ Some (call_entry name since.op reply) → (o : Option Call)
+            → call_named a name ≡ o → IsEntryThere (option_and_then (λ call. call.reply) o) name reply ahead
         not-yet j there None is = found-ahead j name since.op reply there fc fn
         not-yet j there (Some call) is = replies call.reply refl
           where
-            replies : (r : Option Reply) → call.reply ≡ r → IsThere r name reply ahead
+            replies : (r : Option Reply) → call.reply ≡ r → IsEntryThere r name reply ahead
             replies None none = found-ahead j name since.op reply there fc fn
             replies (Some logged) some =
                 let behind = (now.stands.asked name call is).logged logged some in
-                let inside = get-within (log_of before) behind.0 (entry_of name call.op logged) behind.1 in
-                let first : slice_get (log_of turns) behind.0 ≡ Some (entry_of name call.op logged) =
+                let inside = get-within (log_of before) behind.0 (call_entry name call.op logged) behind.1 in
+                let first : slice_get (log_of turns) behind.0 ≡ Some (call_entry name call.op logged) =
                 rw log-parts (get-front (log_of before) (t.logged ++ log_of after) behind.0 _ behind.1) in
                 let second : slice_get (log_of turns) (length (log_of before) + j)
-                ≡ Some (entry_of name since.op reply) =
+                ≡ Some (call_entry name since.op reply) =
                 rw log-parts (get-append (log_of before) (t.logged ++ log_of after) j _
                 (get-front t.logged (log_of after) j _ there)) in
-                absurd (c.within.once behind.0 (length (log_of before) + j) (entry_of name call.op logged)
-                (entry_of name since.op reply) (omega (arith, inside)) first second refl)
+                absurd (c.within.once behind.0 (length (log_of before) + j) (call_entry name call.op logged)
+                (call_entry name since.op reply) (omega (arith, inside)) first second refl)
 
-        by : (slice_get (log_of before) since.place ≡ Some (entry_of name since.op reply))
-            ⊎ ((j : ℕ) × (slice_get t.logged j ≡ Some (entry_of name since.op reply)))
-            → IsThere (logged_reply a name) name reply ahead
+        by : (slice_get (log_of before) since.place ≡ Some (call_entry name since.op reply))
+            ⊎ ((j : ℕ) × (slice_get t.logged j ≡ Some (call_entry name since.op reply)))
+            → IsEntryThere (logged_reply a name) name reply ahead
         by (inl before_is) =
-            let logged = now.stands.logged since.place (entry_of name since.op reply) before_is in
+            let logged = now.stands.logged since.place (call_entry name since.op reply) before_is in
             let reply_is : logged_reply a name ≡ Some reply = ap (λ (o : Option Call). option_and_then (λ call. call.reply) o) logged in
             rw reply_is refl
-        by (inr (j, there)) = not-yet j there (call_of a name) refl
+        by (inr (j, there)) = not-yet j there (call_named a name) refl
 
     reply-right : (event : Event) (reply : Reply) → t.event ≡ event → t.answer ≡ answered.Reply reply
-        → MayAnswer (kind_of event) (answered.Reply reply) → IsReplyTo a event reply ahead
+        → MayAnswer (kind_of_event event) (answered.Reply reply) → IsReplyTo a event reply ahead
     reply-right (happens.Ask caller op p) reply event answer may = at-once caller op p reply event answer
     reply-right (happens.Collect caller call p) reply event answer may =
         let fits : FitsAsk (happens.Collect caller call p) = subst FitsAsk event (c.fits (length before) t turn-there) in
@@ -234,7 +234,8 @@ module _ (sheet : Sheet) (turns : List Turn) (runs : List (List (Option Run))) (
     reply-right (happens.Fail p keep) reply event answer may = cc may
     reply-right (happens.Flush p) reply event answer may = cc may
 
-    pub answer_right : (event : Event) (answer : Answer) → t.event ≡ event → t.answer ≡ answer → MayAnswer (kind_of event) answer → IsRight a event answer ahead
+    pub answer_right : (event : Event) (answer : Answer) → t.event ≡ event → t.answer ≡ answer → MayAnswer (kind_of_event event) answer
+        → IsAnswerRight a event answer ahead
     answer_right event (answered.Reply reply) event_is answer_is may = reply-right event reply event_is answer_is may
     answer_right event (answered.Ticket n) event_is answer_is may = tt
     answer_right event answered.NotYet event_is answer_is may = tt

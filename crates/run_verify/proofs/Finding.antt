@@ -11,7 +11,7 @@ use Rattle.transcript_text.specs.Texts.{FitsPlace, text_of_place}
 use Rattle.transcript_text.specs.declared.place.Place.{Place}
 use Rattle.transcript_text.proofs.Cuts.{cut_same}
 use Rattle.transcript_text.proofs.Numbers.{Lacks-decimal}
-use Rattle.run_verify.specs.Passing.{FitsRun, IsRunIn}
+use Rattle.run_verify.specs.Passing.{IsRunIn, RunFitsValue}
 use Rattle.run_verify.specs.Runs.{ArePlacesOf, IsRunAmong, Names}
 
 abbrev pub numbers : ℕ → ℕ → Run → List ℕ
@@ -47,13 +47,13 @@ place_same p d n run (fd, fn, fa, fl) gd gn ga gl same =
 
 module _ (s : Dimensions) (d number len : ℕ) (low : d < 2 ^ 32) (few : number < 2 ^ 64) (small : space_of s < 2 ^ 32) where
   -- a fitting run in the line of a place is that place's
-  names-of : (p : Place) (run : Run) → FitsPlace p → text_of_place p ≡ place_text d number run → FitsRun s len run → Names s d number len p
+  names-of : (p : Place) (run : Run) → FitsPlace p → text_of_place p ≡ place_text d number run → RunFitsValue s len run → Names s d number len p
   names-of p run fits same fit =
       let is = place_same p d number run fits low few (let f = fit.1 in omega (arith, f, small)) (let f = fit.1 in omega (arith, f, small)) same in
       let a = is.at_is in let l = is.len_is in let f0 = fit.0 in let f1 = fit.1 in
       record { partition = is.partition; number_is = is.number; fits = (l ∙ f0, omega (arith, a, l, f1)) }
 
-  no_place : (line : List ℕ) → ((p : Place) → FitsPlace p → text_of_place p ≢ line) → (run : Run) → line ≡ place_text d number run → ¬ (FitsRun s len run)
+  no_place : (line : List ℕ) → ((p : Place) → FitsPlace p → text_of_place p ≢ line) → (run : Run) → line ≡ place_text d number run → ¬ (RunFitsValue s len run)
   no_place line none run same fit =
       let f = fit.1 in
       none (record { partition = d; number = number; run = run }) (low, few, omega (arith, f, small), omega (arith, f, small)) (sym same)

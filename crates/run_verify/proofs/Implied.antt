@@ -4,7 +4,7 @@ use Rattle.group_types.specs.declared.run.Run.{Run}
 use Rattle.group_calls.specs.Turns.{log_of}
 use Rattle.run_verify.specs.Checked.{ArePlaced, AreWellShown, IsChecked}
 use Rattle.run_verify.specs.Passing.{Account, PassAll, first_account, first_state}
-use Rattle.run_verify.specs.Plain.{IsPlain}
+use Rattle.run_verify.specs.Plain.{IsPlainScript}
 use Rattle.run_verify.specs.Sheet.{Sheet}
 use Rattle.run_verify.specs.Told.{turns_told}
 use Rattle.run_verify.proofs.ImpliedShadow.{shadow-course}
@@ -13,7 +13,7 @@ use Rattle.run_verify.proofs.ImpliedStands.{stands-first}
 use Rattle.run_verify.proofs.ImpliedSteps.{course_of, tells_all}
 use Rattle.run_verify.proofs.ImpliedWithin.{legal-course, replies-within, right-course}
 
-pub passes-checked : (sheet : Sheet) (account : Account) → IsPlain sheet.script
+pub passes-checked : (sheet : Sheet) (account : Account) → IsPlainScript sheet.script
     → PassAll sheet (first_state sheet.script) sheet.lines account → IsChecked sheet.script sheet.lines
 passes-checked sheet account plain passes =
     let first : Account = first_account sheet.script.shape.k in

@@ -7,7 +7,7 @@ use Rattle.group_calls.specs.declared.entry.Entry.{Entry}
 use Rattle.scenario_text.specs.Texts.{entry_text, name_text, reply_text}
 use Rattle.transcript_text.specs.Forms.{FitsReply}
 use Rattle.transcript_text.proofs.Entries.{FitsEntry, entry-tells}
-use Rattle.run_verify.specs.Passing.{LogsAhead, front_of}
+use Rattle.run_verify.specs.Passing.{LogsAhead, entry_front}
 use Rattle.run_verify.proofs.ImpliedCourse.{NoEntry}
 
 -- all entries are within their limits
@@ -32,8 +32,8 @@ none-ahead (line ∷ rest) front reply plain ahead = cc (sym plain ∙ ahead.0)
 
 pub ahead_is : (es : List Entry) (rest : List (List ℕ)) (name : CallName) (reply : Reply) → AllFit es
     → name.caller < callers → name.call < 2 ^ 64 → FitsReply reply → NoEntry rest
-    → LogsAhead (front_of name) (reply_text reply) (map entry_text es ++ rest) → IsAmong es name reply
-ahead_is [] rest name reply fit fc fn fr plain ahead = absurd (none-ahead rest (front_of name) (reply_text reply) plain ahead)
+    → LogsAhead (entry_front name) (reply_text reply) (map entry_text es ++ rest) → IsAmong es name reply
+ahead_is [] rest name reply fit fc fn fr plain ahead = absurd (none-ahead rest (entry_front name) (reply_text reply) plain ahead)
 ahead_is (e ∷ es) rest name reply fit fc fn fr plain (begins, found) = elim found [
   | inl here ↦
       let line : entry_text e ≡ name_text name.caller name.call 0 ++ (here.0 ++ codes " " ++ reply_text reply) =

@@ -10,8 +10,8 @@ use Rattle.memc_table.specs.declared.act.Act.TheVariants.{Get, Set, Add, Replace
 use Rattle.memc_table.specs.declared.holding.Holding.{Holding}
 use Rattle.group_calls.specs.Turns.{accepts}
 use Rattle.group_calls.specs.declared.entry.Entry.{Entry}
-use Rattle.group_run.specs.Meaning.{Logged, run_after, run_on, run_unless, space_from, written}
-use Rattle.run_verify.specs.Changes.{run_behind, run_by, run_if, space_behind, written_by}
+use Rattle.group_run.specs.Meaning.{Logged, item_run_after, run_on, run_unless, space_from, written}
+use Rattle.run_verify.specs.Changes.{run_after_changes, run_by, run_if, space_behind, written_by}
 use Rattle.run_verify.specs.Changes as changes
 use Rattle.run_verify.specs.Passing.{effect_of, value_in}
 use Rattle.run_verify.specs.Updates.{brings_value}
@@ -73,12 +73,12 @@ written-same (Writes value None) u space run_is kind = rw run_is refl
 written-same Removes u space run_is kind = rw run_is refl
 written-same Keeps u space run_is kind = rw run_is refl
 
-space-same : (cs : List Change) (us : List Logged) (space : List ℕ) → MatchAll cs us → changes.space_after space cs ≡ space_from space us
+space-same : (cs : List Change) (us : List Logged) (space : List ℕ) → MatchAll cs us → changes.space_after_changes space cs ≡ space_from space us
 space-same [] [] space all = refl
 space-same [] (u ∷ us) space all = absurd all
 space-same (c ∷ cs) [] space all = absurd all
 space-same (c ∷ cs) (u ∷ us) space (one, all) =
-    ap (λ (x : List ℕ). changes.space_after x cs) (written-same c.effect u space one.run one.kind) ∙ space-same cs us (written u.run u.item space) all
+    ap (λ (x : List ℕ). changes.space_after_changes x cs) (written-same c.effect u space one.run one.kind) ∙ space-same cs us (written u.run u.item space) all
 
 take-matches : (n : ℕ) (cs : List Change) (us : List Logged) → MatchAll cs us → MatchAll (take n cs) (take n us)
 take-matches zero cs us all = tt
@@ -105,19 +105,19 @@ runs-same (c ∷ cs) [] all = absurd all
 runs-same (c ∷ cs) (u ∷ us) (one, all) = let run = one.run in let rest = runs-same cs us all in cc (run, rest)
 
 run-after : (effect : Effect) (u : Logged) (old : Option Run) → u.run ≡ run_told effect
-    → IsKind effect u.item (brings_value u.entry.op.act) → run_by effect old ≡ run_after u.item u.run old
+    → IsKind effect u.item (brings_value u.entry.op.act) → run_by effect old ≡ item_run_after u.item u.run old
 run-after (Writes value (Some run)) u old run_is (h, item, same, brings) = rw (run_is, item) refl
 run-after (Writes value None) u old run_is (h, item, same, brings) = rw (run_is, item) refl
 run-after Removes u old run_is (item, brings) = rw item refl
 run-after Keeps u old run_is (h, item, brings) = rw (run_is, item) refl
 
 run-unless : (b : Bool) (effect : Effect) (u : Logged) (old : Option Run)
-    → run_by effect old ≡ run_after u.item u.run old → run_if b effect old ≡ run_unless b u old
+    → run_by effect old ≡ item_run_after u.item u.run old → run_if b effect old ≡ run_unless b u old
 run-unless true effect u old same = same
 run-unless false effect u old same = refl
 
 -- the same run of a key's item
-pub item-run : (key : List ℕ) (cs : List Change) (us : List Logged) (old : Option Run) → MatchAll cs us → run_behind key old cs ≡ run_on key old us
+pub item-run : (key : List ℕ) (cs : List Change) (us : List Logged) (old : Option Run) → MatchAll cs us → run_after_changes key old cs ≡ run_on key old us
 item-run key [] [] old all = refl
 item-run key [] (u ∷ us) old all = absurd all
 item-run key (c ∷ cs) [] old all = absurd all
@@ -126,7 +126,7 @@ item-run key (c ∷ cs) (u ∷ us) old (one, all) =
     ap (λ (k : List ℕ). run_if (same_key k key) c.effect old) one.key
     ∙ run-unless (same_key (key_of u.entry.op.act) key) c.effect u old
     (run-after c.effect u old one.run one.kind) in
-    ap (λ (o : Option Run). run_behind key o cs) step ∙ item-run key cs us (run_unless (same_key (key_of u.entry.op.act) key) u old) all
+    ap (λ (o : Option Run). run_after_changes key o cs) step ∙ item-run key cs us (run_unless (same_key (key_of u.entry.op.act) key) u old) all
 
 pub push-matches : (cs : List Change) (us : List Logged) (c : Change) (u : Logged) → MatchAll cs us → Matches c u → MatchAll (cs ++ c ∷ []) (us ++ u ∷ [])
 push-matches [] [] c u all one = (one, tt)

@@ -7,8 +7,8 @@ use Rattle.group_types.specs.Dimensions.{Dimensions}
 use Rattle.group_types.specs.declared.run.Run.{Run}
 use Rattle.group_calls.specs.declared.entry.Entry.{Entry}
 use Rattle.scenario_text.specs.Texts.{entry_text, place_text}
-use Rattle.run_verify.specs.Passing.{Account, State, PassesBy, Due, MayLog, PassAll, PassesPlace, PassesStep}
-use Rattle.run_verify.specs.Passing.{TellsEntry, TellsRun, after_entry, begins_entry, dues_from, on_to, with_account}
+use Rattle.run_verify.specs.Passing.{Account, JudgingState, PassesBy, DuePlace, MayLog, PassAll, PassesPlace, PassesStep}
+use Rattle.run_verify.specs.Passing.{LineTellsEntry, TellsRun, account_after_entry, begins_entry, dues_from, on_to, with_account}
 use Rattle.run_verify.specs.Passing.{with_placed}
 use Rattle.run_verify.specs.Sheet.{Sheet}
 use Rattle.run_verify.specs.Told.{placed_line}
@@ -23,10 +23,10 @@ NoEntry (line ∷ lines) = begins_entry line ≡ false
 -- entries lead from an account to another one
 abbrev pub LogsTo : Sheet → Account → List Entry → Account → Type 0
 LogsTo sheet a [] final = a ≡ final
-LogsTo sheet a (e ∷ es) final = (run : Option Run) × TellsEntry a (entry_text e) e × LogsTo sheet (after_entry sheet a e run) es final
+LogsTo sheet a (e ∷ es) final = (run : Option Run) × LineTellsEntry a (entry_text e) e × LogsTo sheet (account_after_entry sheet a e run) es final
 
 -- the lines of the log right ahead, and what is behind them
-pub record Logs (sheet : Sheet) (s : State) (lines : List (List ℕ)) (final : Account) : Type 0 where
+pub record Logs (sheet : Sheet) (s : JudgingState) (lines : List (List ℕ)) (final : Account) : Type 0 where
   pub entries : List Entry
   pub rest : List (List ℕ)
   pub account : Account
@@ -35,13 +35,14 @@ pub record Logs (sheet : Sheet) (s : State) (lines : List (List ℕ)) (final : A
   pub plain : NoEntry rest
   pub passes : PassAll sheet (with_account s account) rest final
 
-pub logs_ahead : (sheet : Sheet) (lines : List (List ℕ)) (s : State) (final : Account) → MayLog s → PassAll sheet s lines final → Logs sheet s lines final
+pub logs_ahead : (sheet : Sheet) (lines : List (List ℕ)) (s : JudgingState) (final : Account) → MayLog s → PassAll sheet s lines final
+    → Logs sheet s lines final
 logs_ahead sheet [] s final may passes = record { entries = []; rest = []; account = s.account; text = refl; logs = refl; plain = tt; passes = passes }
 logs_ahead sheet (line ∷ lines) s final may (next, first, passes) =
     by (begins_entry line) refl first (λ s' may' passes'. logs_ahead sheet lines s' final may' passes')
   where
     by : (b : Bool) → begins_entry line ≡ b → PassesBy b sheet s line lines next
-        → ((s' : State) → MayLog s' → PassAll sheet s' lines final → Logs sheet s' lines final)
+        → ((s' : JudgingState) → MayLog s' → PassAll sheet s' lines final → Logs sheet s' lines final)
         → Logs sheet s (line ∷ lines) final
     by false is first onward = record {
       entries = [];
@@ -53,7 +54,8 @@ logs_ahead sheet (line ∷ lines) s final may (next, first, passes) =
       passes = (next, rw is first, passes);
     }
     by true is (may', e, run, tells, told, same) onward =
-        let rest = onward (with_account s (after_entry sheet s.account e run)) may (subst (λ (n : State). PassAll sheet n lines final) same passes) in
+        let rest = onward (with_account s (account_after_entry sheet s.account e run)) may
+        (subst (λ (n : JudgingState). PassAll sheet n lines final) same passes) in
         let line_is = tells.text in
         let lines_are = rest.text in
         record {
@@ -71,11 +73,11 @@ pub record Turned (sheet : Sheet) (a : Account) (step : Step) (steps : List Step
   pub line : List ℕ
   pub rest : List (List ℕ)
   pub lines_are : lines ≡ line ∷ rest
-  pub next : State
+  pub next : JudgingState
   pub passes : PassesStep sheet a (step ∷ steps) line rest next
   pub onward : PassAll sheet next rest final
 
-abbrev pub state : Account → List Step → Bool → State
+abbrev pub state : Account → List Step → Bool → JudgingState
 state a steps logging = record { account = a; steps = steps; logging = logging }
 
 pub turned : (sheet : Sheet) (a : Account) (step : Step) (steps : List Step) (logging : Bool) (lines : List (List ℕ)) (final : Account)
@@ -85,7 +87,7 @@ turned sheet a step steps logging (line ∷ lines) final plain (next, first, pas
     record { line = line; rest = lines; lines_are = refl; next = next; passes = rw plain at first; onward = passes }
 
 -- where no line of the log may come, none comes
-pub no_entry : (sheet : Sheet) (s : State) (lines : List (List ℕ)) (final : Account) → ¬ (MayLog s) → PassAll sheet s lines final → NoEntry lines
+pub no_entry : (sheet : Sheet) (s : JudgingState) (lines : List (List ℕ)) (final : Account) → ¬ (MayLog s) → PassAll sheet s lines final → NoEntry lines
 no_entry sheet s [] final never passes = tt
 no_entry sheet s (line ∷ lines) final never (next, first, passes) = by (begins_entry line) refl first
   where
@@ -96,17 +98,17 @@ no_entry sheet s (line ∷ lines) final never (next, first, passes) = by (begins
 -- ---- places
 
 -- the lines of what is due
-abbrev pub due_line : Due → Run → List ℕ
+abbrev pub due_line : DuePlace → Run → List ℕ
 due_line due run = place_text due.partition due.number run
 
 -- each that is due has its run, which is clear, and its line
-abbrev pub AllTold : Dimensions → List Due → List (List ℕ) → Type 0
+abbrev pub AllTold : Dimensions → List DuePlace → List (List ℕ) → Type 0
 AllTold s [] [] = Unit {0}
 AllTold s (due ∷ dues) (line ∷ lines) = TellsRun s due line × AllTold s dues lines
 AllTold s [] (line ∷ lines) = ⊥
 AllTold s (due ∷ dues) [] = ⊥
 
-pub record Places (sheet : Sheet) (a : Account) (steps : List Step) (dues : List Due) (lines : List (List ℕ)) (final : Account) : Type 0 where
+pub record Places (sheet : Sheet) (a : Account) (steps : List Step) (dues : List DuePlace) (lines : List (List ℕ)) (final : Account) : Type 0 where
   pub places : List (List ℕ)
   pub told : AllTold sheet.script.shape dues places
   pub rest : List (List ℕ)
@@ -119,7 +121,7 @@ drop-step n [] y ys is = absurd (cc (sym (drop-nil n) ∙ is))
 drop-step zero (x ∷ xs) y ys is = cc is
 drop-step (suc n) (x ∷ xs) y ys is = drop-step n xs y ys is
 
-pub places_ahead : (sheet : Sheet) (dues : List Due) (a : Account) (steps : List Step) (logging : Bool) (lines : List (List ℕ)) (final : Account)
+pub places_ahead : (sheet : Sheet) (dues : List DuePlace) (a : Account) (steps : List Step) (logging : Bool) (lines : List (List ℕ)) (final : Account)
     → NoEntry lines → drop a.placed (dues_from a 0 sheet.script.shape.k) ≡ dues
     → PassAll sheet (state a (Placing ∷ steps) logging) lines final → Places sheet a steps dues lines final
 places_ahead sheet [] a steps logging lines final plain due passes =
@@ -133,12 +135,12 @@ places_ahead sheet [] a steps logging lines final plain due passes =
       rest = t.rest;
       text = rw (add-zero a.placed) (cc (line_is, lines_are));
       account = a;
-      passes = subst (λ (n : State). PassAll sheet n t.rest final) here.1 t.onward;
+      passes = subst (λ (n : JudgingState). PassAll sheet n t.rest final) here.1 t.onward;
     }
 places_ahead sheet (due ∷ dues) a steps logging lines final plain is passes =
     let t = turned sheet a Placing steps logging lines final plain passes in
     let here : PassesPlace sheet a steps (due ∷ dues) t.line t.next = rw is at t.passes in
-    let onward = subst (λ (n : State). PassAll sheet n t.rest final) here.1 t.onward in
+    let onward = subst (λ (n : JudgingState). PassAll sheet n t.rest final) here.1 t.onward in
     let never : ¬ (MayLog (on_to (with_placed a) (Placing ∷ steps))) = λ may. elim may [ inl log ↦ cc log | inr more ↦ cc more.1 ] in
     let next_is : a.placed + 1 ≡ suc a.placed = omega arith in
     let more = places_ahead sheet dues (with_placed a) steps false t.rest final

@@ -7,10 +7,10 @@ use Rattle.std.specs.Prelude.{⊤}
 use Rattle.group_types.specs.Dimensions.{Dimensions}
 use Rattle.group_types.specs.declared.run.Run.{Run}
 use Rattle.scenario_text.specs.Texts.{many_placed}
-use Rattle.run_verify.specs.Changes.{run_behind}
-use Rattle.run_verify.specs.Passing.{Account, Due, changes_at, due_for, dues_from, dues_of}
+use Rattle.run_verify.specs.Changes.{run_after_changes}
+use Rattle.run_verify.specs.Passing.{Account, DuePlace, changes_at, due_for, due_places_of, dues_from}
 use Rattle.run_verify.specs.Told.{count_placed, place_lines, run_lines}
-use Rattle.run_verify.specs.Updates.{IsClear}
+use Rattle.run_verify.specs.Updates.{IsClearRun}
 use Rattle.run_verify.specs.declared.change.Change.{Change}
 use Rattle.run_verify.specs.declared.change.Effect.{Effect}
 use Rattle.run_verify.specs.declared.change.Effect.TheVariants.{Writes, Removes, Keeps}
@@ -31,7 +31,7 @@ runs_of a d n = map (λ p. runs_for (changes_at a p)) (range_with_len d n)
 
 -- a value that is written has its run, which is clear
 abbrev pub IsClearBy : Dimensions → List Change → Effect → Type 0
-IsClearBy s before (Writes value run) = (r : Run) × (run ≡ Some r) × IsClear s (λ key. run_behind key None before) r (length value)
+IsClearBy s before (Writes value run) = (r : Run) × (run ≡ Some r) × IsClearRun s (λ key. run_after_changes key None before) r (length value)
 IsClearBy s before Removes = ⊤
 IsClearBy s before Keeps = ⊤
 
@@ -48,14 +48,14 @@ pub record Lined (s : Dimensions) (d : ℕ) (before changes : List Change) (many
 length-push : (before : List Change) (c : Change) → length (before ++ c ∷ []) ≡ suc (length before)
 length-push before c = length-append before (c ∷ []) ∙ omega arith
 
-pub lined : (s : Dimensions) (d : ℕ) (before changes : List Change) (places : List (List ℕ)) → AllTold s (dues_of d before changes) places
-    → Lined s d before changes (length (dues_of d before changes)) places
+pub lined : (s : Dimensions) (d : ℕ) (before changes : List Change) (places : List (List ℕ)) → AllTold s (due_places_of d before changes) places
+    → Lined s d before changes (length (due_places_of d before changes)) places
 lined s d before [] [] told = record { lines = refl; count = refl; clear = tt }
 lined s d before [] (line ∷ lines) told = absurd told
-lined s d before (c ∷ changes) places told = by c.effect refl (dues_of d (before ++ c ∷ []) changes) places told
+lined s d before (c ∷ changes) places told = by c.effect refl (due_places_of d (before ++ c ∷ []) changes) places told
     (λ lines told'. lined s d (before ++ c ∷ []) changes lines told')
   where
-    by : (e : Effect) → c.effect ≡ e → (dues : List Due) (lines : List (List ℕ)) → AllTold s (due_for d before e dues) lines
+    by : (e : Effect) → c.effect ≡ e → (dues : List DuePlace) (lines : List (List ℕ)) → AllTold s (due_for d before e dues) lines
         → ((more : List (List ℕ)) → AllTold s dues more → Lined s d (before ++ c ∷ []) changes (length dues) more)
         → Lined s d before (c ∷ changes) (length (due_for d before e dues)) lines
     by Removes is dues lines told onward =
@@ -80,14 +80,14 @@ lined s d before (c ∷ changes) places told = by c.effect refl (dues_of d (befo
 
 -- ---- all partitions
 
-pub record Split (s : Dimensions) (front behind : List Due) (places : List (List ℕ)) : Type 0 where
+pub record Split (s : Dimensions) (front behind : List DuePlace) (places : List (List ℕ)) : Type 0 where
   pub one : List (List ℕ)
   pub other : List (List ℕ)
   pub text : places ≡ one ++ other
   pub first : AllTold s front one
   pub more : AllTold s behind other
 
-pub split : (s : Dimensions) (front behind : List Due) (places : List (List ℕ)) → AllTold s (front ++ behind) places → Split s front behind places
+pub split : (s : Dimensions) (front behind : List DuePlace) (places : List (List ℕ)) → AllTold s (front ++ behind) places → Split s front behind places
 split s [] behind places told = record { one = []; other = places; text = refl; first = tt; more = told }
 split s (due ∷ front) behind [] told = absurd told
 split s (due ∷ front) behind (line ∷ places) (first, told) =
@@ -105,7 +105,7 @@ pub all_lined : (s : Dimensions) (a : Account) (d n : ℕ) (places : List (List 
 all_lined s a d zero [] told = record { lines = refl; count = refl; clear = λ p low high. absurd (omega (arith, low, high)) }
 all_lined s a d zero (line ∷ lines) told = absurd told
 all_lined s a d (suc n) places told =
-    let parts = split s (dues_of d [] (changes_at a d)) (dues_from a (d + 1) n) places told in
+    let parts = split s (due_places_of d [] (changes_at a d)) (dues_from a (d + 1) n) places told in
     let here = lined s d [] (changes_at a d) parts.one parts.first in
     let rest = all_lined s a (d + 1) n parts.other parts.more in
     let next : d + 1 ≡ suc d = omega arith in
@@ -113,7 +113,7 @@ all_lined s a d (suc n) places told =
       lines = parts.text ∙ ap (λ (t : List (List ℕ)). t ++ parts.other) here.lines
           ∙ ap (λ (t : List (List ℕ)). run_lines d 0 (runs_for (changes_at a d)) ++ t)
           (rest.lines ∙ ap (λ (m : ℕ). place_lines m (runs_of a (d + 1) n)) next);
-      count = length-append (dues_of d [] (changes_at a d)) (dues_from a (d + 1) n)
+      count = length-append (due_places_of d [] (changes_at a d)) (dues_from a (d + 1) n)
           ∙ rw here.count (ap (λ (m : ℕ). many_placed (runs_for (changes_at a d)) + m) rest.count);
       clear = λ p low high. elim (cases_eq p d) [ inl same ↦ rw same here.clear | inr other ↦ rest.clear p (omega (arith, low, other)) (omega (arith, high)) ];
     }

@@ -14,9 +14,9 @@ use Rattle.group_calls.specs.declared.event.Answer.{Answer}
 use Rattle.group_calls.specs.declared.event.Event.{Event}
 use Rattle.group_calls.specs.declared.event.Event.TheVariants as happens
 use Rattle.group_run.specs.Meaning.{is_update_of, updates_from}
-use Rattle.run_verify.specs.Passing.{Account, after_answer, after_entry, with_change}
+use Rattle.run_verify.specs.Passing.{Account, account_after_entry, after_answer, with_change}
 use Rattle.run_verify.specs.Sheet.{Sheet}
-use Rattle.run_verify.specs.Told.{Told, turns_in, turns_told}
+use Rattle.run_verify.specs.Told.{Told, turns_told, turns_told_in}
 use Rattle.run_verify.specs.Told.{Made, Drained, Shown, Lost, Down, Placed}
 use Rattle.run_verify.specs.declared.change.Change.{Change}
 use Rattle.run_verify.specs.declared.step.Step.{Step}
@@ -41,7 +41,7 @@ shadow-append k (e ∷ es) fs t changes u between v after (run, reply, rest) sec
 
 pub shadow-logs : (sheet : Sheet) (es : List Entry) (a b : Account) → LogsTo sheet a es b → Shadow sheet.script.shape.k a.table a.changes es b.table b.changes
 shadow-logs sheet [] a b same = (ap (λ (c : Account). c.table) same, ap (λ (c : Account). c.changes) same)
-shadow-logs sheet (e ∷ es) a b (run, tells, logs) = (run, tells.reply, shadow-logs sheet es (after_entry sheet a e run) b logs)
+shadow-logs sheet (e ∷ es) a b (run, tells, logs) = (run, tells.reply, shadow-logs sheet es (account_after_entry sheet a e run) b logs)
 
 -- what a partition's changes gain by entries stands for their updates
 pub record Grown (k d : ℕ) (t : Contents) (changes : List (List Change)) (es : List Entry) (after : List (List Change)) : Type 0 where
@@ -105,7 +105,7 @@ table-kept a (happens.Trace caller call d p) answer = (refl, refl)
 
 -- so do those of a step
 pub shadow-step : (sheet : Sheet) (a : Account) (step : Step) (told : Told) (next : Account) → StepTold sheet a step told next
-    → Shadow sheet.script.shape.k a.table a.changes (log_of (turns_in told)) next.table next.changes
+    → Shadow sheet.script.shape.k a.table a.changes (log_of (turns_told_in told)) next.table next.changes
 shadow-step sheet a (Make event) (Made t) next by =
     let kept = table-kept a event t.answer in
     let logs = shadow-logs sheet t.logged (after_answer a event t.answer) next by.logs in
@@ -148,7 +148,7 @@ shadow-course sheet a [] [] final course = (ap (λ (c : Account). c.table) cours
 shadow-course sheet a [] (told ∷ more) final course = absurd course
 shadow-course sheet a (step ∷ steps) [] final course = absurd course
 shadow-course sheet a (step ∷ steps) (told ∷ more) final (next, by, course) =
-    rw (log-append (turns_in told) (turns_told more))
-    (shadow-append sheet.script.shape.k (log_of (turns_in told)) (log_of (turns_told more)) a.table a.changes
+    rw (log-append (turns_told_in told) (turns_told more))
+    (shadow-append sheet.script.shape.k (log_of (turns_told_in told)) (log_of (turns_told more)) a.table a.changes
     next.table next.changes final.table final.changes (shadow-step sheet a step told next by)
     (shadow-course sheet next steps more final course))

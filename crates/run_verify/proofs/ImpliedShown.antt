@@ -15,14 +15,15 @@ use Rattle.memc_table.specs.Contents.{empty_table}
 use Rattle.group_calls.specs.Turns.{log_of}
 use Rattle.group_calls.specs.declared.entry.Entry.{Entry}
 use Rattle.group_run.specs.Meaning.{Logged}
-use Rattle.run_verify.specs.Changes.{run_behind, space_behind}
+use Rattle.run_verify.specs.Changes.{run_after_changes, space_behind}
 use Rattle.run_verify.specs.Checked.{ArePlaced, AreWellShown, IsWellShown}
 use Rattle.run_verify.specs.Passing.{Account, changes_at}
 use Rattle.run_verify.specs.Plain.{EndsPlacing, FitSteps, FitsStep}
 use Rattle.run_verify.specs.Sheet.{Sheet}
-use Rattle.run_verify.specs.Told.{Told, runs_told, turns_in, turns_told}
+use Rattle.run_verify.specs.Told.{Told, runs_told, turns_told, turns_told_in}
 use Rattle.run_verify.specs.Told.{Made, Drained, Shown, Lost, Down, Placed}
-use Rattle.run_verify.specs.Updates.{IsClear, IsStampOf, StandRight, StandsRight, brings_value, item_runs, shown_at, space_after, spaces_by, updates_by}
+use Rattle.run_verify.specs.Updates.{IsClearRun, IsStampOf, StandRight, StandsRight, brings_value, item_run_behind, shown_at, space_after_updates, spaces_by}
+use Rattle.run_verify.specs.Updates.{updates_by}
 use Rattle.run_verify.specs.declared.change.Change.{Change}
 use Rattle.run_verify.specs.declared.change.Effect.{Effect}
 use Rattle.run_verify.specs.declared.change.Effect.TheVariants.{Writes, Removes, Keeps}
@@ -91,11 +92,11 @@ well-look sheet a next p run stamp bytes runs log within stands by =
     let counts : (d : ℕ) → d < s.k → length (changes_at a d) ≡ length (updates_by s runs log d) =
     λ d below. length-same (changes_at a d) (updates_by s runs log d) (stands d below) in
     let spaces : (d n : ℕ) → d < s.k → space_behind s (take n (changes_at a d))
-    ≡ space_after s (updates_by s runs log d) n = λ d n below. spaces-same s (changes_at a d)
+    ≡ space_after_updates s (updates_by s runs log d) n = λ d n below. spaces-same s (changes_at a d)
     (updates_by s runs log d) n (stands d below) in (
       stamp-same s (λ d. length (changes_at a d)) (λ d. length (updates_by s runs log d)) p stamp counts within by.can,
       by.bytes_are ∙ shown-same s (λ d n. space_behind s (take n (changes_at a d)))
-          (λ d n. space_after s (updates_by s runs log d) n) (λ d. length (changes_at a d)) p run stamp spaces within
+          (λ d n. space_after_updates s (updates_by s runs log d) n) (λ d. length (changes_at a d)) p run stamp spaces within
           by.can,
     )
 
@@ -122,18 +123,19 @@ well-shown sheet (step ∷ steps) (told ∷ more) a final log (fit, fits) shadow
     let s : Dimensions = sheet.script.shape in
     let here = shadow-step sheet a step told next by in
     let onward = shadow-course sheet next steps more final course in
-    let whole = shadow-append s.k (log_of (turns_in told)) (log_of (turns_told more)) a.table a.changes next.table
+    let whole = shadow-append s.k (log_of (turns_told_in told)) (log_of (turns_told more)) a.table a.changes next.table
     next.changes final.table final.changes here onward in
-    let begins = begins-final s final a (log_of (turns_in told) ++ log_of (turns_told more)) whole in (
+    let begins = begins-final s final a (log_of (turns_told_in told) ++ log_of (turns_told more)) whole in (
       well-step sheet a step told next (runs_of final 0 s.k) log fit (so-far s (runs_of final 0 s.k) log a shadow begins) by,
-      well-shown sheet steps more next final (log ++ log_of (turns_in told)) fits
-          (shadow-append s.k log (log_of (turns_in told)) (empty_table s.k) (replicate s.k []) a.table a.changes next.table next.changes shadow here) course,
+      well-shown sheet steps more next final (log ++ log_of (turns_told_in told)) fits
+          (shadow-append s.k log (log_of (turns_told_in told)) (empty_table s.k) (replicate s.k []) a.table a.changes next.table next.changes shadow here)
+          course,
     )
 
 -- ---- where values stand
 
 clear-same : (s : Dimensions) (before : List Change) (us : List Logged) (run : Run) (len : ℕ) → MatchAll before us
-    → IsClear s (λ key. run_behind key None before) run len → IsClear s (item_runs us) run len
+    → IsClearRun s (λ key. run_after_changes key None before) run len → IsClearRun s (item_run_behind us) run len
 clear-same s before us run len all clear =
     record {
       inside = clear.inside;
@@ -154,7 +156,7 @@ stands-right s before us c u all one clear = by c.effect refl one.run one.kind c
           h,
           run_is ∙ some,
           item,
-          subst (λ (n : ℕ). IsClear s (item_runs us) r n) (ap length same)
+          subst (λ (n : ℕ). IsClearRun s (item_run_behind us) r n) (ap length same)
               (clear-same s before us r (length value) all clear'),
         )
     by Removes is run_is (item, brings) clear' = rw brings run_is

@@ -8,19 +8,19 @@ use Rattle.group_types.specs.declared.process.ProcessId.{ProcessId}
 use Rattle.group_types.specs.declared.run.Run.{Run}
 use Rattle.memc_table.specs.Asked.{Asked}
 use Rattle.memc_table.specs.declared.reply.Reply.{Reply}
-use Rattle.group_calls.specs.Turns.{CallName, asks_in, entry_of, name_of}
+use Rattle.group_calls.specs.Turns.{CallName, asks_in, call_entry, name_of}
 use Rattle.group_calls.specs.declared.entry.Entry.{Entry}
 use Rattle.group_calls.specs.declared.event.Answer.{Answer}
 use Rattle.group_calls.specs.declared.event.Event.{Event}
 use Rattle.group_calls.specs.declared.event.Event.TheVariants as happens
-use Rattle.run_verify.specs.Passing.{Account, TellsEntry, after_answer, after_entry, call_of, first_account, is_taken}
+use Rattle.run_verify.specs.Passing.{Account, LineTellsEntry, account_after_entry, after_answer, call_named, first_account, takes_effect}
 use Rattle.run_verify.specs.Sheet.{Sheet}
 use Rattle.run_verify.specs.declared.call.Call.{Call}
 use Rattle.run_verify.proofs.ImpliedHeads.{Head, IsAsked, asked-push, asks-push, asks_by, get-cases, get-last, get-push, get-within, take-push}
 use Rattle.run_verify.proofs.ImpliedAccount.{AskedBy, LoggedBehind, Stands, call-cases, call-kept, call-new, call_with}
 use Rattle.run_verify.proofs.ImpliedAccount.{entry-other, entry-there, many-call, many-entry, same_name}
 
-no_call : (name : CallName) (call : Call) → call_of (first_account 0) name ≢ Some call
+no_call : (name : CallName) (call : Call) → call_named (first_account 0) name ≢ Some call
 no_call name call is = cc (sym (ap (λ (calls : List Call). slice_get calls name.call) (at-replicate [] callers name.caller)) ∙ is)
 
 -- at first nothing is asked
@@ -128,7 +128,7 @@ stands-ask a hs log caller op p answer s = record {
           call = new;
           is = call-new a caller new name same (sym place ∙ sym (s.many name.caller) ∙ rw same refl);
           op_is = cc event;
-          taken = ap (λ (x : Head). is_taken x.answer) (sym last);
+          taken = ap (λ (x : Head). takes_effect x.answer) (sym last);
         }
   ];
   logged = λ i e is. call-kept a caller new (name_of e) (call_with e (Some e.reply)) (s.logged i e is);
@@ -136,7 +136,7 @@ stands-ask a hs log caller op p answer s = record {
 }
   where
     new : Call
-    new = record { op = op; taken = is_taken answer; reply = None }
+    new = record { op = op; taken = takes_effect answer; reply = None }
 
     g : Head
     g = head (happens.Ask caller op p) answer log
@@ -157,11 +157,11 @@ some_same x y same = cc same
 
 logged-more : (h : Head) (log : List Entry) (e : Entry) (name : CallName) (call : Call) → LoggedBehind h log name call
     → LoggedBehind h (log ++ e ∷ []) name call
-logged-more h log e name call behind reply is = let b = behind reply is in (b.0, get-push log e b.0 (entry_of name call.op reply) b.1, b.2)
+logged-more h log e name call behind reply is = let b = behind reply is in (b.0, get-push log e b.0 (call_entry name call.op reply) b.1, b.2)
 
 pub stands-entry : (sheet : Sheet) (a : Account) (hs : List Head) (log : List Entry) (line : List ℕ) (e : Entry)
-    (run : Option Run) → Stands a hs log → TellsEntry a line e
-    → Stands (after_entry sheet a e run) hs (log ++ e ∷ [])
+    (run : Option Run) → Stands a hs log → LineTellsEntry a line e
+    → Stands (account_after_entry sheet a e run) hs (log ++ e ∷ [])
 stands-entry sheet a hs log line e run s tells = record {
   many = λ c. many-entry sheet a e run c ∙ s.many c;
   starts = λ j h is. let before = s.starts j h is in omega (arith, before, length-append log (e ∷ []));
@@ -175,11 +175,11 @@ stands-entry sheet a hs log line e run s tells = record {
   called = λ j h name op ask. elim (same_name name (name_of e)) [
     | inl same ↦
         let c = s.called j h name op ask in
-        let old : call_of a name ≡ Some (call_with e None) = subst (λ (n : CallName). call_of a n ≡ Some (call_with e None)) (sym same) tells.call in
+        let old : call_named a name ≡ Some (call_with e None) = subst (λ (n : CallName). call_named a n ≡ Some (call_with e None)) (sym same) tells.call in
         let before : c.call ≡ call_with e None = cc (sym c.is ∙ old) in
         record {
           call = call_with e (Some e.reply);
-          is = subst (λ (n : CallName). call_of (after_entry sheet a e run) n ≡ Some (call_with e (Some e.reply)))
+          is = subst (λ (n : CallName). call_named (account_after_entry sheet a e run) n ≡ Some (call_with e (Some e.reply)))
               (sym same) (entry-there sheet a e run tells.call);
           op_is = sym (ap (λ (x : Call). x.op) before) ∙ c.op_is;
           taken = sym (ap (λ (x : Call). x.taken) before) ∙ c.taken;
@@ -206,7 +206,8 @@ stands-entry sheet a hs log line e run s tells = record {
     -- an entry that was logged has another name
     fresh : (i : ℕ) (d : Entry) → slice_get log i ≡ Some d → name_of d ≢ name_of e
     fresh i d is same =
-        let old : call_of a (name_of d) ≡ Some (call_with e None) = subst (λ (n : CallName). call_of a n ≡ Some (call_with e None)) (sym same) tells.call in
+        let old : call_named a (name_of d) ≡ Some (call_with e None) =
+        subst (λ (n : CallName). call_named a n ≡ Some (call_with e None)) (sym same) tells.call in
         let replies : Some d.reply ≡ None =
         ap (λ (c : Call). c.reply)
         (some_same (call_with d (Some d.reply)) (call_with e None) (sym (s.logged i d is) ∙ old)) in
@@ -222,7 +223,7 @@ stands-entry sheet a hs log line e run s tells = record {
           taken = by.taken;
           logged = λ reply some. (
             length log,
-            get-last log e ∙ ap (λ (r : Reply). Some (entry_of (name_of e) e.op r))
+            get-last log e ∙ ap (λ (r : Reply). Some (call_entry (name_of e) e.op r))
                 (let r : e.reply ≡ reply = cc some in r),
             s.starts by.j by.head by.ask.there,
           );

@@ -13,13 +13,13 @@ use Rattle.group_calls.specs.declared.event.Answer.TheVariants as answered
 use Rattle.group_calls.specs.declared.event.Event.{Event}
 use Rattle.group_calls.specs.declared.event.Event.TheVariants as happens
 use Rattle.scenario_text.specs.Texts.{entry_text}
-use Rattle.transcript_text.specs.Forms.{FitsAnswer, MayAnswer, kind_of}
+use Rattle.transcript_text.specs.Forms.{FitsAnswer, MayAnswer, kind_of_event}
 use Rattle.run_verify.specs.Changes.{space_behind}
-use Rattle.run_verify.specs.Passing.{Account, Due, IsRight, PassAll, PassesBy, PassesStep, State, after_answer}
+use Rattle.run_verify.specs.Passing.{Account, DuePlace, IsAnswerRight, JudgingState, PassAll, PassesBy, PassesStep, after_answer}
 use Rattle.run_verify.specs.Passing.{begins_entry, changes_at, dues_from, on_to, with_shown}
 use Rattle.run_verify.specs.Plain.{EndsPlacing}
 use Rattle.run_verify.specs.Sheet.{Sheet}
-use Rattle.run_verify.specs.Told.{IsDelivery, Told, Tells, TellAll, count_placed, drained_line, place_lines, lines_told, placed_line}
+use Rattle.run_verify.specs.Told.{IsDelivery, Told, CanBeTold, TellAll, count_placed, drained_line, place_lines, lines_told, placed_line}
 use Rattle.run_verify.specs.Told.{Made, Drained, Shown, Lost, Down, Placed}
 use Rattle.run_verify.specs.Updates.{IsStampOf, shown_at}
 use Rattle.run_verify.specs.declared.step.Step.{Step}
@@ -34,11 +34,11 @@ delivered entries = record { event = happens.Deliver (DataNode 0) (DataNode 0); 
 -- an event is answered as it may be, and logs entries
 pub record MadeBy (sheet : Sheet) (a : Account) (event : Event) (turn : Turn) (next : Account) : Type 0 where
   pub event_is : turn.event ≡ event
-  pub can : MayAnswer (kind_of event) turn.answer
+  pub can : MayAnswer (kind_of_event event) turn.answer
   pub fits : FitsAnswer turn.answer
   pub rest : List (List ℕ)
   pub plain : NoEntry rest
-  pub right : IsRight a event turn.answer (map entry_text turn.logged ++ rest)
+  pub right : IsAnswerRight a event turn.answer (map entry_text turn.logged ++ rest)
   pub logs : LogsTo sheet (after_answer a event turn.answer) turn.logged next
 
 -- the bytes of a process are shown
@@ -106,7 +106,7 @@ made sheet event steps onward a logging lines final none plain passes =
     let answer = t.passes.0 in
     let answers = t.passes.1 in
     let next : Account = after_answer a event answer in
-    let more = subst (λ (n : State). PassAll sheet n t.rest final) t.passes.2 t.onward in
+    let more = subst (λ (n : JudgingState). PassAll sheet n t.rest final) t.passes.2 t.onward in
     let logs = logs_ahead sheet t.rest (state next steps true) final (inl refl) more in
     let course = onward logs.account true logs.rest final
     (placed-logs sheet logs.entries next logs.account logs.logs (placed-answer a event answer none))
@@ -141,7 +141,7 @@ deliveries sheet steps onward a logging lines final none plain passes =
     let t = turned sheet logs.account Deliveries steps logging logs.rest final logs.plain logs.passes in
     let n = t.passes.0 in
     let line_is = t.passes.2 in
-    let more = subst (λ (s : State). PassAll sheet s t.rest final) t.passes.3 t.onward in
+    let more = subst (λ (s : JudgingState). PassAll sheet s t.rest final) t.passes.3 t.onward in
     let course = onward logs.account false t.rest final (placed-logs sheet logs.entries a logs.account logs.logs none) (λ log. cc log) more in
     let text = logs.text in
     let rest_is = t.lines_are in
@@ -165,7 +165,7 @@ look sheet p run steps onward a logging lines final none plain passes = by t.pas
 
     by : PassesStep sheet a (Look p run ∷ steps) t.line t.rest t.next → Coursed sheet a (Look p run ∷ steps) lines
     by (inl (bytes, next)) =
-        let course = onward (with_shown a) false t.rest final none (λ log. cc log) (subst (λ (s : State). PassAll sheet s t.rest final) next t.onward) in
+        let course = onward (with_shown a) false t.rest final none (λ log. cc log) (subst (λ (s : JudgingState). PassAll sheet s t.rest final) next t.onward) in
         let lines_are = t.lines_are in
         let line_is = bytes.text in
         let told_is = course.text in
@@ -178,12 +178,12 @@ look sheet p run steps onward a logging lines final none plain passes = by t.pas
           course = (with_shown a, record { can = bytes.can; bytes_are = refl; next_is = refl }, course.course);
         }
     by (inr (inl lost, next)) =
-        let course = onward a false t.rest final none (λ log. cc log) (subst (λ (s : State). PassAll sheet s t.rest final) next t.onward) in
+        let course = onward a false t.rest final none (λ log. cc log) (subst (λ (s : JudgingState). PassAll sheet s t.rest final) next t.onward) in
         let lines_are = t.lines_are in
         let told_is = course.text in
         record { told = Lost ∷ course.told; final = course.final; text = cc (lines_are, lost, told_is); course = (a, refl, course.course) }
     by (inr (inr down, next)) =
-        let course = onward a false t.rest final none (λ log. cc log) (subst (λ (s : State). PassAll sheet s t.rest final) next t.onward) in
+        let course = onward a false t.rest final none (λ log. cc log) (subst (λ (s : JudgingState). PassAll sheet s t.rest final) next t.onward) in
         let lines_are = t.lines_are in
         let told_is = course.text in
         record { told = Down ∷ course.told; final = course.final; text = cc (lines_are, down, told_is); course = (a, refl, course.course) }
@@ -199,7 +199,7 @@ ended sheet a (line ∷ lines) final (next, first, passes) = by (begins_entry li
 
 placing : (sheet : Sheet) (steps : List Step) → steps ≡ [] → Onward sheet (Placing ∷ steps)
 placing sheet [] last a logging lines final none plain passes =
-    let dues : List Due = dues_from a 0 sheet.script.shape.k in
+    let dues : List DuePlace = dues_from a 0 sheet.script.shape.k in
     let places = places_ahead sheet dues a [] logging lines final
     (plain-here sheet a Placing [] logging lines final (λ e. cc e) plain passes) (rw none refl) passes in
     let over = ended sheet places.account places.rest final places.passes in
@@ -224,7 +224,7 @@ course_of sheet (Look p run ∷ steps) ends = look sheet p run steps (course_of 
 course_of sheet (Placing ∷ steps) ends = placing sheet steps ends
 
 -- what is told can be told for the steps
-tells-step : (sheet : Sheet) (a : Account) (step : Step) (told : Told) (next : Account) → StepTold sheet a step told next → Tells step told
+tells-step : (sheet : Sheet) (a : Account) (step : Step) (told : Told) (next : Account) → StepTold sheet a step told next → CanBeTold step told
 tells-step sheet a (Make event) (Made turn) next by = (by.event_is, by.can, by.fits)
 tells-step sheet a (Make event) (Drained turns n) next by = absurd by
 tells-step sheet a (Make event) (Shown stamp bytes) next by = absurd by

@@ -10,7 +10,7 @@ use Rattle.group_types.specs.Lists.{at}
 use Rattle.group_types.specs.declared.process.ProcessId.{ProcessId}
 use Rattle.memc_table.specs.Asked.{Asked}
 use Rattle.memc_table.specs.declared.reply.Reply.{Reply}
-use Rattle.group_calls.specs.Turns.{CallName, Turn, asks_in, asks_of, entry_of, log_of, name_of}
+use Rattle.group_calls.specs.Turns.{CallName, Turn, asks_in, asks_of, call_entry, log_of, name_of}
 use Rattle.group_calls.specs.Within.{Fetches, IsAsk}
 use Rattle.group_calls.specs.declared.entry.Entry.{Entry}
 use Rattle.group_calls.specs.declared.event.Answer.{Answer}
@@ -19,8 +19,9 @@ use Rattle.group_calls.specs.declared.event.Event.{Event}
 use Rattle.group_calls.specs.declared.event.Event.TheVariants as happens
 use Rattle.scenario_text.specs.Texts.{entry_text, reply_text}
 use Rattle.transcript_text.specs.Forms.{FitsAnswer, FitsReply}
-use Rattle.run_verify.specs.Passing.{Account, IsReplyTo, IsRight, IsThere, LogsAhead, front_of, after_answer, after_entry, call_of, logged_reply, next_name}
-use Rattle.run_verify.specs.Plain.{FitsEvent}
+use Rattle.run_verify.specs.Passing.{Account, IsAnswerRight, IsEntryThere, IsReplyTo, LogsAhead, account_after_entry, after_answer, call_named, entry_front}
+use Rattle.run_verify.specs.Passing.{logged_reply, next_call_name}
+use Rattle.run_verify.specs.Plain.{IsEventInRange}
 use Rattle.run_verify.specs.Sheet.{Sheet}
 use Rattle.run_verify.specs.declared.call.Call.{Call}
 use Rattle.run_verify.proofs.ImpliedCourse.{LogsTo, NoEntry}
@@ -37,7 +38,7 @@ pub record LoggedSince (before : List Turn) (t : Turn) (name : CallName) (reply 
   pub ask : Turn
   pub asked : IsAsk (before ++ t ∷ []) j ask name op
   pub place : ℕ
-  pub entry : slice_get (log_of (before ++ t ∷ [])) place ≡ Some (entry_of name op reply)
+  pub entry : slice_get (log_of (before ++ t ∷ [])) place ≡ Some (call_entry name op reply)
   pub since : length (log_of (take j (before ++ t ∷ []))) ≤ place
 
 -- a turn behind others is right
@@ -45,7 +46,7 @@ pub record TurnRight (before : List Turn) (t : Turn) : Type 0 where
   pub asked : (e : Entry) → Contains t.logged e → (j : ℕ) × (ask : Turn) × IsAsk (before ++ t ∷ []) j ask (name_of e) e.op
   pub at_once : (name : CallName) (op : Asked) (p : ProcessId) (reply : Reply) → t.event ≡ happens.Ask name.caller op p
       → asks_of name.caller before ≡ name.call → t.answer ≡ answered.Reply reply
-      → Contains t.logged (entry_of name op reply)
+      → Contains t.logged (call_entry name op reply)
   pub later : (name : CallName) (reply : Reply) → Fetches t.event name → t.answer ≡ answered.Reply reply → LoggedSince before t name reply
 
 -- the account says what it says of turns
@@ -61,7 +62,7 @@ stands-logs : (sheet : Sheet) (es : List Entry) (a b : Account) (hs : List Head)
 stands-logs sheet [] a b hs log same s = subst (λ (c : Account). Stands c hs (log ++ [])) same (rw (append-nil log) s)
 stands-logs sheet (e ∷ es) a b hs log (run, tells, logs) s =
     subst (Stands b hs) (append_assoc log (e ∷ []) es)
-    (stands-logs sheet es (after_entry sheet a e run) b hs (log ++ e ∷ []) logs
+    (stands-logs sheet es (account_after_entry sheet a e run) b hs (log ++ e ∷ []) logs
     (stands-entry sheet a hs log (entry_text e) e run s tells))
 
 -- behind a turn the account says it of one turn more
@@ -84,19 +85,19 @@ pub fits-logs : (sheet : Sheet) (es : List Entry) (a b : Account) → LogsTo she
 fits-logs sheet [] a b logs = tt
 fits-logs sheet (e ∷ es) a b (run, tells, logs) = (
   record { caller = tells.named.0; call = tells.named.1; reply = tells.fits },
-  fits-logs sheet es (after_entry sheet a e run) b logs,
+  fits-logs sheet es (account_after_entry sheet a e run) b logs,
 )
 
 -- a reply that was logged stays
 kept-logs : (sheet : Sheet) (es : List Entry) (a b : Account) (name : CallName) (call : Call) (reply : Reply)
-    → LogsTo sheet a es b → call_of a name ≡ Some call → call.reply ≡ Some reply → call_of b name ≡ Some call
-kept-logs sheet [] a b name call reply same is replied = subst (λ (c : Account). call_of c name ≡ Some call) same is
+    → LogsTo sheet a es b → call_named a name ≡ Some call → call.reply ≡ Some reply → call_named b name ≡ Some call
+kept-logs sheet [] a b name call reply same is replied = subst (λ (c : Account). call_named c name ≡ Some call) same is
 kept-logs sheet (e ∷ es) a b name call reply (run, tells, logs) is replied =
-    kept-logs sheet es (after_entry sheet a e run) b name call reply logs (entry-other sheet a e run name other ∙ is) replied
+    kept-logs sheet es (account_after_entry sheet a e run) b name call reply logs (entry-other sheet a e run name other ∙ is) replied
   where
     other : name ≢ name_of e
     other same =
-        let old : call_of a name ≡ Some (call_with e None) = subst (λ (n : CallName). call_of a n ≡ Some (call_with e None)) (sym same) tells.call in
+        let old : call_named a name ≡ Some (call_with e None) = subst (λ (n : CallName). call_named a n ≡ Some (call_with e None)) (sym same) tells.call in
         let replies : call.reply ≡ None = ap (λ (c : Call). c.reply) (some_same call (call_with e None) (sym is ∙ old)) in
         cc (sym replied ∙ replies)
 
@@ -114,7 +115,7 @@ contains-get xs i x is = (i, get-within xs i x is, index-get xs i x is)
 
 -- the call of an entry that a turn logged
 among-call : (b : Account) (before : List Turn) (t : Turn) (name : CallName) (reply : Reply) → StandsFor b (before ++ t ∷ []) → IsAmong t.logged name reply
-    → (e : Entry) × (name_of e ≡ name) × (e.reply ≡ reply) × Contains t.logged e × (call_of b name ≡ Some (call_with e (Some reply)))
+    → (e : Entry) × (name_of e ≡ name) × (e.reply ≡ reply) × Contains t.logged e × (call_named b name ≡ Some (call_with e (Some reply)))
 among-call b before t name reply s among =
     let e : Entry = among.entry in
     let place = get-append (log_of before) t.logged among.i e among.there in
@@ -123,12 +124,12 @@ among-call b before t name reply s among =
       among.name_is,
       among.reply_is,
       contains-get t.logged among.i e among.there,
-      subst (λ (n : CallName). call_of b n ≡ Some (call_with e (Some reply))) among.name_is (rw among.reply_is at logged),
+      subst (λ (n : CallName). call_named b n ≡ Some (call_with e (Some reply))) among.name_is (rw among.reply_is at logged),
     )
 
 -- a call that was logged with a reply is logged since its ask
 since-call : (b : Account) (before : List Turn) (t : Turn) (name : CallName) (call : Call) (reply : Reply)
-    → StandsFor b (before ++ t ∷ []) → call_of b name ≡ Some call → call.reply ≡ Some reply
+    → StandsFor b (before ++ t ∷ []) → call_named b name ≡ Some call → call.reply ≡ Some reply
     → LoggedSince before t name reply
 since-call b before t name call reply s is replied =
     let by = s.asked name call is in
@@ -157,23 +158,23 @@ asks-le caller (t ∷ turns) = let e = asks-le caller turns in let one = asks-on
 -- the call of a reply that is there
 pub record Replied (b : Account) (name : CallName) (reply : Reply) : Type 0 where
   pub call : Call
-  pub is : call_of b name ≡ Some call
+  pub is : call_named b name ≡ Some call
   pub replied : call.reply ≡ Some reply
 
 there-call : (sheet : Sheet) (a b : Account) (before : List Turn) (t : Turn) (name : CallName) (reply : Reply)
     (rest : List (List ℕ)) → LogsTo sheet a t.logged b → StandsFor b (before ++ t ∷ [])
     → name.caller < callers → name.call < 2 ^ 64 → FitsReply reply → NoEntry rest
-    → IsThere (logged_reply a name) name reply (map entry_text t.logged ++ rest) → Replied b name reply
-there-call sheet a b before t name reply rest logs s fc fn fr plain there = by (call_of a name) refl there
+    → IsEntryThere (logged_reply a name) name reply (map entry_text t.logged ++ rest) → Replied b name reply
+there-call sheet a b before t name reply rest logs s fc fn fr plain there = by (call_named a name) refl there
   where
-    ahead : IsThere None name reply (map entry_text t.logged ++ rest) → Replied b name reply
+    ahead : IsEntryThere None name reply (map entry_text t.logged ++ rest) → Replied b name reply
     ahead found =
         let among = ahead_is t.logged rest name reply (fits-logs sheet t.logged a b logs) fc fn fr plain found in
         let all = among-call b before t name reply s among in
         record { call = call_with all.0 (Some reply); is = all.4; replied = refl }
 
-    replied : (call : Call) → call_of a name ≡ Some call → (r : Option Reply) → call.reply ≡ r
-        → IsThere r name reply (map entry_text t.logged ++ rest) → Replied b name reply
+    replied : (call : Call) → call_named a name ≡ Some call → (r : Option Reply) → call.reply ≡ r
+        → IsEntryThere r name reply (map entry_text t.logged ++ rest) → Replied b name reply
     replied call is (Some logged) has same =
         record {
           call = call;
@@ -183,12 +184,12 @@ there-call sheet a b before t name reply rest logs s fc fn fr plain there = by (
         }
     replied call is None has found = ahead found
 
-    by : (o : Option Call) → call_of a name ≡ o → IsThere (option_and_then (λ call. call.reply) o) name reply
+    by : (o : Option Call) → call_named a name ≡ o → IsEntryThere (option_and_then (λ call. call.reply) o) name reply
         (map entry_text t.logged ++ rest) → Replied b name reply
     by (Some call) is there' = replied call is call.reply refl there'
     by None is found = ahead found
 
-pub turn-right : (sheet : Sheet) (a : Account) (t : Turn) (next : Account) (before : List Turn) → FitsEvent t.event
+pub turn-right : (sheet : Sheet) (a : Account) (t : Turn) (next : Account) (before : List Turn) → IsEventInRange t.event
     → length before < 2 ^ 64 → StandsFor a before → MadeBy sheet a t.event t next → TurnRight before t
 turn-right sheet a t next before fits few s by = record {
   asked = λ e within.
@@ -199,17 +200,17 @@ turn-right sheet a t next before fits few s by = record {
       let ask = head-ask (before ++ t ∷ []) asked.j asked.head (name_of e) e.op asked.ask in
       (asked.j, ask.0, ask.1);
   at_once = λ name op p reply event_is place answer_is.
-      let right : IsRight a (happens.Ask name.caller op p) (answered.Reply reply) (map entry_text t.logged ++ by.rest) =
-      subst (λ (x : Answer). IsRight a (happens.Ask name.caller op p) x (map entry_text t.logged ++ by.rest)) answer_is
-      (subst (λ (x : Event). IsRight a x t.answer (map entry_text t.logged ++ by.rest)) event_is by.right) in
+      let right : IsAnswerRight a (happens.Ask name.caller op p) (answered.Reply reply) (map entry_text t.logged ++ by.rest) =
+      subst (λ (x : Answer). IsAnswerRight a (happens.Ask name.caller op p) x (map entry_text t.logged ++ by.rest)) answer_is
+      (subst (λ (x : Event). IsAnswerRight a x t.answer (map entry_text t.logged ++ by.rest)) event_is by.right) in
       let many : length (at [] a.calls name.caller) ≡ name.call = s.many name.caller ∙ asks-heads name.caller 0 before ∙ place in
-      let next_is : next_name a name.caller ≡ name =
+      let next_is : next_call_name a name.caller ≡ name =
       (let eq : record { caller = name.caller; call = length (at [] a.calls name.caller) }
       ≡ record { caller = name.caller; call = name.call } = cc many in eq) in
-      let found = subst (λ (n : CallName). LogsAhead (front_of n) (reply_text reply) (map entry_text t.logged ++ by.rest)) next_is right in
+      let found = subst (λ (n : CallName). LogsAhead (entry_front n) (reply_text reply) (map entry_text t.logged ++ by.rest)) next_is right in
       let below = asks-le name.caller before in
       let among = ahead_is t.logged by.rest name reply (fits-logs sheet t.logged (after_answer a t.event t.answer) next
-      by.logs) (subst FitsEvent event_is fits) (omega (arith, few, place, below)) (subst FitsAnswer answer_is by.fits)
+      by.logs) (subst IsEventInRange event_is fits) (omega (arith, few, place, below)) (subst FitsAnswer answer_is by.fits)
       by.plain found in
       let all = among-call next before t name reply stands among in
       let last : take (length before) (before ++ t ∷ []) ≡ before = take-push before t (length before) (omega arith)
@@ -226,22 +227,22 @@ turn-right sheet a t next before fits few s by = record {
     stands : StandsFor next (before ++ t ∷ [])
     stands = stands-turn sheet a t.event t.answer t.logged next before s by.logs
 
-    entry-is : (e : Entry) (name : CallName) (op : Asked) (reply : Reply) → name_of e ≡ name → e.op ≡ op → e.reply ≡ reply → e ≡ entry_of name op reply
+    entry-is : (e : Entry) (name : CallName) (op : Asked) (reply : Reply) → name_of e ≡ name → e.op ≡ op → e.reply ≡ reply → e ≡ call_entry name op reply
     entry-is e name op reply n o r =
         let caller = ap (λ (x : CallName). x.caller) n in
         let call = ap (λ (x : CallName). x.call) n in
-        let eq : record { caller = e.caller; call = e.call; op = e.op; reply = e.reply } ≡ entry_of name op reply = cc (caller, call, o, r) in
+        let eq : record { caller = e.caller; call = e.call; op = e.op; reply = e.reply } ≡ call_entry name op reply = cc (caller, call, o, r) in
         eq
 
     answer-right : (event : Event) (reply : Reply) → t.event ≡ event → t.answer ≡ answered.Reply reply
         → IsReplyTo a event reply (map entry_text t.logged ++ by.rest)
     answer-right event reply event_is answer_is =
-        subst (λ (x : Answer). IsRight a event x (map entry_text t.logged ++ by.rest)) answer_is
-        (subst (λ (x : Event). IsRight a x t.answer (map entry_text t.logged ++ by.rest)) event_is by.right)
+        subst (λ (x : Answer). IsAnswerRight a event x (map entry_text t.logged ++ by.rest)) answer_is
+        (subst (λ (x : Event). IsAnswerRight a x t.answer (map entry_text t.logged ++ by.rest)) event_is by.right)
 
     there : (name : CallName) (reply : Reply) → after_answer a t.event t.answer ≡ a → t.answer ≡ answered.Reply reply
         → name.caller < callers → name.call < 2 ^ 64
-        → IsThere (logged_reply a name) name reply (map entry_text t.logged ++ by.rest) → LoggedSince before t name reply
+        → IsEntryThere (logged_reply a name) name reply (map entry_text t.logged ++ by.rest) → LoggedSince before t name reply
     there name reply same answer_is fc fn found =
         let r = there-call sheet a next before t name reply by.rest
         (subst (λ (x : Account). LogsTo sheet x t.logged next) same by.logs) stands fc fn
@@ -252,13 +253,13 @@ turn-right sheet a t next before fits few s by = record {
         → t.answer ≡ answered.Reply reply → LoggedSince before t name reply
     later name reply (happens.Collect caller call p) is (c, k) answer_is =
         let same : record { caller = caller; call = call } ≡ record { caller = name.caller; call = name.call } = cc (c, k) in
-        let f = subst FitsEvent is fits in
+        let f = subst IsEventInRange is fits in
         subst (λ (n : CallName). LoggedSince before t n reply) same
         (there (record { caller = caller; call = call }) reply (ap (λ (e : Event). after_answer a e t.answer) is)
         answer_is f.0 f.1 (answer-right (happens.Collect caller call p) reply is answer_is))
     later name reply (happens.Trace caller call d p) is (c, k) answer_is =
         let same : record { caller = caller; call = call } ≡ record { caller = name.caller; call = name.call } = cc (c, k) in
-        let f = subst FitsEvent is fits in
+        let f = subst IsEventInRange is fits in
         subst (λ (n : CallName). LoggedSince before t n reply) same
         (there (record { caller = caller; call = call }) reply (ap (λ (e : Event). after_answer a e t.answer) is)
         answer_is f.0 f.1 (answer-right (happens.Trace caller call d p) reply is answer_is))

@@ -13,8 +13,8 @@ use Rattle.group_calls.specs.declared.event.Answer.TheVariants as answered
 use Rattle.group_calls.specs.declared.event.Event.{Event}
 use Rattle.group_calls.specs.declared.event.Event.TheVariants as happens
 use Rattle.run_verify.specs.Checked.{RepliesWithin}
-use Rattle.run_verify.specs.Passing.{Account, after_answer, after_entry, call_of, is_taken, with_shown}
-use Rattle.run_verify.specs.Plain.{FitSteps, FitsEvent}
+use Rattle.run_verify.specs.Passing.{Account, account_after_entry, after_answer, call_named, takes_effect, with_shown}
+use Rattle.run_verify.specs.Plain.{FitSteps, IsEventInRange}
 use Rattle.run_verify.specs.Sheet.{Sheet}
 use Rattle.run_verify.specs.Told.{Told, turns_told}
 use Rattle.run_verify.specs.Told.{Made, Drained, Shown, Lost, Down, Placed}
@@ -32,7 +32,7 @@ use Rattle.run_verify.proofs.ImpliedTurn.{StandsFor, TurnRight, get-contains, st
 
 legal-logs : (sheet : Sheet) (es more : List Entry) (a b : Account) → LogsTo sheet a es b → IsLegalFrom b.table more → IsLegalFrom a.table (es ++ more)
 legal-logs sheet [] more a b same legal = subst (λ (c : Account). IsLegalFrom c.table more) (sym same) legal
-legal-logs sheet (e ∷ es) more a b (run, tells, logs) legal = (tells.reply, legal-logs sheet es more (after_entry sheet a e run) b logs legal)
+legal-logs sheet (e ∷ es) more a b (run, tells, logs) legal = (tells.reply, legal-logs sheet es more (account_after_entry sheet a e run) b logs legal)
 
 table-answer : (a : Account) (event : Event) (answer : Answer) → (after_answer a event answer).table ≡ a.table
 table-answer a (happens.Ask caller op p) answer = refl
@@ -120,7 +120,7 @@ right-course sheet a (step ∷ steps) [] final before fits few s course = absurd
 right-course sheet a (Make event ∷ steps) (Made t ∷ more) final before (fit, fits) few s (next, by, course) =
     let mine : MadeBy sheet a t.event t next = subst (λ (e : Event). MadeBy sheet a e t next) (sym by.event_is) by in
     one-right before t (turns_told more)
-    (turn-right sheet a t next before (subst (λ (e : Event). FitsEvent e) (sym by.event_is) fit)
+    (turn-right sheet a t next before (subst (λ (e : Event). IsEventInRange e) (sym by.event_is) fit)
     (omega (arith, few)) s mine)
     (right-course sheet next steps more final (before ++ t ∷ []) fits (few-more before t (length steps) few)
     (stands-turn sheet a t.event t.answer t.logged next before s mine.logs) course)
@@ -217,7 +217,7 @@ ask-take turns n j t name op ask =
       },
     )
 
-not-taken : (answer : Answer) → ¬ (IsTaken answer) → is_taken answer ≡ false
+not-taken : (answer : Answer) → ¬ (IsTaken answer) → takes_effect answer ≡ false
 not-taken (answered.Reply reply) never = absurd (never (inl (reply, refl)))
 not-taken (answered.Ticket n) never = absurd (never (inr (n, refl)))
 not-taken answered.NotYet never = refl
@@ -266,9 +266,9 @@ replies-within turns all = record {
       let head = ask-head turns i t name op ask in
       let called = s.called i head.0 name op head.1 in
       let at = get-contains (log_of turns) e within in
-      let logged = subst (λ (n : CallName). call_of all.account n ≡ Some (call_with e (Some e.reply))) same (s.logged at.0 e at.1) in
+      let logged = subst (λ (n : CallName). call_named all.account n ≡ Some (call_with e (Some e.reply))) same (s.logged at.0 e at.1) in
       let calls = some_same called.call (call_with e (Some e.reply)) (sym called.is ∙ logged) in
-      let no : is_taken head.0.answer ≡ false = ap is_taken head.2 ∙ not-taken t.answer never in
+      let no : takes_effect head.0.answer ≡ false = ap takes_effect head.2 ∙ not-taken t.answer never in
       cc (sym (ap (λ (c : Call). c.taken) calls) ∙ called.taken ∙ no);
 }
   where

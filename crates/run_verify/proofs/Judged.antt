@@ -9,9 +9,9 @@ use Rattle.std.specs.Prelude.{All}
 use Rattle.group_types.specs.Dimensions.{Dimensions}
 use Rattle.group_types.specs.Shape.{IsShape}
 use Rattle.scenario_run.specs.Lines.{lines_of, without_empty_last}
-use Rattle.run_verify.specs.Courses.{HasFoundBy, IsJudgedBehind, IsPlacedBehind, IsWithin, logging_by, sheet_on, state_of, turn_by}
+use Rattle.run_verify.specs.Courses.{HasFoundBy, IsAccountWithin, IsJudgedBehind, IsPlacedBehind, judging_state, logging_by, sheet_on, turn_by}
 use Rattle.run_verify.specs.Judging.{IsStepOf}
-use Rattle.run_verify.specs.Passing.{Account, FailsAt, PassesBy, State, begins_entry}
+use Rattle.run_verify.specs.Passing.{Account, FailsAt, JudgingState, PassesBy, begins_entry}
 use Rattle.run_verify.specs.Placings.{ArePlacedFrom, placing}
 use Rattle.run_verify.specs.Plain.{EndsPlacing}
 use Rattle.run_verify.specs.Sheet.{Sheet}
@@ -28,7 +28,7 @@ abbrev pub Goes : Found → Type 0
 Goes p = (p ≢ found.Places) × (p ≢ found.Fails)
 
 -- what holds where a line passes
-module _ (sheet : Sheet) (s : State) (line : List ℕ) (ahead : List (List ℕ)) (next : State) where
+module _ (sheet : Sheet) (s : JudgingState) (line : List ℕ) (ahead : List (List ℕ)) (next : JudgingState) where
   -- what is judged of the lines behind it is judged of all
   pub judged_on : PassesBy (begins_entry line) sheet s line ahead next → (done : ℕ) (v : Verdict)
       → IsJudgedBehind (done + 1) sheet next ahead v → IsJudgedBehind done sheet s (line ∷ ahead) v
@@ -37,8 +37,8 @@ module _ (sheet : Sheet) (s : State) (line : List ℕ) (ahead : List (List ℕ))
   judged_on first done (Refused n) (suc m, is, fails) = (suc (suc m), omega (arith, is), (next, first, fails))
 
 -- the first line fails
-pub judged_fails : (sheet : Sheet) (s : State) (line : List ℕ) (ahead : List (List ℕ)) (done : ℕ)
-    → ((next : State) → ¬ (PassesBy (begins_entry line) sheet s line ahead next))
+pub judged_fails : (sheet : Sheet) (s : JudgingState) (line : List ℕ) (ahead : List (List ℕ)) (done : ℕ)
+    → ((next : JudgingState) → ¬ (PassesBy (begins_entry line) sheet s line ahead next))
     → IsJudgedBehind done sheet s (line ∷ ahead) (Refused (done + 1))
 judged_fails sheet s line ahead done none = (1, refl, none)
 
@@ -48,9 +48,9 @@ some-steps (step ∷ steps) ends none = cc none
 
 -- the first line is lacking
 pub judged_lacks : (sheet : Sheet) (a : Account) (steps : List Step) (logging : Bool) (lines : List (List ℕ)) (done : ℕ)
-    → EndsPlacing steps → lines ≡ [] → IsJudgedBehind done sheet (state_of a steps logging) lines (Refused (done + 1))
+    → EndsPlacing steps → lines ≡ [] → IsJudgedBehind done sheet (judging_state a steps logging) lines (Refused (done + 1))
 judged_lacks sheet a steps logging lines done ends none =
-    subst (λ (ls : List (List ℕ)). IsJudgedBehind done sheet (state_of a steps logging) ls (Refused (done + 1)))
+    subst (λ (ls : List (List ℕ)). IsJudgedBehind done sheet (judging_state a steps logging) ls (Refused (done + 1)))
     (sym none) (1, refl, some-steps steps ends)
 
 ends-behind : (step : Step) (steps : List Step) → step ≢ Placing → EndsPlacing (step ∷ steps) → EndsPlacing steps
@@ -63,7 +63,7 @@ ends-behind Placing steps other ends = absurd (other refl)
 module _ (is_log : Bool) (sheet : Sheet) (a : Account) (step : Step) (steps : List Step) (logging : Bool)
     (line : List ℕ) (ahead : List (List ℕ)) (now : Account) where
   pub goes_passes : (p : Found) → Goes p → HasFoundBy is_log sheet a step steps logging line ahead now p
-      → PassesBy is_log sheet (state_of a (step ∷ steps) logging) line ahead (state_of now (turn_by p (step ∷ steps) steps) (logging_by p logging))
+      → PassesBy is_log sheet (judging_state a (step ∷ steps) logging) line ahead (judging_state now (turn_by p (step ∷ steps) steps) (logging_by p logging))
   goes_passes found.Entry goes is = is.1
   goes_passes found.Answer goes is = is.1
   goes_passes found.Over goes is = is.1
@@ -93,10 +93,10 @@ module _ (is_log : Bool) (sheet : Sheet) (a : Account) (step : Step) (steps : Li
   goes_fit s found.Fails all = all
 
   pub goes_within : (n : ℕ) (p : Found) → Goes p → HasFoundBy is_log sheet a step steps logging line ahead now p
-      → IsShape sheet.script.shape → IsWithin sheet.script.shape n a → IsWithin sheet.script.shape (n + 1) now
+      → IsShape sheet.script.shape → IsAccountWithin sheet.script.shape n a → IsAccountWithin sheet.script.shape (n + 1) now
   goes_within n p goes is shape within =
       within_next sheet shape n a within is_log step steps logging line ahead
-      (state_of now (turn_by p (step ∷ steps) steps) (logging_by p logging)) (which p goes is) (goes_passes p goes is)
+      (judging_state now (turn_by p (step ∷ steps) steps) (logging_by p logging)) (which p goes is) (goes_passes p goes is)
 
 -- ---- the places are in turn
 
@@ -104,40 +104,40 @@ module _ (sheet : Sheet) (a : Account) (logging : Bool) (line : List ℕ) (ahead
   one-step : List Step
   one-step = Placing ∷ []
 
-  turned : (next : State) → PassesBy (begins_entry line) sheet (placing a) line ahead next
-      → PassesBy (begins_entry line) sheet (state_of a one-step logging) line ahead next
+  turned : (next : JudgingState) → PassesBy (begins_entry line) sheet (placing a) line ahead next
+      → PassesBy (begins_entry line) sheet (judging_state a one-step logging) line ahead next
   unfolding one-step
-  turned next is = subst (λ (b : Bool). PassesBy b sheet (state_of a (Placing ∷ []) logging) line ahead next)
+  turned next is = subst (λ (b : Bool). PassesBy b sheet (judging_state a (Placing ∷ []) logging) line ahead next)
       (sym other) (subst (λ (b : Bool). PassesBy b sheet (placing a) line ahead next) other is)
 
-  turned-back : (next : State) → PassesBy (begins_entry line) sheet (state_of a one-step logging) line ahead next
+  turned-back : (next : JudgingState) → PassesBy (begins_entry line) sheet (judging_state a one-step logging) line ahead next
       → PassesBy (begins_entry line) sheet (placing a) line ahead next
   unfolding one-step
   turned-back next is = subst (λ (b : Bool). PassesBy b sheet (placing a) line ahead next) (sym other)
-      (subst (λ (b : Bool). PassesBy b sheet (state_of a (Placing ∷ []) logging) line ahead next) other is)
+      (subst (λ (b : Bool). PassesBy b sheet (judging_state a (Placing ∷ []) logging) line ahead next) other is)
 
-  fails-turned : (m : ℕ) → FailsAt sheet m (placing a) (line ∷ ahead) → FailsAt sheet m (state_of a one-step logging) (line ∷ ahead)
+  fails-turned : (m : ℕ) → FailsAt sheet m (placing a) (line ∷ ahead) → FailsAt sheet m (judging_state a one-step logging) (line ∷ ahead)
   fails-turned zero fails = absurd fails
   fails-turned (suc zero) fails = λ next is. fails next (turned-back next is)
   fails-turned (suc (suc m)) (next, first, fails) = (next, turned next first, fails)
 
   judged-turned : (done : ℕ) (v : Verdict) → IsJudgedBehind done sheet (placing a) (line ∷ ahead) v
-      → IsJudgedBehind done sheet (state_of a one-step logging) (line ∷ ahead) v
+      → IsJudgedBehind done sheet (judging_state a one-step logging) (line ∷ ahead) v
   judged-turned done (Verified many shows) (b, (next, first, pass), entries, shown) = (b, (next, turned next first, pass), entries, shown)
   judged-turned done (Refused n) (m, is, fails) = (m, is, fails-turned m fails)
 
   -- whether lines of the log may come doesn't matter then
   pub judged_places : (step : Step) (steps : List Step) → step ≡ Placing → EndsPlacing (step ∷ steps)
       → (done : ℕ) (v : Verdict) → IsJudgedBehind done sheet (placing a) (line ∷ ahead) v
-      → IsJudgedBehind done sheet (state_of a (step ∷ steps) logging) (line ∷ ahead) v
+      → IsJudgedBehind done sheet (judging_state a (step ∷ steps) logging) (line ∷ ahead) v
   unfolding one-step
   judged_places step steps is ends done v judged =
       let last : steps ≡ [] = subst (λ (x : Step). EndsPlacing (x ∷ steps)) is ends in
       let both : step ∷ steps ≡ Placing ∷ [] = cc (is, last) in
-      subst (λ (turn : List Step). IsJudgedBehind done sheet (state_of a turn logging) (line ∷ ahead) v) (sym both) (judged-turned done v judged)
+      subst (λ (turn : List Step). IsJudgedBehind done sheet (judging_state a turn logging) (line ∷ ahead) v) (sym both) (judged-turned done v judged)
 
 -- a line that fails is one of them, or the one behind the last
-fails_within : (sheet : Sheet) (n : ℕ) (s : State) (lines : List (List ℕ)) → FailsAt sheet n s lines → n ≤ length lines + 1
+fails_within : (sheet : Sheet) (n : ℕ) (s : JudgingState) (lines : List (List ℕ)) → FailsAt sheet n s lines → n ≤ length lines + 1
 fails_within sheet zero s lines fails = absurd fails
 fails_within sheet (suc zero) s lines fails = omega arith
 fails_within sheet (suc (suc n)) s [] fails = absurd fails

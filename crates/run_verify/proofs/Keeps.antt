@@ -11,7 +11,7 @@ use Rattle.memc_table.specs.declared.act.Act.TheVariants.{Get, Set, Add, Replace
 use Rattle.group_calls.specs.Turns.{accepts}
 use Rattle.group_calls.specs.declared.entry.Entry.{Entry}
 use Rattle.transcript_text.specs.declared.place.Place.{Place}
-use Rattle.run_verify.specs.Keeping.{HasChanged, HasEffect, IsFound, IsFoundIf, IsWritten, change_by, with_changes}
+use Rattle.run_verify.specs.Keeping.{HasChanged, HasEffect, IsFoundIf, IsRunFound, IsValueWritten, change_by, with_changes}
 use Rattle.run_verify.specs.Passing.{Account, changes_at, effect_of, value_in, with_change}
 use Rattle.run_verify.specs.declared.change.Change.{Change}
 use Rattle.run_verify.specs.declared.change.Effect.{Effect}
@@ -32,7 +32,7 @@ module _ (s : Dimensions) (places : List Place) (a : Account) (e : Entry) where
   accepted_kept next change accepted (run, is, found) same = (
     run,
     subst (λ (b : Bool). IsFoundIf b s places a e run) (sym accepted)
-        (subst (λ (x : Change). IsFound s places (home_of (key_of e.op.act) s.k)
+        (subst (λ (x : Change). IsRunFound s places (home_of (key_of e.op.act) s.k)
         (length (changes_at a (home_of (key_of e.op.act) s.k)) + 1) x.effect run) is found),
     same ∙ ap (λ (x : Change). with_changes a (put [] a.changes (home_of (key_of e.op.act) s.k) (at [] a.changes (home_of (key_of e.op.act) s.k) ++ x ∷ []))) is
         ∙ ap (λ (b : Bool). with_changes a (with_change b (home_of (key_of e.op.act) s.k) (change_by a e run) a.changes)) (sym accepted),
@@ -54,16 +54,16 @@ module _ (s : Dimensions) (places : List Place) (a : Account) (e : Entry) where
   writes (Decr key by) d t value run = refl
 
   pub written_has : (d : ℕ) (change : Change) → ((key : List ℕ) → e.op.act ≢ Delete key)
-      → ((key : List ℕ) (expiry : _) → e.op.act ≢ Touch key expiry) → IsWritten s places a (key_of e.op.act) d change
+      → ((key : List ℕ) (expiry : _) → e.op.act ≢ Touch key expiry) → IsValueWritten s places a (key_of e.op.act) d change
       → HasEffect s places a e d change
   written_has d change not_delete not_touch (run, is, found) =
       let value : List ℕ = value_in (a.table.items (key_of e.op.act)) in
       let same : change ≡ change_by a e run = is ∙ ap (λ (x : Effect). record { key = key_of e.op.act; effect = x })
       (sym (writes e.op.act not_delete not_touch value run)) in
-      (run, same, subst (λ (x : Change). IsFound s places d (length (changes_at a d) + 1) x.effect run) (sym is) found)
+      (run, same, subst (λ (x : Change). IsRunFound s places d (length (changes_at a d) + 1) x.effect run) (sym is) found)
 
   pub written_ok : {E : Type 0} (d : ℕ) (r : Result Change E) → ((key : List ℕ) → e.op.act ≢ Delete key)
-      → ((key : List ℕ) (expiry : _) → e.op.act ≢ Touch key expiry) → IfOk r (IsWritten s places a (key_of e.op.act) d)
+      → ((key : List ℕ) (expiry : _) → e.op.act ≢ Touch key expiry) → IfOk r (IsValueWritten s places a (key_of e.op.act) d)
       → IfOk r (HasEffect s places a e d)
   written_ok d (Ok change) nd nt is = written_has d change nd nt is
   written_ok d (Err x) nd nt is = tt

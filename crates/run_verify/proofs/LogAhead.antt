@@ -2,14 +2,14 @@
 use Rattle.std.proofs.Common.{◌≡◌, ℕ, inl, inr, true, false, List, ◌∷◌, ◌++◌, sym, ap, ◌∙◌}
 use Rattle.std.specs.Prelude.{◌↔◌}
 use Rattle.std.proofs.lemmas.List.{append_cancel_left}
-use Rattle.run_verify.specs.Passing.{Begins, LogsAhead, begins_entry}
+use Rattle.run_verify.specs.Passing.{IsFrontOf, LogsAhead, begins_entry}
 
 -- a line that is no line of the log ends the search
 pub ahead_stops : (front reply line : List ℕ) (lines : List (List ℕ)) → begins_entry line ≡ false → ¬ (LogsAhead front reply (line ∷ lines))
 ahead_stops front reply line lines plain found = absurd (cc (found.0, plain))
 
 -- a line that begins otherwise is passed over
-pub ahead_goes : (front reply line : List ℕ) (lines : List (List ℕ)) → begins_entry line ≡ true → ¬ (Begins front line)
+pub ahead_goes : (front reply line : List ℕ) (lines : List (List ℕ)) → begins_entry line ≡ true → ¬ (IsFrontOf front line)
     → LogsAhead front reply lines ↔ LogsAhead front reply (line ∷ lines)
 ahead_goes front reply line lines entry other = (λ found. (entry, inr (other, found)), back) where
   back : LogsAhead front reply (line ∷ lines) → LogsAhead front reply lines

@@ -12,10 +12,10 @@ use Rattle.memc_table.specs.Contents.{table_after}
 use Rattle.group_calls.specs.Turns.{accepts}
 use Rattle.group_calls.specs.declared.entry.Entry.{Entry}
 use Rattle.transcript_text.specs.declared.place.Place.{Place}
-use Rattle.run_verify.specs.Courses.{IsLogged, IsSheetOf, state_of}
-use Rattle.run_verify.specs.Judging.{HasRead, Judges, with_table}
-use Rattle.run_verify.specs.Keeping.{IsFound, IsFoundIf, IsKept}
-use Rattle.run_verify.specs.Passing.{Account, IsToldFor, IsToldRun, PassesBy, State, after_entry, change_of, changes_at, part_of}
+use Rattle.run_verify.specs.Courses.{IsLineLogged, IsSheetOf, judging_state}
+use Rattle.run_verify.specs.Judging.{HasReadEntry, Judges, with_table}
+use Rattle.run_verify.specs.Keeping.{IsEntryKept, IsFoundIf, IsRunFound}
+use Rattle.run_verify.specs.Passing.{Account, IsToldFor, IsToldRun, JudgingState, PassesBy, account_after_entry, change_of, changes_at, entry_partition}
 use Rattle.run_verify.specs.Runs.{ArePlacesOf}
 use Rattle.run_verify.specs.Sheet.{Sheet}
 use Rattle.run_verify.specs.declared.change.Change.{Change}
@@ -36,43 +36,43 @@ home-in key k some = omega arith
 
 module _ (sheet : Sheet) (places : List Place) (are : ArePlacesOf sheet.lines places) (shape : IsShape sheet.script.shape) where
   told-for : (d number : ℕ) → d < 2 ^ 32 → number < 2 ^ 64 → (effect : Effect) (run : Option Run)
-      → IsFound sheet.script.shape places d number effect run → IsToldFor sheet d number effect run
+      → IsRunFound sheet.script.shape places d number effect run → IsToldFor sheet d number effect run
   told-for d number low few (Writes value found) run is = run_found sheet.script.shape d number (length value) low few
       (let small = shape.blocks.1 in omega (arith, small)) sheet.lines places run are is
   told-for d number low few Removes run is = tt
   told-for d number low few Keeps run is = tt
 
-  told-if : (a : Account) (e : Entry) (run : Option Run) → length (changes_at a (part_of sheet e)) < 2 ^ 62 → (b : Bool)
+  told-if : (a : Account) (e : Entry) (run : Option Run) → length (changes_at a (entry_partition sheet e)) < 2 ^ 62 → (b : Bool)
       → IsFoundIf b sheet.script.shape places (with_table a (table_after a.table e.op)) e run
       → IsToldRun b sheet a e run
   told-if a e run few true is =
       let home = home-in (key_of e.op.act) sheet.script.shape.k shape.k.0 in
       let most = shape.k.1 in
-      told-for (part_of sheet e) (length (changes_at a (part_of sheet e)) + 1) (omega (arith, home, most))
+      told-for (entry_partition sheet e) (length (changes_at a (entry_partition sheet e)) + 1) (omega (arith, home, most))
       (omega (arith, few)) (change_of a e run).effect run is
   told-if a e run few false is = tt
 
   logged-in : (a : Account) (line : List ℕ) (mid : Account) (e : Entry) (now : Account)
-      → All (λ cs. length cs < 2 ^ 62) a.changes → HasRead a line mid (Some e)
-      → IsKept sheet.script.shape places mid e now → IsLogged sheet a line now
+      → All (λ cs. length cs < 2 ^ 62) a.changes → HasReadEntry a line mid (Some e)
+      → IsEntryKept sheet.script.shape places mid e now → IsLineLogged sheet a line now
   logged-in a line mid e now few (tells, table) kept =
-      let here = subst (λ (m : Account). IsKept sheet.script.shape places m e now) table kept in
-      (e, here.0, tells, told-if a e here.0 (few-at (2 ^ 62) a.changes (part_of sheet e) (omega arith) few) (accepts e.reply) here.1, here.2)
+      let here = subst (λ (m : Account). IsEntryKept sheet.script.shape places m e now) table kept in
+      (e, here.0, tells, told-if a e here.0 (few-at (2 ^ 62) a.changes (entry_partition sheet e) (omega arith) few) (accepts e.reply) here.1, here.2)
 
 -- a line that tells an entry, which was kept
 pub logs_entry : (s : Dimensions) (places : List Place) (a : Account) (line : List ℕ) (mid : Account) (e : Entry)
-    (now : Account) → IsShape s → All (λ cs. length cs < 2 ^ 62) a.changes → HasRead a line mid (Some e)
-    → IsKept s places mid e now
-    → (sheet : Sheet) → IsSheetOf s places sheet → IsLogged sheet a line now
+    (now : Account) → IsShape s → All (λ cs. length cs < 2 ^ 62) a.changes → HasReadEntry a line mid (Some e)
+    → IsEntryKept s places mid e now
+    → (sheet : Sheet) → IsSheetOf s places sheet → IsLineLogged sheet a line now
 logs_entry s places a line mid e now shape few read kept sheet is =
     logged-in sheet places is.places_are (subst IsShape (sym is.shape) shape) a line mid e now few read
-    (subst (λ (d : Dimensions). IsKept d places mid e now) (sym is.shape) kept)
+    (subst (λ (d : Dimensions). IsEntryKept d places mid e now) (sym is.shape) kept)
 
 module _ (sheet : Sheet) (a : Account) (step : Step) (steps : List Step) (logging : Bool) (line : List ℕ) (ahead : List (List ℕ)) where
   -- a line that tells no entry doesn't pass as one of the log
-  pub not_log : ((next : Account) → ¬ (IsLogged sheet a line next)) → (next : State)
-      → ¬ (PassesBy true sheet (state_of a (step ∷ steps) logging) line ahead next)
-  not_log none next (may, e, run, tells, told, same) = none (after_entry sheet a e run) (e, run, tells, told, refl)
+  pub not_log : ((next : Account) → ¬ (IsLineLogged sheet a line next)) → (next : JudgingState)
+      → ¬ (PassesBy true sheet (judging_state a (step ∷ steps) logging) line ahead next)
+  not_log none next (may, e, run, tells, told, same) = none (account_after_entry sheet a e run) (e, run, tells, told, refl)
 
 -- a judgement that was no
 pub judged_not : {X E : Type 0} (Good : X → Type 0) (now : X) (r : Result Bool E) (b : Bool) → r ≡ Ok b → b ≡ false

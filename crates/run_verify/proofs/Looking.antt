@@ -9,9 +9,9 @@ use Rattle.group_types.specs.declared.process.ProcessId.{ProcessId}
 use Rattle.group_types.specs.declared.process.ProcessId.TheVariants.{DataNode, ParityNode}
 use Rattle.group_types.specs.declared.run.Run.{Run}
 use Rattle.scenario_text.specs.Texts.{stamp_text, value_text}
-use Rattle.transcript_text.specs.Texts.{FitsNumber, Shows, ShowsNone}
+use Rattle.transcript_text.specs.Texts.{FitsNumber, ShowsNone, ShowsValue}
 use Rattle.run_verify.specs.Passing.{Account, TellsBytes}
-use Rattle.run_verify.specs.Showing.{AreBelow, IsFitChange, IsStamped, IsTold, space_seen, stamp_len}
+use Rattle.run_verify.specs.Showing.{AreBelow, IsFitChange, IsStamped, IsWordTold, space_seen, stamp_len}
 use Rattle.run_verify.specs.Updates.{IsStampOf}
 use Rattle.run_verify.specs.declared.change.Change.{Change}
 use Rattle.run_verify.proofs.Stamping.{shows_same}
@@ -59,15 +59,15 @@ module _ (s : Dimensions) (a : Account) (p : ProcessId) (run : Run) (line : List
   text-of : (stamp : List ℕ) → List ℕ
   text-of stamp = value_text (bytes_at run.at run.len (space_seen s a.changes p stamp))
 
-  shows-it : (t : TellsBytes s a p run line) → Shows line t.stamp (text-of t.stamp)
+  shows-it : (t : TellsBytes s a p run line) → ShowsValue line t.stamp (text-of t.stamp)
   unfolding text-of
   shows-it t = sym t.text
 
   pub shows_nothing : ShowsNone line (stamp_len s p) → ¬ (TellsBytes s a p run line)
   shows_nothing none t = none t.stamp (text-of t.stamp) (of-stamp s a.changes p t.stamp t.can).0 t.fits (shows-it t)
 
-  pub shows_told : (stamp word : List ℕ) → length stamp ≡ stamp_len s p → All FitsNumber stamp → Shows line stamp word
-      → IsTold s a.changes p run stamp word ↔ TellsBytes s a p run line
+  pub shows_told : (stamp word : List ℕ) → length stamp ≡ stamp_len s p → All FitsNumber stamp → ShowsValue line stamp word
+      → IsWordTold s a.changes p run stamp word ↔ TellsBytes s a p run line
   unfolding text-of
   shows_told stamp word long fits shows = (
     λ told. record {
@@ -78,7 +78,7 @@ module _ (s : Dimensions) (a : Account) (p : ProcessId) (run : Run) (line : List
     },
     back,
   ) where
-    back : TellsBytes s a p run line → IsTold s a.changes p run stamp word
+    back : TellsBytes s a p run line → IsWordTold s a.changes p run stamp word
     back t =
         let of = of-stamp s a.changes p t.stamp t.can in
         let same = shows_same line t.stamp stamp (text-of t.stamp) word t.fits fits (of.0 ∙ sym long) (shows-it t) shows in

@@ -2,16 +2,16 @@
 use Rattle.std.proofs.Common.{◌≢◌, inl, inr, ℕ, Bool, false, List, ◌∷◌, refl, subst}
 use Rattle.group_types.specs.Dimensions.{Dimensions}
 use Rattle.transcript_text.specs.declared.place.Place.{Place}
-use Rattle.run_verify.specs.Courses.{HasFoundOn, IsMet, state_of}
-use Rattle.run_verify.specs.Passing.{Account, PassesBy, State, after_answer, with_shown}
+use Rattle.run_verify.specs.Courses.{HasFoundOn, IsMet, judging_state}
+use Rattle.run_verify.specs.Passing.{Account, JudgingState, PassesBy, after_answer, with_shown}
 use Rattle.run_verify.specs.Sheet.{Sheet}
 use Rattle.run_verify.specs.declared.pass.Found.TheVariants as found
 use Rattle.run_verify.specs.declared.step.Step.{Step}
 use Rattle.run_verify.specs.declared.step.Step.TheVariants.{Make, Deliveries, Look, Placing}
 
 unmet : (sheet : Sheet) (a : Account) (step : Step) (steps : List Step) (logging : Bool) (line : List ℕ) (ahead : List (List ℕ)) → step ≢ Placing
-    → ((next : Account) → ¬ (IsMet sheet.script.shape a step line ahead next)) → (next : State)
-    → ¬ (PassesBy false sheet (state_of a (step ∷ steps) logging) line ahead next)
+    → ((next : Account) → ¬ (IsMet sheet.script.shape a step line ahead next)) → (next : JudgingState)
+    → ¬ (PassesBy false sheet (judging_state a (step ∷ steps) logging) line ahead next)
 unmet sheet a (Make event) steps logging line ahead other none next (answer, answers, same) = none (after_answer a event answer) (answer, answers, refl)
 unmet sheet a Deliveries steps logging line ahead other none next (n, low, is, same) = none a ((n, low, is), refl)
 unmet sheet a (Look p run) steps logging line ahead other none next (inl (tells, same)) = none (with_shown a) (inl (tells, refl))

@@ -4,9 +4,9 @@ use Rattle.std.proofs.lemmas.List.{take_all}
 use Rattle.std.specs.Prelude.{All, Result, Ok, Err, IfOk}
 use Rattle.group_types.specs.Dimensions.{Dimensions}
 use Rattle.group_types.specs.Shape.{IsShape}
-use Rattle.run_verify.specs.Courses.{HasFoundBy, IsJudgedBehind, IsPlacedBehind, IsWithin, logging_by, state_of, turn_by}
+use Rattle.run_verify.specs.Courses.{HasFoundBy, IsAccountWithin, IsJudgedBehind, IsPlacedBehind, judging_state, logging_by, turn_by}
 use Rattle.run_verify.specs.Judging.{IsStepOf}
-use Rattle.run_verify.specs.Passing.{Account, State, begins_entry}
+use Rattle.run_verify.specs.Passing.{Account, JudgingState, begins_entry}
 use Rattle.run_verify.specs.Placings.{placing}
 use Rattle.run_verify.specs.Plain.{EndsPlacing}
 use Rattle.run_verify.specs.Sheet.{Sheet}
@@ -30,18 +30,18 @@ module _ (sheet : Sheet) (a : Account) (turn : List Step) (step : Step) (logging
     (ahead : List (List ℕ)) (now : Account) (split : turn ≡ step ∷ drop 1 turn) where
   -- the line fails
   pub moved_fails : HasFoundBy (begins_entry line) sheet a step (drop 1 turn) logging line ahead now found.Fails
-      → (done : ℕ) → IsJudgedBehind done sheet (state_of a turn logging) (line ∷ ahead) (Refused (done + 1))
+      → (done : ℕ) → IsJudgedBehind done sheet (judging_state a turn logging) (line ∷ ahead) (Refused (done + 1))
   moved_fails none done =
-      subst (λ (t : List Step). IsJudgedBehind done sheet (state_of a t logging) (line ∷ ahead) (Refused (done + 1))) (sym split)
-      (judged_fails sheet (state_of a (step ∷ drop 1 turn) logging) line ahead done none)
+      subst (λ (t : List Step). IsJudgedBehind done sheet (judging_state a t logging) (line ∷ ahead) (Refused (done + 1))) (sym split)
+      (judged_fails sheet (judging_state a (step ∷ drop 1 turn) logging) line ahead done none)
 
   -- it is one for the places
   pub moved_places : HasFoundBy (begins_entry line) sheet a step (drop 1 turn) logging line ahead now found.Places
       → EndsPlacing turn → (s : Dimensions) → sheet.script.shape ≡ s → (done : ℕ) (v : Verdict)
-      → IsPlacedBehind done s now (line ∷ ahead) v → IsJudgedBehind done sheet (state_of a turn logging) (line ∷ ahead) v
+      → IsPlacedBehind done s now (line ∷ ahead) v → IsJudgedBehind done sheet (judging_state a turn logging) (line ∷ ahead) v
   moved_places (is, other, same) ends s shape done v placed =
       let here = subst (λ (x : Account). IsJudgedBehind done sheet (placing x) (line ∷ ahead) v) same (placed sheet shape) in
-      subst (λ (t : List Step). IsJudgedBehind done sheet (state_of a t logging) (line ∷ ahead) v) (sym split)
+      subst (λ (t : List Step). IsJudgedBehind done sheet (judging_state a t logging) (line ∷ ahead) v) (sym split)
       (judged_places sheet a logging line ahead other step (drop 1 turn) is (subst EndsPlacing split ends) done v here)
 
   -- it passes
@@ -50,15 +50,15 @@ module _ (sheet : Sheet) (a : Account) (turn : List Step) (step : Step) (logging
     next-split : next ≡ turn_by p (step ∷ drop 1 turn) (drop 1 turn)
     next-split = next_is ∙ ap (λ (t : List Step). turn_by p t (drop 1 turn)) split
 
-    pub moved_judged : (done : ℕ) (v : Verdict) → IsJudgedBehind (done + 1) sheet (state_of now next may) ahead v
-        → IsJudgedBehind done sheet (state_of a turn logging) (line ∷ ahead) v
+    pub moved_judged : (done : ℕ) (v : Verdict) → IsJudgedBehind (done + 1) sheet (judging_state now next may) ahead v
+        → IsJudgedBehind done sheet (judging_state a turn logging) (line ∷ ahead) v
     moved_judged done v judged =
-        let after : State = state_of now (turn_by p (step ∷ drop 1 turn) (drop 1 turn)) (logging_by p logging) in
-        let same : state_of now next may ≡ after = ap (λ (t : List Step). state_of now t may) next-split
-        ∙ ap (state_of now (turn_by p (step ∷ drop 1 turn) (drop 1 turn))) may_is in
-        let here = subst (λ (x : State). IsJudgedBehind (done + 1) sheet x ahead v) same judged in
-        subst (λ (t : List Step). IsJudgedBehind done sheet (state_of a t logging) (line ∷ ahead) v) (sym split)
-        (judged_on sheet (state_of a (step ∷ drop 1 turn) logging) line ahead after
+        let after : JudgingState = judging_state now (turn_by p (step ∷ drop 1 turn) (drop 1 turn)) (logging_by p logging) in
+        let same : judging_state now next may ≡ after = ap (λ (t : List Step). judging_state now t may) next-split
+        ∙ ap (judging_state now (turn_by p (step ∷ drop 1 turn) (drop 1 turn))) may_is in
+        let here = subst (λ (x : JudgingState). IsJudgedBehind (done + 1) sheet x ahead v) same judged in
+        subst (λ (t : List Step). IsJudgedBehind done sheet (judging_state a t logging) (line ∷ ahead) v) (sym split)
+        (judged_on sheet (judging_state a (step ∷ drop 1 turn) logging) line ahead after
         (goes_passes (begins_entry line) sheet a step (drop 1 turn) logging line ahead now p goes is) done v here)
 
     pub moved_ends : EndsPlacing turn → EndsPlacing next
@@ -71,7 +71,7 @@ module _ (sheet : Sheet) (a : Account) (turn : List Step) (step : Step) (logging
         (goes_fit (begins_entry line) sheet a step (drop 1 turn) logging line ahead now s p
         (subst (All (IsStepOf s)) split fit))
 
-    pub moved_within : (n : ℕ) → IsShape sheet.script.shape → IsWithin sheet.script.shape n a → IsWithin sheet.script.shape (n + 1) now
+    pub moved_within : (n : ℕ) → IsShape sheet.script.shape → IsAccountWithin sheet.script.shape n a → IsAccountWithin sheet.script.shape (n + 1) now
     moved_within n shape within = goes_within (begins_entry line) sheet a step (drop 1 turn) logging line ahead now n p goes is shape within
 
 -- a slice of all but the first

@@ -6,9 +6,9 @@ use Rattle.group_types.specs.Lists.{same_key}
 use Rattle.group_types.specs.declared.run.Run.{Run}
 use Rattle.scenario_text.specs.Texts.{place_text}
 use Rattle.scenario_run.specs.Lines.{lines_of}
-use Rattle.run_verify.specs.Changes.{run_behind, run_by, run_if}
+use Rattle.run_verify.specs.Changes.{run_after_changes, run_by, run_if}
 use Rattle.run_verify.specs.Dues.{HasPassed, HasToldAt, LacksFirst, TellsAt, due_at}
-use Rattle.run_verify.specs.Items.{StandBehind, runs_of, with_run}
+use Rattle.run_verify.specs.Items.{StandBehind, item_runs_of, with_run}
 use Rattle.run_verify.specs.Passing.{TellsRun}
 use Rattle.run_verify.specs.declared.change.Change.{Change}
 use Rattle.run_verify.specs.declared.change.Effect.{Effect}
@@ -19,8 +19,8 @@ use Rattle.run_verify.specs.declared.judging.Passed.TheVariants as passed
 use Rattle.run_verify.specs.declared.judging.Spot.{Spot}
 
 -- another change behind others
-run-push : (key : List ℕ) (old : Option Run) (before : List Change) (c : Change) → run_behind key old (before ++ c ∷ [])
-    ≡ run_if (same_key c.key key) c.effect (run_behind key old before)
+run-push : (key : List ℕ) (old : Option Run) (before : List Change) (c : Change) → run_after_changes key old (before ++ c ∷ [])
+    ≡ run_if (same_key c.key key) c.effect (run_after_changes key old before)
 run-push key old [] c = refl
 run-push key old (b ∷ before) c = run-push key (run_if (same_key b.key key) b.effect old) before c
 
@@ -31,8 +31,8 @@ run-kept false old = refl
 pub stand_kept : (before : List Change) (c : Change) (items : Items) → c.effect ≡ Keeps → StandBehind before items → StandBehind (before ++ c ∷ []) items
 stand_kept before c items keeps stand key =
     stand key ∙ sym (run-push key None before c
-    ∙ ap (λ (e : Effect). run_if (same_key c.key key) e (run_behind key None before)) keeps
-    ∙ run-kept (same_key c.key key) (run_behind key None before))
+    ∙ ap (λ (e : Effect). run_if (same_key c.key key) e (run_after_changes key None before)) keeps
+    ∙ run-kept (same_key c.key key) (run_after_changes key None before))
 
 -- an item has this run, or none, by what an effect does
 sets : (effect : Effect) (run : Option Run) (old : Option Run) (b : Bool) → run_by effect old ≡ run → (if b then run else old) ≡ run_if b effect old
@@ -41,17 +41,17 @@ sets effect run old false by = refl
 
 pub stand_set : (before : List Change) (c : Change) (was now : Items) (run : Option Run)
     → ((old : Option Run) → run_by c.effect old ≡ run)
-    → ((other : List ℕ) → runs_of now other ≡ with_run c.key run (runs_of was) other)
+    → ((other : List ℕ) → item_runs_of now other ≡ with_run c.key run (item_runs_of was) other)
     → StandBehind before was → StandBehind (before ++ c ∷ []) now
 stand_set before c was now run by same stand key =
     same key ∙ ap (λ (old : Option Run). if same_key c.key key then run else old) (stand key)
-    ∙ sets c.effect run (run_behind key None before) (same_key c.key key) (by (run_behind key None before))
+    ∙ sets c.effect run (run_after_changes key None before) (same_key c.key key) (by (run_after_changes key None before))
     ∙ sym (run-push key None before c)
 
 -- a line tells the run of a change
 module _ (s : Dimensions) (spot : Spot) (before : List Change) (long : length before ≡ spot.place) (items : Items)
     (stand : StandBehind before items) (value : List ℕ) (line : List ℕ) where
-  to-told : (run : Run) → TellsAt s spot run (length value) (runs_of items) line → TellsRun s (due_at spot.partition before value (Some run)) line
+  to-told : (run : Run) → TellsAt s spot run (length value) (item_runs_of items) line → TellsRun s (due_at spot.partition before value (Some run)) line
   to-told run (fits, off, text) = record {
     run = run;
     is = refl;
@@ -59,10 +59,10 @@ module _ (s : Dimensions) (spot : Spot) (before : List Change) (long : length be
     clear = record { inside = fits.1; long = fits.0; apart = λ key other is. off key other (stand key ∙ is) };
   }
 
-  of-told : (run : Run) → TellsRun s (due_at spot.partition before value (Some run)) line → TellsAt s spot run (length value) (runs_of items) line
+  of-told : (run : Run) → TellsRun s (due_at spot.partition before value (Some run)) line → TellsAt s spot run (length value) (item_runs_of items) line
   of-told run tells =
       let same : run ≡ tells.run = cc tells.is in
-      subst (λ (r : Run). TellsAt s spot r (length value) (runs_of items) line) (sym same) (
+      subst (λ (r : Run). TellsAt s spot r (length value) (item_runs_of items) line) (sym same) (
         (tells.clear.long, tells.clear.inside),
         λ key other is. tells.clear.apart key other (sym (stand key) ∙ is),
         tells.text ∙ ap (λ (n : ℕ). place_text spot.partition (n + 1) tells.run) long,
@@ -95,7 +95,7 @@ module _ (spot : Spot) (before : List Change) (long : length before ≡ spot.pla
       value,
       Some run,
       writes,
-      lacks (TellsAt was.shape spot run (length value) (runs_of was))
+      lacks (TellsAt was.shape spot run (length value) (item_runs_of was))
           (TellsRun was.shape (due_at spot.partition before value (Some run))) (lines_of text)
           (λ line tells. of-told was.shape spot before long was stand value line run tells) none,
     )

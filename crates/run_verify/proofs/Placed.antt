@@ -4,9 +4,9 @@ use Rattle.std.proofs.Common.{Option, Some, None, drop, length, refl, sym, ap, �
 use Rattle.std.specs.Prelude.{IfOk, Result, Ok, Err}
 use Rattle.group_types.specs.Dimensions.{Dimensions}
 use Rattle.scenario_run.specs.Lines.{lines_of}
-use Rattle.run_verify.specs.Dues.{ArePlacedBehind, HasEnded, LacksFirst, LeadsTo, dues_in, dues_left}
-use Rattle.run_verify.specs.Passing.{Account, Due, MayLog, Passes, PassesBy, PassesPlace, State, TellsRun, begins_entry}
-use Rattle.run_verify.specs.Passing.{changes_at, dues_from, dues_of, on_to, with_placed}
+use Rattle.run_verify.specs.Dues.{ArePlacedBehind, HasCountedPlaces, LacksFirst, LeadsTo, dues_in, dues_left}
+use Rattle.run_verify.specs.Passing.{Account, DuePlace, JudgingState, MayLog, Passes, PassesBy, PassesPlace, TellsRun, begins_entry}
+use Rattle.run_verify.specs.Passing.{changes_at, due_places_of, dues_from, on_to, with_placed}
 use Rattle.run_verify.specs.Placings.{ArePlacedFrom, placing}
 use Rattle.run_verify.specs.Sheet.{Sheet}
 use Rattle.run_verify.specs.Told.{placed_line}
@@ -24,7 +24,7 @@ no-log-ended a (inl e) = absurd (cc e)
 no-log-ended a (inr (more, e)) = absurd (cc e)
 
 -- behind the last step nothing passes
-none-passes : (sheet : Sheet) (a : Account) (line : List ℕ) (lines : List (List ℕ)) (next : State) → ¬ (Passes sheet (on_to a []) line lines next)
+none-passes : (sheet : Sheet) (a : Account) (line : List ℕ) (lines : List (List ℕ)) (next : JudgingState) → ¬ (Passes sheet (on_to a []) line lines next)
 none-passes sheet a line lines next passes = by (begins_entry line) passes where
   by : (b : Bool) → PassesBy b sheet (on_to a []) line lines next → ⊥
   by true p = no-log-ended a p.0
@@ -32,9 +32,9 @@ none-passes sheet a line lines next passes = by (begins_entry line) passes where
 
 dues-same : (a : Account) (d n : ℕ) → dues_from a d n ≡ dues_in a.changes d n
 dues-same a d zero = refl
-dues-same a d (suc n) = ap (λ (ds : List Due). dues_of d [] (changes_at a d) ++ ds) (dues-same a (d + 1) n)
+dues-same a d (suc n) = ap (λ (ds : List DuePlace). due_places_of d [] (changes_at a d) ++ ds) (dues-same a (d + 1) n)
 
-module _ (s : Dimensions) (changes : List (List Change)) (many : length changes ≡ s.k) (p : ℕ) (dues : List Due)
+module _ (s : Dimensions) (changes : List (List Change)) (many : length changes ≡ s.k) (p : ℕ) (dues : List DuePlace)
     (left : dues_left changes p ≡ dues) (sheet : Sheet) (a : Account) (shape : sheet.script.shape ≡ s)
     (same : a.changes ≡ changes) (count : a.placed ≡ p)
   where
@@ -47,25 +47,25 @@ module _ (s : Dimensions) (changes : List (List Change)) (many : length changes 
         ∙ (let e : length changes ≡ length changes - 0 = omega arith in e))
         ∙ left
 
-    to-pass : (line : List ℕ) (lines : List (List ℕ)) (next : State) → begins_entry line ≡ false
+    to-pass : (line : List ℕ) (lines : List (List ℕ)) (next : JudgingState) → begins_entry line ≡ false
         → PassesPlace sheet a [] dues line next → Passes sheet (placing a) line lines next
     to-pass line lines next begins passes =
         subst (λ (b : Bool). PassesBy b sheet (placing a) line lines next) (sym begins)
-        (subst (λ (ds : List Due). PassesPlace sheet a [] ds line next) (sym dues-are) passes)
+        (subst (λ (ds : List DuePlace). PassesPlace sheet a [] ds line next) (sym dues-are) passes)
 
-    of-pass : (line : List ℕ) (lines : List (List ℕ)) (next : State) → Passes sheet (placing a) line lines next → PassesPlace sheet a [] dues line next
+    of-pass : (line : List ℕ) (lines : List (List ℕ)) (next : JudgingState) → Passes sheet (placing a) line lines next → PassesPlace sheet a [] dues line next
     of-pass line lines next passes = by (begins_entry line) passes where
       by : (b : Bool) → PassesBy b sheet (placing a) line lines next → PassesPlace sheet a [] dues line next
       by true q = absurd (no-log-placing a q.0)
-      by false q = subst (λ (ds : List Due). PassesPlace sheet a [] ds line next) dues-are q
+      by false q = subst (λ (ds : List DuePlace). PassesPlace sheet a [] ds line next) dues-are q
 
 -- ---- the run that is due
 
-told-begins : (s : Dimensions) (due : Due) (line : List ℕ) → TellsRun s due line → begins_entry line ≡ false
+told-begins : (s : Dimensions) (due : DuePlace) (line : List ℕ) → TellsRun s due line → begins_entry line ≡ false
 told-begins s due line tells = ap begins_entry tells.text
 
-module _ (s : Dimensions) (changes : List (List Change)) (many : length changes ≡ s.k) (p : ℕ) (due : Due)
-    (more : List Due) (left : dues_left changes p ≡ due ∷ more) where
+module _ (s : Dimensions) (changes : List (List Change)) (many : length changes ≡ s.k) (p : ℕ) (due : DuePlace)
+    (more : List DuePlace) (left : dues_left changes p ≡ due ∷ more) where
   told-passes : (line : List ℕ) (lines : List (List ℕ)) → TellsRun s due line → (sheet : Sheet) (a : Account)
       → sheet.script.shape ≡ s → a.changes ≡ changes → a.placed ≡ p
       → Passes sheet (placing a) line lines (placing (with_placed a))
@@ -115,7 +115,7 @@ module _ (s : Dimensions) (changes : List (List Change)) (many : length changes 
   goes-on line next lines is sheet a shape same count =
       (on_to a [], ends line (next ∷ lines) is sheet a shape same count, λ then. none-passes sheet a next lines then)
 
-  pub ended_behind : (lines : List (List ℕ)) (found : Option ℕ) → HasEnded p lines found → ArePlacedBehind s changes p lines found
+  pub ended_behind : (lines : List (List ℕ)) (found : Option ℕ) → HasCountedPlaces p lines found → ArePlacedBehind s changes p lines found
   ended_behind [] None is = absurd (cc is)
   ended_behind [] (Some n) is = (suc zero, (let e : n ≡ p + 1 = cc is in e), λ sheet a shape same count none. cc none)
   ended_behind (line ∷ []) None is = λ sheet a shape same count. (a, (on_to a [], ends line [] is sheet a shape same count, (refl, refl)), refl, refl)
@@ -126,23 +126,23 @@ module _ (s : Dimensions) (changes : List (List Change)) (many : length changes 
 
 -- ---- the last line
 
-last-lacks : (p : ℕ) (line : List ℕ) (more : List (List ℕ)) → line ≢ placed_line p → HasEnded p (line ∷ more) (Some (p + 1))
+last-lacks : (p : ℕ) (line : List ℕ) (more : List (List ℕ)) → line ≢ placed_line p → HasCountedPlaces p (line ∷ more) (Some (p + 1))
 last-lacks p line [] not = (not, refl)
 last-lacks p line (next ∷ more) not = inl (not, refl)
 
 pub lacks_end : (p : ℕ) (lines : List (List ℕ)) (line : List ℕ) (more : List (List ℕ)) → lines ≡ line ∷ more
-    → line ≢ placed_line p → HasEnded p lines (Some (p + 1))
-lacks_end p lines line more is not = subst (λ (ls : List (List ℕ)). HasEnded p ls (Some (p + 1))) (sym is) (last-lacks p line more not)
+    → line ≢ placed_line p → HasCountedPlaces p lines (Some (p + 1))
+lacks_end p lines line more is not = subst (λ (ls : List (List ℕ)). HasCountedPlaces p ls (Some (p + 1))) (sym is) (last-lacks p line more not)
 
 pub is_end : (p : ℕ) (lines : List (List ℕ)) (line : List ℕ) (more : List (List ℕ)) → lines ≡ line ∷ more → more ≡ []
-    → line ≡ placed_line p → HasEnded p lines None
-is_end p lines line more is last text = subst (λ (ls : List (List ℕ)). HasEnded p ls None) (sym (is ∙ ap (λ (ls : List (List ℕ)). line ∷ ls) last)) text
+    → line ≡ placed_line p → HasCountedPlaces p lines None
+is_end p lines line more is last text = subst (λ (ls : List (List ℕ)). HasCountedPlaces p ls None) (sym (is ∙ ap (λ (ls : List (List ℕ)). line ∷ ls) last)) text
 
 pub goes_end : (p : ℕ) (lines : List (List ℕ)) (line : List ℕ) (rest : List ℕ) → lines ≡ line ∷ lines_of rest
-    → 0 < length rest → line ≡ placed_line p → HasEnded p lines (Some (p + 2))
+    → 0 < length rest → line ≡ placed_line p → HasCountedPlaces p lines (Some (p + 2))
 goes_end p lines line rest is some text =
     let more = some_lines rest some in
-    subst (λ (ls : List (List ℕ)). HasEnded p ls (Some (p + 2))) (sym (is ∙ ap (λ (ls : List (List ℕ)). line ∷ ls) more.2)) (inr (text, refl))
+    subst (λ (ls : List (List ℕ)). HasCountedPlaces p ls (Some (p + 2))) (sym (is ∙ ap (λ (ls : List (List ℕ)). line ∷ ls) more.2)) (inr (text, refl))
 
 -- ---- from the first line on
 
@@ -156,7 +156,7 @@ from_first s changes lines (Some n) (m, is, fails) = subst (λ (x : ℕ). ArePla
 
 pub found_first : {E : Type 0} (s : Dimensions) (changes : List (List Change)) (many : length changes ≡ s.k) (p : ℕ)
     (lines rest : List (List ℕ)) → dues_left changes p ≡ [] → LeadsTo s changes 0 lines p rest
-    → (r : Result (Option ℕ) E) → IfOk r (HasEnded p rest) → IfOk r (ArePlacedFrom s changes 0 lines)
+    → (r : Result (Option ℕ) E) → IfOk r (HasCountedPlaces p rest) → IfOk r (ArePlacedFrom s changes 0 lines)
 found_first s changes many p lines rest left leads (Ok found) ended =
     from_first s changes lines found (leads found (ended_behind s changes many p left rest found ended))
 found_first s changes many p lines rest left leads (Err e) ended = tt

@@ -10,7 +10,7 @@ use Rattle.group_types.specs.Dimensions.{Dimensions}
 use Rattle.scenario_text.proofs.LineWords.{keyword_in, line_by-words}
 use Rattle.scenario_text.proofs.Read.{bound}
 use Rattle.scenario_text.specs.Meaning.{event_line, keyword_of, line_by}
-use Rattle.scenario_text.specs.Words.{words_of}
+use Rattle.scenario_text.specs.Words.{split_words}
 use Rattle.scenario_text.specs.declared.keyword.Keyword.{Keyword}
 use Rattle.scenario_text.specs.declared.keyword.Keyword.TheVariants as keyword
 use Rattle.scenario_text.specs.declared.line.Line.{Line}
@@ -96,13 +96,13 @@ IsTheWord line Places = line ≡ codes "places"
 IsTheWord line Stop = line ≡ codes "stop"
 IsTheWord line _ = ⊤
 
-pub the-word : (s : Dimensions) (line : List ℕ) (l : Line) → event_line s (words_of line) ≡ Some l → IsTheWord line l
-the-word s line l is = by (words_of line) refl is
+pub the-word : (s : Dimensions) (line : List ℕ) (l : Line) → event_line s (split_words line) ≡ Some l → IsTheWord line l
+the-word s line l is = by (split_words line) refl is
   where
-    whole : (name : List ℕ) → words_of line ≡ name ∷ [] → line ≡ name
+    whole : (name : List ℕ) → split_words line ≡ name ∷ [] → line ≡ name
     whole name words = sym (join_with_byte-slice_split 32 line) ∙ ap (join_with_byte 32) words
 
-    by : (words : List (List ℕ)) → words_of line ≡ words → event_line s words ≡ Some l → IsTheWord line l
+    by : (words : List (List ℕ)) → split_words line ≡ words → event_line s words ≡ Some l → IsTheWord line l
     by [] words is = cc is
     by (name ∷ more) words is = final l (one-word name more l s is)
       where

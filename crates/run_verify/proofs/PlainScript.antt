@@ -11,15 +11,16 @@ use Rattle.group_calls.specs.declared.event.Event.{Event}
 use Rattle.group_calls.specs.declared.event.Event.TheVariants as happens
 use Rattle.scenario_run.specs.Course.{Fault, Goes, Ends, Refused}
 use Rattle.scenario_run.specs.Lines.{lines_of}
-use Rattle.scenario_text.specs.Meaning.{event_line, is_skipped, keyword_of, line_by, line_of, or_bad_line}
-use Rattle.scenario_text.specs.Words.{words_of}
+use Rattle.scenario_text.specs.Meaning.{event_line, is_skipped, keyword_of, line_by, line_meaning, or_bad_line}
+use Rattle.scenario_text.specs.Words.{split_words}
 use Rattle.scenario_text.specs.declared.line.Line.{Line}
 use Rattle.scenario_text.specs.declared.line.Line.TheVariants.{Skipped, Group, Ask, Collect, Deliver, Fail, Flush, Trace, Drain, Show, Places, Time, Stop}
 use Rattle.scenario_text.specs.declared.line.LineFault.{LineFault}
 use Rattle.scenario_text.specs.declared.line.LineFault.TheVariants.{BadLine}
 use Rattle.run_verify.specs.Plain.{EndsPlacing, FitSteps, FitsStep}
-use Rattle.run_verify.specs.Sheet.{Sheet, before_separator, behind_separator, joined, sheet_of}
-use Rattle.run_verify.specs.Steps.{Script, Setting, StepNext, asks_for, behind, by_trace, from_line, is_over, next_by, next_of, script_in, stands_well, then_by}
+use Rattle.run_verify.specs.Sheet.{Sheet, before_separator, behind_separator, sheet_joined, sheet_of}
+use Rattle.run_verify.specs.Steps.{Script, Setting, StepNext, asks_for, behind, is_over, later_steps, script_from_line, script_in, stands_well}
+use Rattle.run_verify.specs.Steps.{steps_by_meaning, steps_of_line, trace_steps}
 use Rattle.run_verify.specs.declared.step.Step.{Step}
 use Rattle.run_verify.specs.declared.step.Step.TheVariants.{Make, Deliveries, Look, Placing}
 use Rattle.run_verify.proofs.PlainRead.{IsTheWord, the-word}
@@ -47,14 +48,14 @@ Does line (Goes (Some s) steps text) = NoPlacing steps ⊎ ((line ≡ codes "pla
 Does line Ends = line ≡ codes "stop"
 Does line (Refused cause) = ⊤
 
-does-trace : (line : List ℕ) (s : Setting) (caller call : ℕ) (e : Event) → Does line (by_trace s caller call e)
+does-trace : (line : List ℕ) (s : Setting) (caller call : ℕ) (e : Event) → Does line (trace_steps s caller call e)
 does-trace line s caller call e = by (nat_lt call (slice_index s.asked caller))
   where
     by : (b : Bool) → Does line (if b then asks_for s (Make e) else Refused BadLine)
     by true = inl tt
     by false = tt
 
-does-line : (line : List ℕ) (s : Setting) (l : Line) → IsTheWord line l → Does line (then_by s l)
+does-line : (line : List ℕ) (s : Setting) (l : Line) → IsTheWord line l → Does line (later_steps s l)
 does-line line s Skipped word = inl tt
 does-line line s (Group shape) word = tt
 does-line line s (Ask caller p act) word = inl tt
@@ -69,23 +70,23 @@ does-line line s Places word = inr (word, refl)
 does-line line s (Time moment) word = inl tt
 does-line line s Stop word = word
 
-does : (line : List ℕ) (s : Setting) → is_skipped line ≡ false → Does line (next_of (Some s) line)
-does line s written = rw written (by (event_line s.shape (words_of line)) refl)
+does : (line : List ℕ) (s : Setting) → is_skipped line ≡ false → Does line (steps_of_line (Some s) line)
+does line s written = rw written (by (event_line s.shape (split_words line)) refl)
   where
-    by : (o : Option Line) → event_line s.shape (words_of line) ≡ o → Does line (next_by (Some s) (or_bad_line o))
+    by : (o : Option Line) → event_line s.shape (split_words line) ≡ o → Does line (steps_by_meaning (Some s) (or_bad_line o))
     by None is = tt
     by (Some l) is = does-line line s l (the-word s.shape line l is)
 
 -- the lines that mean nothing
-pub skips : (line : List ℕ) (setting : Option Setting) → is_skipped line ≡ true → next_of setting line ≡ Goes setting [] []
+pub skips : (line : List ℕ) (setting : Option Setting) → is_skipped line ≡ true → steps_of_line setting line ≡ Goes setting [] []
 skips line None skipped = rw skipped refl
 skips line (Some s) skipped = rw skipped refl
 
-places-line : (s : Setting) → next_of (Some s) (codes "places") ≡ Goes (Some s) (Placing ∷ []) []
+places-line : (s : Setting) → steps_of_line (Some s) (codes "places") ≡ Goes (Some s) (Placing ∷ []) []
 unfolding keyword_of line_by
 places-line s = refl
 
-stop-line : (s : Setting) → next_of (Some s) (codes "stop") ≡ Ends
+stop-line : (s : Setting) → steps_of_line (Some s) (codes "stop") ≡ Ends
 unfolding keyword_of line_by
 stop-line s = refl
 
@@ -148,21 +149,22 @@ goes-on line lines steps next n script onward kind placing well is = by (is_over
 
 -- what a step of reading comes to
 ends-line : (n : ℕ) (s : Setting) (line : List ℕ) (lines : List (List ℕ)) (script : Script) → Goal lines
-    → (next : StepNext) → next_of (Some s) line ≡ next → is_skipped line ≡ false → Does line next
+    → (next : StepNext) → steps_of_line (Some s) line ≡ next → is_skipped line ≡ false → Does line next
     → (well : Bool) → stands_well line lines ≡ well
-    → from_line false well n (Some s) next (λ setting. script_in (n + 1) setting lines) ≡ Ok script
+    → script_from_line false well n (Some s) next (λ setting. script_in (n + 1) setting lines) ≡ Ok script
     → EndsBy (bytes_eq line (codes "stop")) script.steps
 ends-line n s line lines script onward (Goes None steps text) is written does well stands is_ok = absurd does
 ends-line n s line lines script onward (Goes (Some next) steps text) is written does false stands is_ok = cc is_ok
 ends-line n s line lines script onward (Goes (Some next) steps text) is written does true stands is_ok = by (bytes_eq line (codes "stop")) refl
   where
     placing : line ≡ codes "places" → steps ≡ Placing ∷ []
-    placing word = let both : Goes (Some next) steps text ≡ Goes (Some s) (Placing ∷ []) [] = sym is ∙ ap (next_of (Some s)) word ∙ places-line s in cc both
+    placing word = let both : Goes (Some next) steps text ≡ Goes (Some s) (Placing ∷ []) [] =
+        sym is ∙ ap (steps_of_line (Some s)) word ∙ places-line s in cc both
 
     by : (b : Bool) → bytes_eq line (codes "stop") ≡ b → EndsBy b script.steps
     by false other = goes-on line lines steps next n script onward does placing stands is_ok
     by true stop = absurd (let word = (bytes_eq-Decides line (codes "stop")).0 stop in
-        let both : Goes (Some next) steps text ≡ Ends = sym is ∙ ap (next_of (Some s)) word ∙ stop-line s in cc both)
+        let both : Goes (Some next) steps text ≡ Ends = sym is ∙ ap (steps_of_line (Some s)) word ∙ stop-line s in cc both)
 ends-line n s line lines script onward Ends is written word well stands is_ok =
     let same : record { shape = s.shape; steps = [] } ≡ script = cc is_ok in
     let stop = (bytes_eq-Decides line (codes "stop")).1 word in
@@ -176,14 +178,14 @@ ends-script (line ∷ lines) n s script is = by (is_skipped line) refl (ends-scr
     by : (b : Bool) → is_skipped line ≡ b → Goal lines → EndsBy (is_over (line ∷ lines)) script.steps
     by true skipped onward =
         let read : script_in (n + 1) (Some s) lines ≡ Ok script =
-        sym (ap (λ (x : StepNext). from_line true (stands_well line lines) n (Some s) x
+        sym (ap (λ (x : StepNext). script_from_line true (stands_well line lines) n (Some s) x
         (λ setting. script_in (n + 1) setting lines)) (skips line (Some s) skipped))
-        ∙ sym (ap (λ (b : Bool). from_line b (stands_well line lines) n (Some s) (next_of (Some s) line)
+        ∙ sym (ap (λ (b : Bool). script_from_line b (stands_well line lines) n (Some s) (steps_of_line (Some s) line)
         (λ setting. script_in (n + 1) setting lines)) skipped) ∙ is in
         rw skipped (onward (n + 1) s script read)
     by false written onward =
-        rw written (ends-line n s line lines script onward (next_of (Some s) line) refl written (does line s written) (stands_well line lines) refl
-        (sym (ap (λ (b : Bool). from_line b (stands_well line lines) n (Some s) (next_of (Some s) line)
+        rw written (ends-line n s line lines script onward (steps_of_line (Some s) line) refl written (does line s written) (stands_well line lines) refl
+        (sym (ap (λ (b : Bool). script_from_line b (stands_well line lines) n (Some s) (steps_of_line (Some s) line)
         (λ setting. script_in (n + 1) setting lines)) written) ∙ is))
 
 -- ---- before the group line
@@ -193,7 +195,7 @@ DoesFirst (Goes setting steps text) = steps ≡ []
 DoesFirst Ends = ⊥
 DoesFirst (Refused cause) = ⊤
 
-does-first : (r : Result Line LineFault) → DoesFirst (next_by None r)
+does-first : (r : Result Line LineFault) → DoesFirst (steps_by_meaning None r)
 does-first (Err cause) = tt
 does-first (Ok Skipped) = refl
 does-first (Ok (Group shape)) = refl
@@ -209,15 +211,15 @@ does-first (Ok Places) = tt
 does-first (Ok (Time moment)) = tt
 does-first (Ok Stop) = tt
 
-places-first : next_of None (codes "places") ≡ Refused BadLine
+places-first : steps_of_line None (codes "places") ≡ Refused BadLine
 places-first = refl
 
 abbrev pub GoalFirst : List (List ℕ) → Type 0
 GoalFirst lines = (n : ℕ) (script : Script) → script_in n None lines ≡ Ok script → EndsPlacing script.steps
 
 first-line : (n : ℕ) (line : List ℕ) (lines : List (List ℕ)) (script : Script) → GoalFirst lines → (next : StepNext)
-    → next_of None line ≡ next → DoesFirst next → (well : Bool) → stands_well line lines ≡ well
-    → from_line false well n None next (λ setting. script_in (n + 1) setting lines) ≡ Ok script → EndsPlacing script.steps
+    → steps_of_line None line ≡ next → DoesFirst next → (well : Bool) → stands_well line lines ≡ well
+    → script_from_line false well n None next (λ setting. script_in (n + 1) setting lines) ≡ Ok script → EndsPlacing script.steps
 first-line n line lines script onward Ends is does well stands is_ok = absurd does
 first-line n line lines script onward (Refused cause) is does well stands is_ok = cc is_ok
 first-line n line lines script onward (Goes setting steps text) is does false stands is_ok = cc is_ok
@@ -231,7 +233,7 @@ first-line n line lines script onward (Goes (Some s) steps text) is does true we
 
     by : (b : Bool) → is_over lines ≡ b → EndsPlacing script.steps
     by true over = absurd (let word = (bytes_eq-Decides line (codes "places")).0 (stands line lines true over well) in
-        let both : Goes (Some s) steps text ≡ Refused BadLine = sym is ∙ ap (next_of None) word ∙ places-first in
+        let both : Goes (Some s) steps text ≡ Refused BadLine = sym is ∙ ap (steps_of_line None) word ∙ places-first in
         cc both)
     by false over =
         let ends : EndsPlacing rest.0.steps = subst (λ (b : Bool). EndsBy b rest.0.steps) over (ends-script lines (n + 1) s rest.0 rest.1) in
@@ -244,13 +246,16 @@ ends-first (line ∷ lines) n script is = by (is_skipped line) refl (ends-first 
     by : (b : Bool) → is_skipped line ≡ b → GoalFirst lines → EndsPlacing script.steps
     by true skipped onward =
         onward (n + 1) script
-        (sym (ap (λ (x : StepNext). from_line true (stands_well line lines) n None x
+        (sym (ap (λ (x : StepNext). script_from_line true (stands_well line lines) n None x
         (λ setting. script_in (n + 1) setting lines)) (skips line None skipped))
-        ∙ sym (ap (λ (b : Bool). from_line b (stands_well line lines) n None (next_of None line) (λ setting. script_in (n + 1) setting lines)) skipped) ∙ is)
-    by false written onward = first-line n line lines script onward (next_of None line) refl (does-first (line_of None line)) (stands_well line lines) refl
-        (sym (ap (λ (b : Bool). from_line b (stands_well line lines) n None (next_of None line) (λ setting. script_in (n + 1) setting lines)) written) ∙ is)
+        ∙ sym (ap (λ (b : Bool). script_from_line b (stands_well line lines) n None (steps_of_line None line) (λ setting. script_in (n + 1) setting lines))
+        skipped) ∙ is)
+    by false written onward =
+        first-line n line lines script onward (steps_of_line None line) refl (does-first (line_meaning None line)) (stands_well line lines) refl
+        (sym (ap (λ (b : Bool). script_from_line b (stands_well line lines) n None (steps_of_line None line) (λ setting. script_in (n + 1) setting lines))
+        written) ∙ is)
 
-joined-ok : (n : ℕ) (r : Outcome) (lines : Option (List (List ℕ))) (sheet : Sheet) → joined n r lines ≡ Ok sheet → r ≡ Ok sheet.script
+joined-ok : (n : ℕ) (r : Outcome) (lines : Option (List (List ℕ))) (sheet : Sheet) → sheet_joined n r lines ≡ Ok sheet → r ≡ Ok sheet.script
 joined-ok n (Err fault) lines sheet is = cc is
 joined-ok n (Ok script) None sheet is = cc is
 joined-ok n (Ok script) (Some lines) sheet is = let same : record { script = script; lines = lines } ≡ sheet = cc is in ap (λ (x : Sheet). Ok x.script) same

@@ -12,11 +12,12 @@ use Rattle.group_calls.specs.declared.event.Cause.TheVariants.{Pending, Block}
 use Rattle.group_calls.specs.declared.event.Event.{Event}
 use Rattle.group_calls.specs.declared.event.Event.TheVariants as happens
 use Rattle.scenario_text.specs.Texts.{answer_text, reply_text}
-use Rattle.transcript_text.specs.Forms.{FitsAnswer, FitsReply, MayAnswer, kind_of}
+use Rattle.transcript_text.specs.Forms.{FitsAnswer, FitsReply, MayAnswer, kind_of_event}
 use Rattle.transcript_text.specs.Texts.{IsSaid}
 use Rattle.transcript_text.specs.declared.answer.Said.TheVariants as said
-use Rattle.run_verify.specs.Judging.{IsAnswered, IsTextThere, Judges, TellsReplyTo}
-use Rattle.run_verify.specs.Passing.{Account, Answers, IsReplyTo, IsRight, IsThere, LogsAhead, after_event, front_of, is_taken, logged_reply, next_name}
+use Rattle.run_verify.specs.Judging.{IsAnswerJudged, IsTextThere, Judges, TellsReplyTo}
+use Rattle.run_verify.specs.Passing.{Account, IsAnswerRight, IsEntryThere, IsReplyTo, LogsAhead, TellsAnswer, after_event, entry_front, logged_reply}
+use Rattle.run_verify.specs.Passing.{next_call_name, takes_effect}
 
 -- the third byte of a line
 abbrev third : List ℕ → ℕ
@@ -29,13 +30,13 @@ no_reply line text other is l differs = differs (ap third (sym is ∙ l))
 
 -- the same reply, told by its text
 there-of : (o : Option Reply) (name : CallName) (r : Reply) (text : List ℕ) (ahead : List (List ℕ)) → FitsReply r
-    → reply_text r ≡ text → IsThere o name r ahead → IsTextThere o (front_of name) text ahead
+    → reply_text r ≡ text → IsEntryThere o name r ahead → IsTextThere o (entry_front name) text ahead
 there-of (Some logged) name r text ahead fits same is = (subst FitsReply (sym is) fits, ap reply_text is ∙ same)
-there-of None name r text ahead fits same is = subst (λ (t : List ℕ). LogsAhead (front_of name) t ahead) same is
+there-of None name r text ahead fits same is = subst (λ (t : List ℕ). LogsAhead (entry_front name) t ahead) same is
 
 tells-of : (a : Account) (e : Event) (r : Reply) (text : List ℕ) (ahead : List (List ℕ)) → FitsReply r
     → reply_text r ≡ text → IsReplyTo a e r ahead → TellsReplyTo a e text ahead
-tells-of a (happens.Ask caller op at) r text ahead fits same is = subst (λ (t : List ℕ). LogsAhead (front_of (next_name a caller)) t ahead) same is
+tells-of a (happens.Ask caller op at) r text ahead fits same is = subst (λ (t : List ℕ). LogsAhead (entry_front (next_call_name a caller)) t ahead) same is
 tells-of a (happens.Collect caller call at) r text ahead fits same is =
     there-of (logged_reply a (record { caller = caller; call = call })) (record { caller = caller; call = call }) r text
     ahead fits same is
@@ -51,15 +52,15 @@ abbrev HasRight : Account → Event → List ℕ → List (List ℕ) → Type 0
 HasRight a e text ahead = (r : Reply) × FitsReply r × (reply_text r ≡ text) × IsReplyTo a e r ahead
 
 right-there : (o : Option Reply) (name : CallName) (r : Reply) (text : List ℕ) (ahead : List (List ℕ)) → FitsReply r
-    → reply_text r ≡ text → IsTextThere o (front_of name) text ahead
-    → (x : Reply) × FitsReply x × (reply_text x ≡ text) × IsThere o name x ahead
+    → reply_text r ≡ text → IsTextThere o (entry_front name) text ahead
+    → (x : Reply) × FitsReply x × (reply_text x ≡ text) × IsEntryThere o name x ahead
 right-there (Some logged) name r text ahead fits same is = (logged, is.0, is.1, refl)
-right-there None name r text ahead fits same is = (r, fits, same, subst (λ (t : List ℕ). LogsAhead (front_of name) t ahead) (sym same) is)
+right-there None name r text ahead fits same is = (r, fits, same, subst (λ (t : List ℕ). LogsAhead (entry_front name) t ahead) (sym same) is)
 
 has-right : (a : Account) (e : Event) (r : Reply) (text : List ℕ) (ahead : List (List ℕ)) → FitsReply r
     → reply_text r ≡ text → TellsReplyTo a e text ahead → HasRight a e text ahead
 has-right a (happens.Ask caller op at) r text ahead fits same is =
-    (r, fits, same, subst (λ (t : List ℕ). LogsAhead (front_of (next_name a caller)) t ahead) (sym same) is)
+    (r, fits, same, subst (λ (t : List ℕ). LogsAhead (entry_front (next_call_name a caller)) t ahead) (sym same) is)
 has-right a (happens.Collect caller call at) r text ahead fits same is =
     right-there (logged_reply a (record { caller = caller; call = call })) (record { caller = caller; call = call }) r
     text ahead fits same is
@@ -71,13 +72,13 @@ has-right a (happens.Fail at keep) r text ahead fits same is = absurd is
 has-right a (happens.Flush at) r text ahead fits same is = absurd is
 
 -- no answer that the event can have has the line
-pub none_said : (a : Account) (e : Event) (line : List ℕ) (ahead : List (List ℕ)) → IsSaid (kind_of e) line None
-    → (next : Account) → ¬ (IsAnswered a e line ahead next)
+pub none_said : (a : Account) (e : Event) (line : List ℕ) (ahead : List (List ℕ)) → IsSaid (kind_of_event e) line None
+    → (next : Account) → ¬ (IsAnswerJudged a e line ahead next)
 none_said a e line ahead none next (answer, is, same) = none answer is.can is.fits (sym is.text)
 
 -- an answer whose line begins with `reply ` is that reply
 only_reply : (a : Account) (e : Event) (line text : List ℕ) (ahead : List (List ℕ)) (answer : Answer)
-    → line ≡ codes "reply " ++ text → Answers a e line ahead answer → TellsReplyTo a e text ahead
+    → line ≡ codes "reply " ++ text → TellsAnswer a e line ahead answer → TellsReplyTo a e text ahead
 only_reply a e line text ahead (answered.Reply r) l is =
     tells-of a e r text ahead is.fits (append_cancel_left (codes "reply ") (reply_text r) text (sym is.text ∙ l))
     is.right
@@ -97,20 +98,21 @@ only_reply a e line text ahead answered.AlreadyDead l is = absurd (no_reply line
 only_reply a e line text ahead answered.Gone l is = absurd (no_reply line text _ is.text l (λ same. omega (arith, same)))
 
 -- a reply was said, with this text
-module _ (a : Account) (e : Event) (line : List ℕ) (ahead : List (List ℕ)) (text : Bor (List ℕ)) (says : IsSaid (kind_of e) line (Some (said.Reply text))) where
+module _ (a : Account) (e : Event) (line : List ℕ) (ahead : List (List ℕ)) (text : Bor (List ℕ))
+    (says : IsSaid (kind_of_event e) line (Some (said.Reply text))) where
   the-line : line ≡ codes "reply " ++ text.now
   the-line = let (answer, may, fits, same, (r, is, word)) = says in sym same ∙ ap answer_text is ∙ ap (λ (t : List ℕ). codes "reply " ++ t) word
 
-  pub not_replied : ¬ (TellsReplyTo a e text.now ahead) → (next : Account) → ¬ (IsAnswered a e line ahead next)
+  pub not_replied : ¬ (TellsReplyTo a e text.now ahead) → (next : Account) → ¬ (IsAnswerJudged a e line ahead next)
   not_replied wrong next (answer, is, same) = wrong (only_reply a e line text.now ahead answer the-line is)
 
-  pub replied : TellsReplyTo a e text.now ahead → IsAnswered a e line ahead (after_event a e true)
+  pub replied : TellsReplyTo a e text.now ahead → IsAnswerJudged a e line ahead (after_event a e true)
   replied tells =
       let (answer, may, fits, same, (r, is, word)) = says in
       let (x, x_fits, x_text, right) = has-right a e r text.now ahead (subst FitsAnswer is fits) word tells in (
         answered.Reply x,
         record {
-          can = subst (MayAnswer (kind_of e)) is may;
+          can = subst (MayAnswer (kind_of_event e)) is may;
           fits = x_fits;
           text = the-line
               ∙ ap (λ (t : List ℕ). codes "reply " ++ t) (sym x_text);
@@ -120,7 +122,7 @@ module _ (a : Account) (e : Event) (line : List ℕ) (ahead : List (List ℕ)) (
       )
 
 -- a ticket, or another answer, was said
-right-else : (a : Account) (e : Event) (answer : Answer) (ahead : List (List ℕ)) → ((r : Reply) → answer ≢ answered.Reply r) → IsRight a e answer ahead
+right-else : (a : Account) (e : Event) (answer : Answer) (ahead : List (List ℕ)) → ((r : Reply) → answer ≢ answered.Reply r) → IsAnswerRight a e answer ahead
 right-else a e (answered.Reply r) ahead other = absurd (other r refl)
 right-else a e (answered.Ticket n) ahead other = tt
 right-else a e (answered.Retry cause) ahead other = tt
@@ -136,7 +138,7 @@ right-else a e answered.Done ahead other = tt
 right-else a e answered.AlreadyDead ahead other = tt
 right-else a e answered.Gone ahead other = tt
 
-taken-else : (answer : Answer) → ¬ (IsTaken answer) → is_taken answer ≡ false
+taken-else : (answer : Answer) → ¬ (IsTaken answer) → takes_effect answer ≡ false
 taken-else (answered.Reply r) other = absurd (other (inl (r, refl)))
 taken-else (answered.Ticket n) other = absurd (other (inr (n, refl)))
 taken-else (answered.Retry cause) other = refl
@@ -153,11 +155,11 @@ taken-else answered.AlreadyDead other = refl
 taken-else answered.Gone other = refl
 
 pub ticket_said : (a : Account) (e : Event) (line : List ℕ) (ahead : List (List ℕ))
-    → IsSaid (kind_of e) line (Some said.Ticket) → IsAnswered a e line ahead (after_event a e true)
+    → IsSaid (kind_of_event e) line (Some said.Ticket) → IsAnswerJudged a e line ahead (after_event a e true)
 ticket_said a e line ahead (answer, may, fits, same, (n, is)) = (
   answered.Ticket n,
   record {
-    can = subst (MayAnswer (kind_of e)) is may;
+    can = subst (MayAnswer (kind_of_event e)) is may;
     fits = subst FitsAnswer is fits;
     text = sym same ∙ ap answer_text is;
     right = tt;
@@ -166,7 +168,7 @@ ticket_said a e line ahead (answer, may, fits, same, (n, is)) = (
 )
 
 pub other_said : (a : Account) (e : Event) (line : List ℕ) (ahead : List (List ℕ))
-    → IsSaid (kind_of e) line (Some said.Other) → IsAnswered a e line ahead (after_event a e false)
+    → IsSaid (kind_of_event e) line (Some said.Other) → IsAnswerJudged a e line ahead (after_event a e false)
 other_said a e line ahead (answer, may, fits, same, other) = (
   answer,
   record {

@@ -8,34 +8,35 @@ use Rattle.std.proofs.lemmas.List.{append-nil, get_or-append_right, get_or_appen
 use Rattle.group_types.specs.Dimensions.{Dimensions, space_of}
 use Rattle.group_types.proofs.Lists.{at-put, at-put-other}
 use Rattle.group_types.specs.Lists.{at, put}
-use Rattle.run_verify.specs.Changes.{space_after, space_behind, written_by}
+use Rattle.run_verify.specs.Changes.{space_after_changes, space_behind, written_by}
 use Rattle.run_verify.specs.Shadows.{AllFollow, AreMore, Follows, IsShadowAt}
 use Rattle.run_verify.specs.Showing.{spaces_in}
 use Rattle.run_verify.specs.declared.change.Change.{Change}
 use Rattle.run_verify.specs.declared.shadow.Shadow.{Shadow}
 
-after-append : (space : List ℕ) (xs ys : List Change) → space_after space (xs ++ ys) ≡ space_after (space_after space xs) ys
+after-append : (space : List ℕ) (xs ys : List Change) → space_after_changes space (xs ++ ys) ≡ space_after_changes (space_after_changes space xs) ys
 after-append space [] ys = refl
 after-append space (x ∷ xs) ys = after-append (written_by x.effect space) xs ys
 
 -- a space behind some changes, with those written that follow
 pub went_on : (s : Dimensions) (changes : List Change) (a n : ℕ) (old now : List ℕ) → length old ≡ space_of s → a ≤ n
-    → old ≡ space_after (replicate (length old) 0) (take a changes)
-    → now ≡ space_after old (take (n - a) (drop a changes)) → now ≡ space_behind s (take n changes)
+    → old ≡ space_after_changes (replicate (length old) 0) (take a changes)
+    → now ≡ space_after_changes old (take (n - a) (drop a changes)) → now ≡ space_behind s (take n changes)
 went_on s changes a n old now long low before written =
     let whole : take a changes ++ take (n - a) (drop a changes) ≡ take n changes = sym (take-add a (n - a) changes)
     ∙ ap (λ (k : ℕ). take k changes) (let e : a + (n - a) ≡ n = omega (arith, low) in e) in
     written
-    ∙ ap (λ (space : List ℕ). space_after space (take (n - a) (drop a changes))) (before ∙ ap (λ (k : ℕ). space_after (replicate k 0) (take a changes)) long)
+    ∙ ap (λ (space : List ℕ). space_after_changes space (take (n - a) (drop a changes)))
+    (before ∙ ap (λ (k : ℕ). space_after_changes (replicate k 0) (take a changes)) long)
     ∙ sym (after-append (replicate (space_of s) 0) (take a changes) (take (n - a) (drop a changes)))
-    ∙ ap (space_after (replicate (space_of s) 0)) whole
+    ∙ ap (space_after_changes (replicate (space_of s) 0)) whole
 
 pub follows_on : (s : Dimensions) (changes : List Change) (shadow : Shadow) → shadow.number ≤ length changes
     → length shadow.space.items ≡ space_of s → shadow.space.items ≡ space_behind s (take shadow.number changes)
     → Follows changes shadow
 follows_on s changes shadow within long is = record {
   within = within;
-  space = is ∙ ap (λ (k : ℕ). space_after (replicate k 0) (take shadow.number changes)) (sym long);
+  space = is ∙ ap (λ (k : ℕ). space_after_changes (replicate k 0) (take shadow.number changes)) (sym long);
 }
 
 -- ---- all shadows
@@ -83,7 +84,7 @@ follow-more cs now more shadow is follows =
     let below = follows.within in
     subst (λ (xs : List Change). Follows xs shadow) (sym is) (record {
       within = omega (arith, long, below);
-      space = follows.space ∙ ap (space_after (replicate (length shadow.space.items) 0)) (sym (take-append-le shadow.number cs more below));
+      space = follows.space ∙ ap (space_after_changes (replicate (length shadow.space.items) 0)) (sym (take-append-le shadow.number cs more below));
     })
 
 pub follow_more : (changes now : List (List Change)) (shadows : List Shadow) → AreMore changes now → AllFollow changes shadows → AllFollow now shadows

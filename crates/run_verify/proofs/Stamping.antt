@@ -5,7 +5,7 @@ use Rattle.std.proofs.lemmas.List.{append-nil, append_cancel_left}
 use Rattle.std.proofs.lemmas.List.Elements.{All-head, All-tail}
 use Rattle.std.specs.Fmt.{decimal}
 use Rattle.scenario_text.specs.Texts.{behind_commas, stamp_text}
-use Rattle.transcript_text.specs.Texts.{FitsNumber, Shows}
+use Rattle.transcript_text.specs.Texts.{FitsNumber, ShowsValue}
 use Rattle.transcript_text.proofs.Cuts.{cut_same}
 use Rattle.transcript_text.proofs.Numbers.{Lacks-decimal}
 use Rattle.transcript_text.proofs.Stamps.{Lacks-stamp}
@@ -29,7 +29,7 @@ stamp_same (n ∷ k ∷ ks) (m ∷ j ∷ js) fn fm long same =
 
 -- so of a line
 pub shows_same : (line : List ℕ) (ns ms v w : List ℕ) → All FitsNumber ns → All FitsNumber ms → length ns ≡ length ms
-    → Shows line ns v → Shows line ms w → (ns ≡ ms) × (v ≡ w)
+    → ShowsValue line ns v → ShowsValue line ms w → (ns ≡ ms) × (v ≡ w)
 shows_same line ns ms v w fn fm long a b =
     let left : codes "shown " ++ (stamp_text ns ++ 32 ∷ v) ≡ line = ap (λ (t : List ℕ). codes "shown " ++ t)
     (sym (append_assoc (stamp_text ns) (32 ∷ []) v)) ∙ a in

@@ -5,16 +5,16 @@ use Rattle.std.proofs.lemmas.List.{append-nil}
 use Rattle.std.proofs.lemmas.List.Elements.{All-append, All-cons, All-nil, All-replicate}
 use Rattle.group_types.specs.Dimensions.{Dimensions}
 use Rattle.scenario_text.specs.Meaning.{is_skipped, meaning_of}
-use Rattle.scenario_text.specs.Words.{words_of}
+use Rattle.scenario_text.specs.Words.{split_words}
 use Rattle.scenario_text.specs.declared.line.Line.{Line}
 use Rattle.scenario_text.specs.declared.line.Line.TheVariants.{Skipped, Group, Ask, Collect, Deliver, Fail, Flush, Trace, Drain, Show, Places, Time, Stop}
 use Rattle.run_verify.specs.Judging.{AreStepsOf, IsStepOf}
 use Rattle.scenario_text.specs.declared.line.LineFault.{LineFault}
 use Rattle.scenario_text.specs.declared.line.LineFault.TheVariants as line
 use Rattle.scenario_run.specs.Course.{Fault, Goes, Ends, Refused}
-use Rattle.run_verify.specs.Scripts.{HasKept, HasReadScript, HasTaken, HasTreated, IsAtLine, IsToldOf, IsTreatedOf}
-use Rattle.run_verify.specs.Steps.{Script, Setting, StepNext, bad_line, behind, ended, first_by, first_setting}
-use Rattle.run_verify.specs.Steps.{from_line, next_by, next_of, script_in, stands_well}
+use Rattle.run_verify.specs.Scripts.{HasKept, HasReadScript, HasTakenLine, IsAtLine, IsLineTreated, IsToldOf, IsTreatedOf}
+use Rattle.run_verify.specs.Steps.{Script, Setting, StepNext, bad_line, behind, ended, first_setting, first_steps}
+use Rattle.run_verify.specs.Steps.{script_from_line, script_in, stands_well, steps_by_meaning, steps_of_line}
 use Rattle.run_verify.specs.declared.setting.Treated.{Treated}
 use Rattle.run_verify.specs.declared.setting.Treated.TheVariants as treated
 use Rattle.run_verify.specs.declared.step.Step.{Step}
@@ -31,46 +31,48 @@ behind-both a b (Err fault) = refl
 
 -- what the line does, seen by what it comes to
 from-line : (n : ℕ) (before : Option Setting) (bytes : List ℕ) (lines : List (List ℕ)) (next : StepNext)
-    (skipped well : Bool) → next_of before bytes ≡ next → is_skipped bytes ≡ skipped → stands_well bytes lines ≡ well
-    → script_in n before (bytes ∷ lines) ≡ from_line skipped well n before next (λ setting. script_in (n + 1) setting lines)
+    (skipped well : Bool) → steps_of_line before bytes ≡ next → is_skipped bytes ≡ skipped → stands_well bytes lines ≡ well
+    → script_in n before (bytes ∷ lines) ≡ script_from_line skipped well n before next (λ setting. script_in (n + 1) setting lines)
 from-line n before bytes lines next skipped well e s w =
-    ap (λ (x : StepNext). from_line (is_skipped bytes) (stands_well bytes lines) n before x (λ setting. script_in (n + 1) setting lines)) e
-    ∙ ap (λ (b : Bool). from_line b (stands_well bytes lines) n before next (λ setting. script_in (n + 1) setting lines)) s
-    ∙ ap (λ (b : Bool). from_line skipped b n before next (λ setting. script_in (n + 1) setting lines)) w
+    ap (λ (x : StepNext). script_from_line (is_skipped bytes) (stands_well bytes lines) n before x (λ setting. script_in (n + 1) setting lines)) e
+    ∙ ap (λ (b : Bool). script_from_line b (stands_well bytes lines) n before next (λ setting. script_in (n + 1) setting lines)) s
+    ∙ ap (λ (b : Bool). script_from_line skipped b n before next (λ setting. script_in (n + 1) setting lines)) w
 
 pub line-goes : (n : ℕ) (before now : Option Setting) (steps : List Step) (text : List ℕ) (bytes : List ℕ)
-    (lines : List (List ℕ)) → next_of before bytes ≡ Goes now steps text
+    (lines : List (List ℕ)) → steps_of_line before bytes ≡ Goes now steps text
     → is_skipped bytes ≡ false → stands_well bytes lines ≡ true → script_in n before (bytes ∷ lines) ≡ behind steps (script_in (n + 1) now lines)
 line-goes n before now steps text bytes lines e written well = from-line n before bytes lines (Goes now steps text) false true e written well
 
 pub line-skipped : (n : ℕ) (before now : Option Setting) (steps : List Step) (text : List ℕ) (bytes : List ℕ)
-    (lines : List (List ℕ)) → next_of before bytes ≡ Goes now steps text
+    (lines : List (List ℕ)) → steps_of_line before bytes ≡ Goes now steps text
     → is_skipped bytes ≡ true → script_in n before (bytes ∷ lines) ≡ script_in (n + 1) now lines
 line-skipped n before now steps text bytes lines e skipped = from-line n before bytes lines (Goes now steps text) true (stands_well bytes lines) e skipped refl
 
 pub line-misplaced : (n : ℕ) (before now : Option Setting) (steps : List Step) (text : List ℕ) (bytes : List ℕ)
-    (lines : List (List ℕ)) → next_of before bytes ≡ Goes now steps text
+    (lines : List (List ℕ)) → steps_of_line before bytes ≡ Goes now steps text
     → is_skipped bytes ≡ false → stands_well bytes lines ≡ false → script_in n before (bytes ∷ lines) ≡ bad_line n
 line-misplaced n before now steps text bytes lines e written bad = from-line n before bytes lines (Goes now steps text) false false e written bad
 
-pub line-ends : (n : ℕ) (before : Option Setting) (bytes : List ℕ) (lines : List (List ℕ)) → next_of before bytes ≡ Ends
+pub line-ends : (n : ℕ) (before : Option Setting) (bytes : List ℕ) (lines : List (List ℕ)) → steps_of_line before bytes ≡ Ends
     → script_in n before (bytes ∷ lines) ≡ ended n before
 line-ends n before bytes lines e = from-line n before bytes lines Ends (is_skipped bytes) (stands_well bytes lines) e refl refl
 
-pub line-refused : (n : ℕ) (before : Option Setting) (bytes : List ℕ) (lines : List (List ℕ)) (cause : LineFault) → next_of before bytes ≡ Refused cause
+pub line-refused : (n : ℕ) (before : Option Setting) (bytes : List ℕ) (lines : List (List ℕ)) (cause : LineFault) → steps_of_line before bytes ≡ Refused cause
     → script_in n before (bytes ∷ lines) ≡ Err (record { number = n; cause = cause })
 line-refused n before bytes lines cause e = from-line n before bytes lines (Refused cause) (is_skipped bytes) (stands_well bytes lines) e refl refl
 
 -- a line that is skipped
 pub line-passed : (n : ℕ) (before : Option Setting) (bytes : List ℕ) (lines : List (List ℕ)) → is_skipped bytes ≡ true
-    → next_of before bytes ≡ Goes before [] []
-line-passed n None bytes lines skipped = ap (λ (b : Bool). next_by None (if b then Ok Skipped else meaning_of None (words_of bytes))) skipped
-line-passed n (Some s) bytes lines skipped = ap (λ (b : Bool). next_by (Some s) (if b then Ok Skipped else meaning_of (Some s.shape) (words_of bytes))) skipped
+    → steps_of_line before bytes ≡ Goes before [] []
+line-passed n None bytes lines skipped = ap (λ (b : Bool). steps_by_meaning None (if b then Ok Skipped else meaning_of None (split_words bytes))) skipped
+line-passed n (Some s) bytes lines skipped =
+    ap (λ (b : Bool). steps_by_meaning (Some s) (if b then Ok Skipped else meaning_of (Some s.shape) (split_words bytes))) skipped
 
 -- a line that is written, treated and kept
 module _ (n : ℕ) (before now : Option Setting) (kept keeps : List Step) (bytes : List ℕ) (lines : List (List ℕ)) (written : is_skipped bytes ≡ false) where
-  kept-by : (next : StepNext) → next_of before bytes ≡ next → (done : Treated) (result : Result Bool VerifyFault) → HasTreated before next now (Ok done)
-      → HasKept kept keeps done (stands_well bytes lines) n result → HasTaken n before now kept keeps bytes lines result
+  kept-by : (next : StepNext) → steps_of_line before bytes ≡ next → (done : Treated) (result : Result Bool VerifyFault)
+      → IsLineTreated before next now (Ok done)
+      → HasKept kept keeps done (stands_well bytes lines) n result → HasTakenLine n before now kept keeps bytes lines result
   kept-by (Goes to steps text) e treated.Sets (Ok true) done is = (
     [],
     is.2 ∙ sym (append-nil kept),
@@ -108,16 +110,16 @@ module _ (n : ℕ) (before now : Option Setting) (kept keeps : List Step) (bytes
   kept-by (Refused cause) e (treated.Asks step) result done is = absurd done
 
   pub line-kept : (done : Treated) (result : Result Bool VerifyFault)
-      → HasTreated before (next_of before bytes) now (Ok done) → HasKept kept keeps done (stands_well bytes lines) n
+      → IsLineTreated before (steps_of_line before bytes) now (Ok done) → HasKept kept keeps done (stands_well bytes lines) n
       result
-      → HasTaken n before now kept keeps bytes lines result
-  line-kept done result is = kept-by (next_of before bytes) refl done result is
+      → HasTakenLine n before now kept keeps bytes lines result
+  line-kept done result is = kept-by (steps_of_line before bytes) refl done result is
 
 pub line-told : (n : ℕ) (before now : Option Setting) (bytes : List ℕ) (lines : List (List ℕ)) (cause : LineFault)
-    (fault : VerifyFault) → HasTreated before (next_of before bytes) now (Err cause) → IsToldOf n cause fault
+    (fault : VerifyFault) → IsLineTreated before (steps_of_line before bytes) now (Err cause) → IsToldOf n cause fault
     → HasReadScript (script_in n before (bytes ∷ lines)) (Err fault)
-line-told n before now bytes lines cause fault = by (next_of before bytes) refl cause where
-  by : (next : StepNext) → next_of before bytes ≡ next → (cause : LineFault) → HasTreated before next now (Err cause)
+line-told n before now bytes lines cause fault = by (steps_of_line before bytes) refl cause where
+  by : (next : StepNext) → steps_of_line before bytes ≡ next → (cause : LineFault) → IsLineTreated before next now (Err cause)
       → IsToldOf n cause fault → HasReadScript (script_in n before (bytes ∷ lines)) (Err fault)
   by next e line.Want is told = subst (λ (f : VerifyFault). HasReadScript (script_in n before (bytes ∷ lines)) (Err f)) (sym told) tt
   by (Refused c) e line.BadLine is told =
@@ -133,7 +135,7 @@ line-told n before now bytes lines cause fault = by (next_of before bytes) refl 
 
 -- a line that is skipped is taken
 pub line-skips : (n : ℕ) (before : Option Setting) (kept : List Step) (bytes : List ℕ) (lines : List (List ℕ))
-    → is_skipped bytes ≡ true → HasTaken n before before kept kept bytes lines (Ok true)
+    → is_skipped bytes ≡ true → HasTakenLine n before before kept kept bytes lines (Ok true)
 line-skips n before kept bytes lines skipped = (
   [],
   sym (append-nil kept),
@@ -143,14 +145,14 @@ line-skips n before kept bytes lines skipped = (
 
 -- lines behind a line that was taken
 pub goes-on : (n : ℕ) (before now : Option Setting) (kept keeps : List Step) (bytes : List ℕ) (lines : List (List ℕ))
-    (all : Result Script (Fault LineFault)) → HasTaken n before now kept keeps bytes lines (Ok true)
+    (all : Result Script (Fault LineFault)) → HasTakenLine n before now kept keeps bytes lines (Ok true)
     → behind kept (script_in n before (bytes ∷ lines)) ≡ all → behind keeps (script_in (n + 1) now lines) ≡ all
 goes-on n before now kept keeps bytes lines all (steps, more, is) same =
     ap (λ (ss : List Step). behind ss (script_in (n + 1) now lines)) more
     ∙ behind-both kept steps (script_in (n + 1) now lines) ∙ ap (behind kept) (sym is) ∙ same
 
 pub ends-there : (n : ℕ) (before now : Option Setting) (kept keeps : List Step) (bytes : List ℕ) (lines : List (List ℕ))
-    (all : Result Script (Fault LineFault)) → HasTaken n before now kept keeps bytes lines (Ok false)
+    (all : Result Script (Fault LineFault)) → HasTakenLine n before now kept keeps bytes lines (Ok false)
     → behind kept (script_in n before (bytes ∷ lines)) ≡ all → behind keeps (ended n now) ≡ all
 ends-there n before now kept keeps bytes lines all (setting, steps, is) same =
     ap (λ (o : Option Setting). behind keeps (ended n o)) setting ∙ ap (λ (ss : List Step). behind ss (ended n before)) steps ∙ ap (behind kept) (sym is) ∙ same
@@ -175,7 +177,7 @@ LowIn n (Goes now steps text) = IsAtLine n now
 LowIn n Ends = Unit {0}
 LowIn n (Refused cause) = Unit {0}
 
-first-low : (line : Line) (n : ℕ) → LowIn n (first_by line)
+first-low : (line : Line) (n : ℕ) → LowIn n (first_steps line)
 first-low Skipped n = tt
 first-low (Group shape) n = low_first n shape
 first-low (Ask caller at act) n = tt
@@ -190,7 +192,7 @@ first-low Places n = tt
 first-low (Time moment) n = tt
 first-low Stop n = tt
 
-pub begun-low : (line : Line) (setting : Option Setting) (n : ℕ) → first_by line ≡ Goes setting [] [] → IsAtLine n setting
+pub begun-low : (line : Line) (setting : Option Setting) (n : ℕ) → first_steps line ≡ Goes setting [] [] → IsAtLine n setting
 begun-low line setting n is = subst (LowIn n) is (first-low line n)
 
 no-steps : (now : Option Setting) (keeps : List Step) → keeps ≡ [] → AreStepsOf now keeps

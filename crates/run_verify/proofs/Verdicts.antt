@@ -5,7 +5,7 @@ use Rattle.group_types.specs.Dimensions.{Dimensions}
 use Rattle.run_verify.specs.Courses.{IsJudged}
 use Rattle.run_verify.specs.Judging.{IsStepOf}
 use Rattle.run_verify.specs.Passing.{FailsAt, first_state}
-use Rattle.run_verify.specs.Plain.{FitsStep, IsPlain}
+use Rattle.run_verify.specs.Plain.{FitsStep, IsPlainScript}
 use Rattle.run_verify.specs.Sheet.{Sheet, sheet_of}
 use Rattle.run_verify.specs.Verdict.{IsVerdictOf}
 use Rattle.run_verify.specs.declared.step.Step.{Step}
@@ -24,7 +24,7 @@ fits-step s Placing is = tt
 -- the sheet that was read
 module _ (text : List ℕ) (sheet : Sheet) (read : sheet_of text ≡ Ok sheet)
     (steps : All (IsStepOf sheet.script.shape) sheet.script.steps) (few : length sheet.script.steps < 2 ^ 64) where
-  plain : IsPlain sheet.script
+  plain : IsPlainScript sheet.script
   plain = record {
     fits = fit-all sheet.script.shape (IsStepOf sheet.script.shape) (fits-step sheet.script.shape)
         sheet.script.steps steps;

@@ -4,7 +4,7 @@ use Rattle.std.specs.Borrow.{Bor}
 use Rattle.group_types.specs.Dimensions.{Dimensions}
 use Rattle.scenario_run.specs.Lines.{lines_of}
 use Rattle.run_verify.specs.Dues.{AreBehind, ArePlacedBehind, HasPassed, LeadsTo, due_at, dues_on}
-use Rattle.run_verify.specs.Passing.{dues_of}
+use Rattle.run_verify.specs.Passing.{due_places_of}
 use Rattle.run_verify.specs.declared.change.Change.{Change}
 use Rattle.run_verify.specs.declared.items.Items.{Items}
 use Rattle.run_verify.specs.declared.judging.Passed.TheVariants as passed
@@ -34,7 +34,7 @@ module _ (s : Dimensions) (changes : List (List Change)) (many : length changes 
       due = at_next changes d own place p c is below here value run writes;
       leads = subst (λ (lines : List (List ℕ)). LeadsTo s changes p lines (p + 1) (lines_of rest.now)) (sym cuts.0)
           (told_leads s changes many p (due_at d (take place own) value run)
-          (dues_of d (take (place + 1) own) (drop (place + 1) own) ++ dues_on changes (d + 1))
+          (due_places_of d (take (place + 1) own) (drop (place + 1) own) ++ dues_on changes (d + 1))
           (at_due changes d own place p c is below here value run writes)
           line (lines_of rest.now) tells);
       items = behind items;
@@ -46,5 +46,5 @@ module _ (s : Dimensions) (changes : List (List Change)) (many : length changes 
     pub walk_fails : HasPassed s d (take place own) c text now passed.Fails → ArePlacedBehind s changes p (lines_of text) (Some (p + 1))
     walk_fails (value, run, writes, lacks) =
         lacks_fails s changes many p (due_at d (take place own) value run)
-        (dues_of d (take (place + 1) own) (drop (place + 1) own) ++ dues_on changes (d + 1))
+        (due_places_of d (take (place + 1) own) (drop (place + 1) own) ++ dues_on changes (d + 1))
         (at_due changes d own place p c is below here value run writes) (lines_of text) lacks

@@ -19,9 +19,9 @@ use Rattle.group_calls.specs.Turns.{accepts}
 use Rattle.group_calls.specs.declared.entry.Entry.{Entry}
 use Rattle.group_calls.specs.declared.event.Event.{Event}
 use Rattle.group_calls.specs.declared.event.Event.TheVariants as happens
-use Rattle.run_verify.specs.Courses.{IsWithin, state_of}
-use Rattle.run_verify.specs.Passing.{Account, IsRunIn, IsToldFor, IsToldRun, PassesBy, State, after_answer, after_entry}
-use Rattle.run_verify.specs.Passing.{after_event, change_of, changes_at, effect_of, first_account, is_taken, part_of}
+use Rattle.run_verify.specs.Courses.{IsAccountWithin, judging_state}
+use Rattle.run_verify.specs.Passing.{Account, IsRunIn, IsToldFor, IsToldRun, JudgingState, PassesBy, account_after_entry, after_answer}
+use Rattle.run_verify.specs.Passing.{after_event, change_of, changes_at, effect_of, entry_partition, first_account, takes_effect}
 use Rattle.run_verify.specs.Passing.{value_in, with_change, with_shown}
 use Rattle.run_verify.specs.Sheet.{Sheet}
 use Rattle.run_verify.specs.Showing.{IsFitChange, IsFitEffect}
@@ -82,7 +82,7 @@ module _ (P : List Change → Type 0) where
   all-put : (changes : List (List Change)) (d : ℕ) (cs : List Change) → d < length changes → P cs → All P changes → All P (put [] changes d cs)
   all-put changes d cs below here all = subst (All P) (set_put [] changes d cs below) (All-set P changes d cs here all)
 
-module _ (sheet : Sheet) (shape : IsShape sheet.script.shape) (n : ℕ) (a : Account) (within : IsWithin sheet.script.shape n a) where
+module _ (sheet : Sheet) (shape : IsShape sheet.script.shape) (n : ℕ) (a : Account) (within : IsAccountWithin sheet.script.shape n a) where
   s : Dimensions
   s = sheet.script.shape
 
@@ -91,7 +91,7 @@ module _ (sheet : Sheet) (shape : IsShape sheet.script.shape) (n : ℕ) (a : Acc
 
   module _ (e : Entry) (run : Option Run) where
     d : ℕ
-    d = part_of sheet e
+    d = entry_partition sheet e
 
     below : d < length a.changes
     unfolding d
@@ -119,7 +119,7 @@ module _ (sheet : Sheet) (shape : IsShape sheet.script.shape) (n : ℕ) (a : Acc
     few-kept false = shorter
 
     -- behind an entry
-    within_entry : IsToldRun (accepts e.reply) sheet a e run → IsWithin sheet.script.shape (n + 1) (after_entry sheet a e run)
+    within_entry : IsToldRun (accepts e.reply) sheet a e run → IsAccountWithin sheet.script.shape (n + 1) (account_after_entry sheet a e run)
     unfolding s d
     within_entry told = record {
       partitions = partitions-kept (accepts e.reply) ∙ within.partitions;
@@ -133,7 +133,7 @@ module _ (sheet : Sheet) (shape : IsShape sheet.script.shape) (n : ℕ) (a : Acc
 
   -- behind a line that changes neither the table nor the changes
   within-like : (b : Account) → b.table ≡ a.table → b.changes ≡ a.changes → b.entries ≡ a.entries → b.placed ≡ a.placed
-      → b.shown ≤ a.shown + 1 → IsWithin sheet.script.shape (n + 1) b
+      → b.shown ≤ a.shown + 1 → IsAccountWithin sheet.script.shape (n + 1) b
   unfolding s
   within-like b table changes entries placed shown = record {
     partitions = ap length changes ∙ within.partitions;
@@ -145,7 +145,7 @@ module _ (sheet : Sheet) (shape : IsShape sheet.script.shape) (n : ℕ) (a : Acc
     shown = let few = within.shown in omega (arith, few, shown);
   }
 
-  within-event : (event : Event) (taken : Bool) → IsWithin sheet.script.shape (n + 1) (after_event a event taken)
+  within-event : (event : Event) (taken : Bool) → IsAccountWithin sheet.script.shape (n + 1) (after_event a event taken)
   within-event (happens.Ask caller op p) taken = within-like (after_event a (happens.Ask caller op p) taken) refl refl refl refl (omega arith)
   within-event (happens.Collect caller call p) taken = within-like a refl refl refl refl (omega arith)
   within-event (happens.Deliver from to) taken = within-like a refl refl refl refl (omega arith)
@@ -153,30 +153,31 @@ module _ (sheet : Sheet) (shape : IsShape sheet.script.shape) (n : ℕ) (a : Acc
   within-event (happens.Flush p) taken = within-like a refl refl refl refl (omega arith)
   within-event (happens.Trace caller call p q) taken = within-like a refl refl refl refl (omega arith)
 
-  within-state : (b : Account) (next : State) → IsWithin sheet.script.shape (n + 1) b → next.account ≡ b → IsWithin sheet.script.shape (n + 1) next.account
-  within-state b next here same = subst (IsWithin sheet.script.shape (n + 1)) (sym same) here
+  within-state : (b : Account) (next : JudgingState) → IsAccountWithin sheet.script.shape (n + 1) b → next.account ≡ b
+      → IsAccountWithin sheet.script.shape (n + 1) next.account
+  within-state b next here same = subst (IsAccountWithin sheet.script.shape (n + 1)) (sym same) here
 
   -- behind each line that passes where the places aren't in turn, or that is one of the log
   pub within_next : (is_log : Bool) (step : Step) (steps : List Step) (logging : Bool) (line : List ℕ)
-      (ahead : List (List ℕ)) (next : State) → (is_log ≡ true) ⊎ (step ≢ Placing)
-      → PassesBy is_log sheet (state_of a (step ∷ steps) logging) line ahead next → IsWithin sheet.script.shape (n + 1) next.account
+      (ahead : List (List ℕ)) (next : JudgingState) → (is_log ≡ true) ⊎ (step ≢ Placing)
+      → PassesBy is_log sheet (judging_state a (step ∷ steps) logging) line ahead next → IsAccountWithin sheet.script.shape (n + 1) next.account
   within_next true step steps logging line ahead next which (may, e, run, tells, told, same) =
-      within-state (after_entry sheet a e run) next (within_entry e run told) (ap (λ (x : State). x.account) same)
+      within-state (account_after_entry sheet a e run) next (within_entry e run told) (ap (λ (x : JudgingState). x.account) same)
   within_next false (Make event) steps logging line ahead next which (answer, answers, same) =
-      within-state (after_answer a event answer) next (within-event event (is_taken answer))
-      (ap (λ (x : State). x.account) same)
+      within-state (after_answer a event answer) next (within-event event (takes_effect answer))
+      (ap (λ (x : JudgingState). x.account) same)
   within_next false Deliveries steps logging line ahead next which (m, low, is, same) =
-      within-state a next (within-like a refl refl refl refl (omega arith)) (ap (λ (x : State). x.account) same)
+      within-state a next (within-like a refl refl refl refl (omega arith)) (ap (λ (x : JudgingState). x.account) same)
   within_next false (Look p run) steps logging line ahead next which (inl (tells, same)) =
       within-state (with_shown a) next (within-like (with_shown a) refl refl refl refl (omega arith))
-      (ap (λ (x : State). x.account) same)
+      (ap (λ (x : JudgingState). x.account) same)
   within_next false (Look p run) steps logging line ahead next which (inr (lost, same)) =
-      within-state a next (within-like a refl refl refl refl (omega arith)) (ap (λ (x : State). x.account) same)
+      within-state a next (within-like a refl refl refl refl (omega arith)) (ap (λ (x : JudgingState). x.account) same)
   within_next false Placing steps logging line ahead next (inl log) passes = absurd (cc log)
   within_next false Placing steps logging line ahead next (inr other) passes = absurd (other refl)
 
 -- before the first line
-pub within_first : (s : Dimensions) → IsWithin s 0 (first_account s.k)
+pub within_first : (s : Dimensions) → IsAccountWithin s 0 (first_account s.k)
 within_first s = record {
   partitions = let none : List Change = [] in length-replicate s.k none;
   fit = All-replicate (All (IsFitChange s)) s.k [] (All-nil (IsFitChange s));

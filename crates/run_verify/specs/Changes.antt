@@ -15,13 +15,13 @@ written_by Removes space = space
 written_by Keeps space = space
 
 -- a space after changes
-abbrev pub space_after : List ℕ → List Change → List ℕ
-space_after space [] = space
-space_after space (change ∷ more) = space_after (written_by change.effect space) more
+abbrev pub space_after_changes : List ℕ → List Change → List ℕ
+space_after_changes space [] = space
+space_after_changes space (change ∷ more) = space_after_changes (written_by change.effect space) more
 
 -- the space behind changes, all zeros at first
 abbrev pub space_behind : Dimensions → List Change → List ℕ
-space_behind s changes = space_after (replicate (space_of s) 0) changes
+space_behind s changes = space_after_changes (replicate (space_of s) 0) changes
 
 -- the run of an item after a change of it
 abbrev pub run_by : Effect → Option Run → Option Run
@@ -36,6 +36,6 @@ run_if true effect old = run_by effect old
 run_if false effect old = old
 
 -- the run of a key's item behind changes
-abbrev pub run_behind : List ℕ → Option Run → List Change → Option Run
-run_behind key old [] = old
-run_behind key old (change ∷ more) = run_behind key (run_if (same_key change.key key) change.effect old) more
+abbrev pub run_after_changes : List ℕ → Option Run → List Change → Option Run
+run_after_changes key old [] = old
+run_after_changes key old (change ∷ more) = run_after_changes key (run_if (same_key change.key key) change.effect old) more

@@ -7,15 +7,15 @@ use Rattle.group_types.specs.declared.run.Run.{Run}
 use Rattle.memc_table.specs.Asked.{Asked}
 use Rattle.memc_table.specs.declared.reply.Reply.{Reply}
 use Rattle.group_calls.specs.Log.{IsLegal}
-use Rattle.group_calls.specs.Turns.{CallName, Turn, entry_of, log_of, name_of}
+use Rattle.group_calls.specs.Turns.{CallName, Turn, call_entry, log_of, name_of}
 use Rattle.group_calls.specs.Within.{Fetches, IsAsk, IsLoggedSince, IsTaken}
 use Rattle.group_calls.specs.declared.entry.Entry.{Entry}
 use Rattle.group_calls.specs.declared.event.Answer.TheVariants as answered
 use Rattle.run_verify.specs.Steps.{Script}
 use Rattle.run_verify.specs.declared.step.Step.{Step}
 use Rattle.run_verify.specs.declared.step.Step.TheVariants.{Look}
-use Rattle.run_verify.specs.Told.{Shown, Told, TellAll, lines_told, runs_told, turns_in, turns_told}
-use Rattle.run_verify.specs.Updates.{IsStampOf, StandRight, shown_at, space_after, updates_by}
+use Rattle.run_verify.specs.Told.{Shown, Told, TellAll, lines_told, runs_told, turns_told_in, turns_told}
+use Rattle.run_verify.specs.Updates.{IsStampOf, StandRight, shown_at, space_after_updates, updates_by}
 
 -- the replies are given within their time: all that `AnswersWithin` says but of calls that are gone
 pub record RepliesWithin (turns : List Turn) : Type 0 where
@@ -24,7 +24,7 @@ pub record RepliesWithin (turns : List Turn) : Type 0 where
   -- each entry has the op of the ask of its name, which is not later than the event that logged it
   pub asked : (i : ℕ) (turn : Turn) (entry : Entry) → slice_get turns i ≡ Some turn → Contains turn.logged entry → (j : ℕ) × (ask : Turn) × (j ≤ i) × IsAsk turns j ask (name_of entry) entry.op
   -- a reply to an ask is the one of its entry, which this event logged
-  pub at_once : (i : ℕ) (turn : Turn) (name : CallName) (op : Asked) (reply : Reply) → IsAsk turns i turn name op → turn.answer ≡ answered.Reply reply → Contains turn.logged (entry_of name op reply)
+  pub at_once : (i : ℕ) (turn : Turn) (name : CallName) (op : Asked) (reply : Reply) → IsAsk turns i turn name op → turn.answer ≡ answered.Reply reply → Contains turn.logged (call_entry name op reply)
   -- a reply to a collect or a trace is the one of its entry
   pub later : (i : ℕ) (turn : Turn) (name : CallName) (reply : Reply) → slice_get turns i ≡ Some turn → Fetches turn.event name → turn.answer ≡ answered.Reply reply → IsLoggedSince turns i name reply
   -- a call that got neither a reply nor a ticket is in no entry
@@ -39,12 +39,12 @@ pub record ArePlaced (s : Dimensions) (log : List Entry) (runs : List (List (Opt
 -- the bytes of a process are those of the updates that were logged before, up to a stamp that it can have
 abbrev pub IsWellShown : Dimensions → List (List (Option Run)) → List Entry → Step → Told → Type 0
 IsWellShown s runs log (Look p run) (Shown stamp bytes) = IsStampOf s (λ d. length (updates_by s runs log d)) p stamp
-    × (bytes ≡ shown_at s (λ d n. space_after s (updates_by s runs log d) n) p run stamp)
+    × (bytes ≡ shown_at s (λ d n. space_after_updates s (updates_by s runs log d) n) p run stamp)
 IsWellShown s runs log _ _ = ⊤
 
 -- so it is with all that is told, where this is the log before
 abbrev pub AreWellShown : Dimensions → List (List (Option Run)) → List Entry → List Step → List Told → Type 0
-AreWellShown s runs log (step ∷ steps) (told ∷ more) = IsWellShown s runs log step told × AreWellShown s runs (log ++ log_of (turns_in told)) steps more
+AreWellShown s runs log (step ∷ steps) (told ∷ more) = IsWellShown s runs log step told × AreWellShown s runs (log ++ log_of (turns_told_in told)) steps more
 AreWellShown s runs log _ _ = Unit {0}
 
 -- a transcript of these lines is checked: something is told for each step, whose lines these are

@@ -5,8 +5,8 @@ use Rattle.group_types.specs.declared.run.Run.{Run}
 use Rattle.group_calls.specs.Turns.{accepts}
 use Rattle.group_calls.specs.declared.entry.Entry.{Entry}
 use Rattle.transcript_text.specs.declared.place.Place.{Place}
-use Rattle.run_verify.specs.Judging.{IsAnswered, Judges}
-use Rattle.run_verify.specs.Passing.{Account, FailsAt, IsToldRun, PassAll, PassesBy, State, TellsEntry, after_entry, begins_entry, first_state}
+use Rattle.run_verify.specs.Judging.{IsAnswerJudged, Judges}
+use Rattle.run_verify.specs.Passing.{Account, FailsAt, IsToldRun, JudgingState, LineTellsEntry, PassAll, PassesBy, account_after_entry, begins_entry, first_state}
 use Rattle.run_verify.specs.Placings.{placing}
 use Rattle.run_verify.specs.Runs.{ArePlacesOf}
 use Rattle.run_verify.specs.Sheet.{Sheet}
@@ -19,8 +19,8 @@ use Rattle.run_verify.specs.declared.step.Step.TheVariants.{Make, Deliveries, Lo
 use Rattle.run_verify.specs.declared.verdict.Verdict.{Verdict}
 use Rattle.run_verify.specs.declared.verdict.Verdict.TheVariants.{Verified, Refused}
 
-abbrev pub state_of : Account → List Step → Bool → State
-state_of a steps logging = record { account = a; steps = steps; logging = logging }
+abbrev pub judging_state : Account → List Step → Bool → JudgingState
+judging_state a steps logging = record { account = a; steps = steps; logging = logging }
 
 -- a sheet of a group of this shape, whose transcript tells these places
 pub record IsSheetOf (s : Dimensions) (places : List Place) (sheet : Sheet) : Type 0 where
@@ -28,26 +28,26 @@ pub record IsSheetOf (s : Dimensions) (places : List Place) (sheet : Sheet) : Ty
   pub places_are : ArePlacesOf sheet.lines places
 
 -- a line of the log tells the next entry, behind which the account is this
-abbrev pub IsLogged : Sheet → Account → List ℕ → Account → Type 0
-IsLogged sheet a line next = (e : Entry) × (run : Option Run) × TellsEntry a line e × IsToldRun (accepts e.reply) sheet a e run × (next ≡ after_entry sheet a e run)
+abbrev pub IsLineLogged : Sheet → Account → List ℕ → Account → Type 0
+IsLineLogged sheet a line next = (e : Entry) × (run : Option Run) × LineTellsEntry a line e × IsToldRun (accepts e.reply) sheet a e run × (next ≡ account_after_entry sheet a e run)
 
 -- a line of the log was judged, by the places alone
 abbrev pub HasLogged : {E : Type 0} → Dimensions → List Place → Account → List ℕ → Account → Result Bool E → Type 0
-HasLogged s places a line now result = (sheet : Sheet) → IsSheetOf s places sheet → Judges (IsLogged sheet a line) now result
+HasLogged s places a line now result = (sheet : Sheet) → IsSheetOf s places sheet → Judges (IsLineLogged sheet a line) now result
 
 -- another line tells what a step asks for that isn't the one of the places
 abbrev pub IsMet : Dimensions → Account → Step → List ℕ → List (List ℕ) → Account → Type 0
-IsMet s a (Make event) line ahead next = IsAnswered a event line ahead next
+IsMet s a (Make event) line ahead next = IsAnswerJudged a event line ahead next
 IsMet s a Deliveries line ahead next = ((n : ℕ) × (n < 2 ^ 64) × (line ≡ drained_line n)) × (next ≡ a)
 IsMet s a (Look p run) line ahead next = IsLooked s a p run line next
 IsMet s a Placing line ahead next = ⊥
 
 -- what a line was found to be, which is one of the log or isn't, with this step in turn and these to come
 abbrev pub HasFoundBy : Bool → Sheet → Account → Step → List Step → Bool → List ℕ → List (List ℕ) → Account → Found → Type 0
-HasFoundBy is_log sheet a step steps logging line ahead now found.Entry = (is_log ≡ true) × PassesBy is_log sheet (state_of a (step ∷ steps) logging) line ahead (state_of now (step ∷ steps) logging)
-HasFoundBy is_log sheet a step steps logging line ahead now found.Answer = (step ≢ Placing) × PassesBy is_log sheet (state_of a (step ∷ steps) logging) line ahead (state_of now steps true)
-HasFoundBy is_log sheet a step steps logging line ahead now found.Over = (step ≢ Placing) × PassesBy is_log sheet (state_of a (step ∷ steps) logging) line ahead (state_of now steps false)
-HasFoundBy is_log sheet a step steps logging line ahead now found.Fails = (next : State) → ¬ (PassesBy is_log sheet (state_of a (step ∷ steps) logging) line ahead next)
+HasFoundBy is_log sheet a step steps logging line ahead now found.Entry = (is_log ≡ true) × PassesBy is_log sheet (judging_state a (step ∷ steps) logging) line ahead (judging_state now (step ∷ steps) logging)
+HasFoundBy is_log sheet a step steps logging line ahead now found.Answer = (step ≢ Placing) × PassesBy is_log sheet (judging_state a (step ∷ steps) logging) line ahead (judging_state now steps true)
+HasFoundBy is_log sheet a step steps logging line ahead now found.Over = (step ≢ Placing) × PassesBy is_log sheet (judging_state a (step ∷ steps) logging) line ahead (judging_state now steps false)
+HasFoundBy is_log sheet a step steps logging line ahead now found.Fails = (next : JudgingState) → ¬ (PassesBy is_log sheet (judging_state a (step ∷ steps) logging) line ahead next)
 HasFoundBy is_log sheet a step steps logging line ahead now found.Places = (step ≡ Placing) × (is_log ≡ false) × (now ≡ a)
 
 -- so it is on each sheet of the group with these places, whatever steps are to come
@@ -59,7 +59,7 @@ abbrev pub HasFound : Dimensions → List Place → Account → Step → Bool �
 HasFound s places a step logging line ahead now what = HasFoundOn (begins_entry line) s places a step logging line ahead now what
 
 -- an account is right for the group, and nothing in it counts more than n
-pub record IsWithin (s : Dimensions) (n : ℕ) (a : Account) : Type 0 where
+pub record IsAccountWithin (s : Dimensions) (n : ℕ) (a : Account) : Type 0 where
   pub partitions : length a.changes ≡ s.k
   pub fit : All (All (IsFitChange s)) a.changes
   pub few : All (λ changes. length changes ≤ n) a.changes
@@ -89,7 +89,7 @@ abbrev pub sheet_on : Dimensions → List Step → List (List ℕ) → Sheet
 sheet_on s steps lines = record { script = record { shape = s; steps = steps }; lines = lines }
 
 -- what comes of lines behind so many, from a state on
-abbrev pub IsJudgedBehind : ℕ → Sheet → State → List (List ℕ) → Verdict → Type 0
+abbrev pub IsJudgedBehind : ℕ → Sheet → JudgingState → List (List ℕ) → Verdict → Type 0
 IsJudgedBehind done sheet s lines (Verified many shows) = (account : Account) × PassAll sheet s lines account × (account.entries ≡ many) × (account.shown ≡ shows)
 IsJudgedBehind done sheet s lines (Refused n) = (m : ℕ) × (n ≡ done + m) × FailsAt sheet m s lines
 

@@ -5,8 +5,8 @@ use Rattle.group_types.specs.Lists.{at}
 use Rattle.group_types.specs.declared.run.Run.{Run}
 use Rattle.scenario_text.specs.Texts.{place_text}
 use Rattle.scenario_run.specs.Lines.{lines_of}
-use Rattle.run_verify.specs.Items.{IsMarked, IsOff, StandBehind, runs_of, with_run}
-use Rattle.run_verify.specs.Passing.{Due, FitsRun, TellsRun, dues_of}
+use Rattle.run_verify.specs.Items.{IsMarked, IsOff, StandBehind, item_runs_of, with_run}
+use Rattle.run_verify.specs.Passing.{DuePlace, RunFitsValue, TellsRun, due_places_of}
 use Rattle.run_verify.specs.Placings.{ArePlacedFrom}
 use Rattle.run_verify.specs.Told.{placed_line}
 use Rattle.run_verify.specs.declared.change.Change.{Change}
@@ -20,7 +20,7 @@ use Rattle.run_verify.specs.declared.placing.Told.{Told}
 use Rattle.run_verify.specs.declared.placing.Told.TheVariants as told
 
 -- the due of a change of partition d, behind others
-abbrev pub due_at : ℕ → List Change → List ℕ → Option Run → Due
+abbrev pub due_at : ℕ → List Change → List ℕ → Option Run → DuePlace
 due_at d before value run = record { partition = d; number = length before + 1; value = value; run = run; before = before }
 
 -- whether an effect writes a value
@@ -30,16 +30,16 @@ is_written Removes = false
 is_written Keeps = false
 
 -- what is due for the changes of so many partitions from d on
-abbrev pub dues_in : List (List Change) → ℕ → ℕ → List Due
+abbrev pub dues_in : List (List Change) → ℕ → ℕ → List DuePlace
 dues_in changes d zero = []
-dues_in changes d (suc n) = dues_of d [] (at [] changes d) ++ dues_in changes (d + 1) n
+dues_in changes d (suc n) = due_places_of d [] (at [] changes d) ++ dues_in changes (d + 1) n
 
 -- and for those of all partitions from d on
-abbrev pub dues_on : List (List Change) → ℕ → List Due
+abbrev pub dues_on : List (List Change) → ℕ → List DuePlace
 dues_on changes d = dues_in changes d (length changes - d)
 
 -- what is due behind so many places
-abbrev pub dues_left : List (List Change) → ℕ → List Due
+abbrev pub dues_left : List (List Change) → ℕ → List DuePlace
 dues_left changes placed = drop placed (dues_on changes 0)
 
 -- a text begins with this line, and the rest is behind it
@@ -57,13 +57,13 @@ LacksFirst P (line ∷ lines) = ¬ (P line)
 
 -- a line tells this run of a value of this length at a spot, where no item has an address of it
 abbrev pub TellsAt : Dimensions → Spot → Run → ℕ → (List ℕ → Option Run) → List ℕ → Type 0
-TellsAt s spot run len runs line = FitsRun s len run × IsOff runs run × (line ≡ place_text spot.partition (spot.place + 1) run)
+TellsAt s spot run len runs line = RunFitsValue s len run × IsOff runs run × (line ≡ place_text spot.partition (spot.place + 1) run)
 
 -- the first line tells it, and the item has the run; or it doesn't
 abbrev pub HasToldAt : Items → Spot → List ℕ → Run → ℕ → List ℕ → Items → Passed → Type 0
-HasToldAt before spot key run len text now (passed.Line rest) = HasFirst (TellsAt before.shape spot run len (runs_of before)) text rest.now
-    × IsMarked now × ((other : List ℕ) → runs_of now other ≡ with_run key (Some run) (runs_of before) other)
-HasToldAt before spot key run len text now passed.Fails = LacksFirst (TellsAt before.shape spot run len (runs_of before)) (lines_of text)
+HasToldAt before spot key run len text now (passed.Line rest) = HasFirst (TellsAt before.shape spot run len (item_runs_of before)) text rest.now
+    × IsMarked now × ((other : List ℕ) → item_runs_of now other ≡ with_run key (Some run) (item_runs_of before) other)
+HasToldAt before spot key run len text now passed.Fails = LacksFirst (TellsAt before.shape spot run len (item_runs_of before)) (lines_of text)
 HasToldAt before spot key run len text now passed.Silent = ⊥
 
 -- the items are those behind changes, and their addresses are marked
@@ -94,9 +94,9 @@ HasToldPart s changes d placed text (told.All now rest) = (dues_left changes now
 HasToldPart s changes d placed text (told.Fails n) = ArePlacedBehind s changes placed (lines_of text) (Some n)
 
 -- lines tell how many places there were, and no more
-abbrev pub HasEnded : ℕ → List (List ℕ) → Option ℕ → Type 0
-HasEnded placed [] found = found ≡ Some (placed + 1)
-HasEnded placed (line ∷ []) None = line ≡ placed_line placed
-HasEnded placed (line ∷ []) (Some n) = (line ≢ placed_line placed) × (n ≡ placed + 1)
-HasEnded placed (line ∷ next ∷ lines) None = ⊥
-HasEnded placed (line ∷ next ∷ lines) (Some n) = ((line ≢ placed_line placed) × (n ≡ placed + 1)) ⊎ ((line ≡ placed_line placed) × (n ≡ placed + 2))
+abbrev pub HasCountedPlaces : ℕ → List (List ℕ) → Option ℕ → Type 0
+HasCountedPlaces placed [] found = found ≡ Some (placed + 1)
+HasCountedPlaces placed (line ∷ []) None = line ≡ placed_line placed
+HasCountedPlaces placed (line ∷ []) (Some n) = (line ≢ placed_line placed) × (n ≡ placed + 1)
+HasCountedPlaces placed (line ∷ next ∷ lines) None = ⊥
+HasCountedPlaces placed (line ∷ next ∷ lines) (Some n) = ((line ≢ placed_line placed) × (n ≡ placed + 1)) ⊎ ((line ≡ placed_line placed) × (n ≡ placed + 2))

@@ -8,13 +8,13 @@ use Rattle.group_types.specs.Lists.{same_key}
 use Rattle.group_types.specs.declared.run.Run.{Run}
 use Rattle.group_run.specs.Free.{in_run}
 use Rattle.group_run.specs.Headline.{AreApart}
-use Rattle.run_verify.specs.Changes.{run_behind}
+use Rattle.run_verify.specs.Changes.{run_after_changes}
 use Rattle.run_verify.specs.declared.change.Change.{Change}
 use Rattle.run_verify.specs.declared.items.Items.{Items}
 
 -- the run of each key's item
-abbrev pub runs_of : Items → List ℕ → Option Run
-runs_of items key = get (slice_cmp nat_cmp) items.runs key
+abbrev pub item_runs_of : Items → List ℕ → Option Run
+item_runs_of items key = get (slice_cmp nat_cmp) items.runs key
 
 -- the runs with another one, or none, of this key
 abbrev pub with_run : List ℕ → Option Run → (List ℕ → Option Run) → List ℕ → Option Run
@@ -42,8 +42,8 @@ pub record AreMarked (space : ℕ) (runs : List ℕ → Option Run) (marks : Lis
   pub only : (x : ℕ) → slice_index marks x ≡ 1 → (key : List ℕ) × (run : Run) × (runs key ≡ Some run) × (in_run x run ≡ true)
 
 abbrev pub IsMarked : Items → Type 0
-IsMarked items = AreMarked (space_of items.shape) (runs_of items) items.marks.items
+IsMarked items = AreMarked (space_of items.shape) (item_runs_of items) items.marks.items
 
 -- the items are those behind changes
 abbrev pub StandBehind : List Change → Items → Type 0
-StandBehind before items = (key : List ℕ) → runs_of items key ≡ run_behind key None before
+StandBehind before items = (key : List ℕ) → item_runs_of items key ≡ run_after_changes key None before

@@ -13,8 +13,8 @@ use Rattle.group_calls.specs.declared.event.Answer.{Answer}
 use Rattle.scenario_text.specs.Texts.{entry_text, reply_text}
 use Rattle.transcript_text.specs.Forms.{FitsReply}
 use Rattle.transcript_text.specs.declared.name.Name.{Name}
-use Rattle.run_verify.specs.Passing.{Account, Answers, LogsAhead, TellsEntry, after_answer, front_of, next_name}
-use Rattle.run_verify.specs.Plain.{FitsEvent}
+use Rattle.run_verify.specs.Passing.{Account, LineTellsEntry, LogsAhead, TellsAnswer, after_answer, entry_front, next_call_name}
+use Rattle.run_verify.specs.Plain.{IsEventInRange}
 use Rattle.run_verify.specs.Steps.{Setting}
 use Rattle.run_verify.specs.declared.call.Call.{Call}
 use Rattle.run_verify.specs.declared.step.Step.{Step}
@@ -28,7 +28,7 @@ Judges Good now (Err _) = ⊤
 
 -- a step of a script of this group
 abbrev pub IsStepOf : Dimensions → Step → Type 0
-IsStepOf s (Make event) = FitsEvent event
+IsStepOf s (Make event) = IsEventInRange event
 IsStepOf s (Look p run) = IsProcess s p × (run.at + run.len ≤ space_of s)
 IsStepOf s Deliveries = ⊤
 IsStepOf s Placing = ⊤
@@ -39,12 +39,12 @@ AreStepsOf None steps = steps ≡ []
 AreStepsOf (Some setting) steps = All (IsStepOf setting.shape) steps
 
 -- the reply of a call's entry, once it was logged, where these are the callers' calls
-abbrev pub logged_in : List (List Call) → ℕ → ℕ → Option Reply
-logged_in calls caller call = option_and_then (λ c. c.reply) (slice_get (at [] calls caller) call)
+abbrev pub reply_logged : List (List Call) → ℕ → ℕ → Option Reply
+reply_logged calls caller call = option_and_then (λ c. c.reply) (slice_get (at [] calls caller) call)
 
 -- what comes next behind an event's answer
-abbrev pub IsAnswered : Account → Event → List ℕ → List (List ℕ) → Account → Type 0
-IsAnswered a event line ahead next = (answer : Answer) × Answers a event line ahead answer × (next ≡ after_answer a event answer)
+abbrev pub IsAnswerJudged : Account → Event → List ℕ → List (List ℕ) → Account → Type 0
+IsAnswerJudged a event line ahead next = (answer : Answer) × TellsAnswer a event line ahead answer × (next ≡ after_answer a event answer)
 
 -- a text is that of the reply of a call's entry: logged before, or else right ahead
 abbrev pub IsTextThere : Option Reply → List ℕ → List ℕ → List (List ℕ) → Type 0
@@ -53,9 +53,9 @@ IsTextThere None front text ahead = LogsAhead front text ahead
 
 -- so it is of the call of an event
 abbrev pub TellsReplyTo : Account → Event → List ℕ → List (List ℕ) → Type 0
-TellsReplyTo a (happens.Ask caller _ _) text ahead = LogsAhead (front_of (next_name a caller)) text ahead
-TellsReplyTo a (happens.Collect caller call _) text ahead = IsTextThere (logged_in a.calls caller call) (front_of (record { caller = caller; call = call })) text ahead
-TellsReplyTo a (happens.Trace caller call _ _) text ahead = IsTextThere (logged_in a.calls caller call) (front_of (record { caller = caller; call = call })) text ahead
+TellsReplyTo a (happens.Ask caller _ _) text ahead = LogsAhead (entry_front (next_call_name a caller)) text ahead
+TellsReplyTo a (happens.Collect caller call _) text ahead = IsTextThere (reply_logged a.calls caller call) (entry_front (record { caller = caller; call = call })) text ahead
+TellsReplyTo a (happens.Trace caller call _ _) text ahead = IsTextThere (reply_logged a.calls caller call) (entry_front (record { caller = caller; call = call })) text ahead
 TellsReplyTo a (happens.Deliver _ _) text ahead = ⊥
 TellsReplyTo a (happens.Fail _ _) text ahead = ⊥
 TellsReplyTo a (happens.Flush _) text ahead = ⊥
@@ -77,9 +77,9 @@ abbrev pub with_table : Account → Contents → Account
 with_table a table = record { calls = a.calls; table = table; changes = a.changes; entries = a.entries; placed = a.placed; shown = a.shown }
 
 -- the next entry was read from a line, and applied to the table; or the line tells none
-abbrev pub HasRead : Account → List ℕ → Account → Option Entry → Type 0
-HasRead before line now (Some e) = TellsEntry before line e × (now ≡ with_table before (table_after before.table e.op))
-HasRead before line now None = (e : Entry) → ¬ (TellsEntry before line e)
+abbrev pub HasReadEntry : Account → List ℕ → Account → Option Entry → Type 0
+HasReadEntry before line now (Some e) = LineTellsEntry before line e × (now ≡ with_table before (table_after before.table e.op))
+HasReadEntry before line now None = (e : Entry) → ¬ (LineTellsEntry before line e)
 
 -- the entry of a call on the table
 abbrev pub entry_on : Account → Name → Asked → Entry
@@ -91,6 +91,6 @@ IsEntryTold e line (Some told) = (told ≡ e) × (line ≡ entry_text e)
 IsEntryTold e line None = line ≢ entry_text e
 
 -- an op was applied to the table, and its entry is the line's, within its limits; or the line isn't that entry's
-abbrev pub HasApplied : Account → Name → Asked → List ℕ → Account → Option Entry → Type 0
-HasApplied before name op line now (Some e) = (e ≡ entry_on before name op) × FitsReply e.reply × (line ≡ entry_text e) × (now ≡ with_table before (table_after before.table op))
-HasApplied before name op line now None = line ≢ entry_text (entry_on before name op)
+abbrev pub HasAppliedOp : Account → Name → Asked → List ℕ → Account → Option Entry → Type 0
+HasAppliedOp before name op line now (Some e) = (e ≡ entry_on before name op) × FitsReply e.reply × (line ≡ entry_text e) × (now ≡ with_table before (table_after before.table op))
+HasAppliedOp before name op line now None = line ≢ entry_text (entry_on before name op)

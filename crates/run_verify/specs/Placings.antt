@@ -1,13 +1,13 @@
 -- What judging the lines for the places comes to.
 use Rattle.std.specs.Prelude.{ℕ, ◌≡◌, List, [], ◌∷◌, Option, Some, None}
 use Rattle.group_types.specs.Dimensions.{Dimensions}
-use Rattle.run_verify.specs.Passing.{Account, FailsAt, PassAll, State, on_to}
+use Rattle.run_verify.specs.Passing.{Account, FailsAt, JudgingState, PassAll, on_to}
 use Rattle.run_verify.specs.Sheet.{Sheet}
 use Rattle.run_verify.specs.declared.change.Change.{Change}
 use Rattle.run_verify.specs.declared.step.Step.TheVariants.{Placing}
 
 -- the places are in turn, and are all that is left
-abbrev pub placing : Account → State
+abbrev pub placing : Account → JudgingState
 placing a = on_to a (Placing ∷ [])
 
 -- all lines pass, and nothing but the number of places is told anew

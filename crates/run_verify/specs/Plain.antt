@@ -10,17 +10,17 @@ use Rattle.run_verify.specs.declared.step.Step.{Step}
 use Rattle.run_verify.specs.declared.step.Step.TheVariants.{Make, Deliveries, Look, Placing}
 
 -- an event whose caller and call are within their limits
-abbrev pub FitsEvent : Event → Type 0
-FitsEvent (happens.Ask caller op p) = caller < callers
-FitsEvent (happens.Collect caller call p) = (caller < callers) × (call < 2 ^ 64)
-FitsEvent (happens.Trace caller call d p) = (caller < callers) × (call < 2 ^ 64)
-FitsEvent (happens.Deliver from to) = ⊤
-FitsEvent (happens.Fail p keep) = ⊤
-FitsEvent (happens.Flush p) = ⊤
+abbrev pub IsEventInRange : Event → Type 0
+IsEventInRange (happens.Ask caller op p) = caller < callers
+IsEventInRange (happens.Collect caller call p) = (caller < callers) × (call < 2 ^ 64)
+IsEventInRange (happens.Trace caller call d p) = (caller < callers) × (call < 2 ^ 64)
+IsEventInRange (happens.Deliver from to) = ⊤
+IsEventInRange (happens.Fail p keep) = ⊤
+IsEventInRange (happens.Flush p) = ⊤
 
 -- a step whose event is, or whose process is one of the group
 abbrev pub FitsStep : Dimensions → Step → Type 0
-FitsStep s (Make event) = FitsEvent event
+FitsStep s (Make event) = IsEventInRange event
 FitsStep s Deliveries = ⊤
 FitsStep s (Look p run) = IsProcess s p
 FitsStep s Placing = ⊤
@@ -37,7 +37,7 @@ EndsPlacing (Make e ∷ steps) = EndsPlacing steps
 EndsPlacing (Deliveries ∷ steps) = EndsPlacing steps
 EndsPlacing (Look p run ∷ steps) = EndsPlacing steps
 
-pub record IsPlain (script : Script) : Type 0 where
+pub record IsPlainScript (script : Script) : Type 0 where
   pub fits : FitSteps script.shape script.steps
   pub few : length script.steps < 2 ^ 64
   pub ends : EndsPlacing script.steps

@@ -4,7 +4,7 @@ use Rattle.group_types.specs.Dimensions.{Dimensions}
 use Rattle.group_types.specs.declared.run.Run.{Run}
 use Rattle.transcript_text.specs.Texts.{FitsPlace, text_of_place}
 use Rattle.transcript_text.specs.declared.place.Place.{Place}
-use Rattle.run_verify.specs.Passing.{FitsRun}
+use Rattle.run_verify.specs.Passing.{RunFitsValue}
 
 -- the places are those of the lines that tell one, in order
 abbrev pub ArePlacesOf : List (List ℕ) → List Place → Type 0
@@ -17,7 +17,7 @@ ArePlacesOf (line ∷ lines) places =
 pub record Names (s : Dimensions) (d number len : ℕ) (place : Place) : Type 0 where
   pub partition : place.partition ≡ d
   pub number_is : place.number ≡ number
-  pub fits : FitsRun s len place.run
+  pub fits : RunFitsValue s len place.run
 
 -- the run of the first that does
 abbrev pub IsRunAmong : List Place → Dimensions → ℕ → ℕ → ℕ → Option Run → Type 0

@@ -20,30 +20,30 @@ IsAtLine n None = ⊤
 IsAtLine n (Some s) = All (λ count. count ≤ n) s.asked
 
 -- the group line, or a line before it, was treated
-abbrev pub HasBegun : StepNext → Result (Option Setting) LineFault → Type 0
-HasBegun next (Ok setting) = next ≡ Goes setting [] []
-HasBegun next (Err line.Want) = ⊤
-HasBegun next (Err fault) = next ≡ Refused fault
+abbrev pub HasTreatedFirst : StepNext → Result (Option Setting) LineFault → Type 0
+HasTreatedFirst next (Ok setting) = next ≡ Goes setting [] []
+HasTreatedFirst next (Err line.Want) = ⊤
+HasTreatedFirst next (Err fault) = next ≡ Refused fault
 
 -- what a line does was done
-abbrev pub HasTreated : Option Setting → StepNext → Option Setting → Result Treated LineFault → Type 0
-HasTreated before (Goes next steps text) now (Ok treated.Sets) = (now ≡ next) × (steps ≡ [])
-HasTreated before (Goes next steps text) now (Ok (treated.Asks step)) = (now ≡ next) × (steps ≡ step ∷ [])
-HasTreated before Ends now (Ok treated.Ends) = now ≡ before
-HasTreated before next now (Err line.Want) = ⊤
-HasTreated before (Refused fault) now (Err cause) = cause ≡ fault
-HasTreated before next now _ = ⊥
+abbrev pub IsLineTreated : Option Setting → StepNext → Option Setting → Result Treated LineFault → Type 0
+IsLineTreated before (Goes next steps text) now (Ok treated.Sets) = (now ≡ next) × (steps ≡ [])
+IsLineTreated before (Goes next steps text) now (Ok (treated.Asks step)) = (now ≡ next) × (steps ≡ step ∷ [])
+IsLineTreated before Ends now (Ok treated.Ends) = now ≡ before
+IsLineTreated before next now (Err line.Want) = ⊤
+IsLineTreated before (Refused fault) now (Err cause) = cause ≡ fault
+IsLineTreated before next now _ = ⊥
 
 -- something was read of lines, seen through f, or the first that is refused was found; want of memory may come at any time
-abbrev pub HasRead : {X Y : Type 0} → (Y → X) → Result X (Fault LineFault) → Result Y VerifyFault → Type 0
-HasRead f meant (Ok read) = meant ≡ Ok (f read)
-HasRead f meant (Err (BadLine n)) = meant ≡ Err (record { number = n; cause = line.BadLine })
-HasRead f meant (Err (BadShape field)) = (n : ℕ) × (meant ≡ Err (record { number = n; cause = line.BadShape field }))
-HasRead f meant (Err Want) = ⊤
+abbrev pub HasReadLines : {X Y : Type 0} → (Y → X) → Result X (Fault LineFault) → Result Y VerifyFault → Type 0
+HasReadLines f meant (Ok read) = meant ≡ Ok (f read)
+HasReadLines f meant (Err (BadLine n)) = meant ≡ Err (record { number = n; cause = line.BadLine })
+HasReadLines f meant (Err (BadShape field)) = (n : ℕ) × (meant ≡ Err (record { number = n; cause = line.BadShape field }))
+HasReadLines f meant (Err Want) = ⊤
 
 -- the same of a script
 abbrev pub HasReadScript : Result Script (Fault LineFault) → Result Script VerifyFault → Type 0
-HasReadScript meant read = HasRead (λ script. script) meant read
+HasReadScript meant read = HasReadLines (λ script. script) meant read
 
 -- a script, and the text of its transcript
 abbrev pub sheet_by : Script × Bor (List ℕ) → Sheet
@@ -57,10 +57,10 @@ IsToldOf n line.Want told = told ≡ Want
 
 -- a line was taken, with its number and the lines behind it: the script goes on with the steps that are kept, or ends before
 -- it, or it has the first fault
-abbrev pub HasTaken : ℕ → Option Setting → Option Setting → List Step → List Step → List ℕ → List (List ℕ) → Result Bool VerifyFault → Type 0
-HasTaken n before now kept keeps line lines (Ok true) = (steps : List Step) × (keeps ≡ kept ++ steps) × (script_in n before (line ∷ lines) ≡ behind steps (script_in (n + 1) now lines))
-HasTaken n before now kept keeps line lines (Ok false) = (now ≡ before) × (keeps ≡ kept) × (script_in n before (line ∷ lines) ≡ ended n before)
-HasTaken n before now kept keeps line lines (Err fault) = HasReadScript (script_in n before (line ∷ lines)) (Err fault)
+abbrev pub HasTakenLine : ℕ → Option Setting → Option Setting → List Step → List Step → List ℕ → List (List ℕ) → Result Bool VerifyFault → Type 0
+HasTakenLine n before now kept keeps line lines (Ok true) = (steps : List Step) × (keeps ≡ kept ++ steps) × (script_in n before (line ∷ lines) ≡ behind steps (script_in (n + 1) now lines))
+HasTakenLine n before now kept keeps line lines (Ok false) = (now ≡ before) × (keeps ≡ kept) × (script_in n before (line ∷ lines) ≡ ended n before)
+HasTakenLine n before now kept keeps line lines (Err fault) = HasReadScript (script_in n before (line ∷ lines)) (Err fault)
 
 -- the step of a line that was treated is kept, where the line stands where it may
 abbrev pub HasKept : List Step → List Step → Treated → Bool → ℕ → Result Bool VerifyFault → Type 0

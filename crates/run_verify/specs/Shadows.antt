@@ -2,7 +2,7 @@
 use Rattle.std.specs.Prelude.{ℕ, ◌≡◌, ◌<◌, ◌≤◌, ◌%◌, List, [], ◌++◌, length, replicate, slice_index_or, take}
 use Rattle.group_types.specs.Dimensions.{Dimensions, space_of}
 use Rattle.group_types.specs.Lists.{at}
-use Rattle.run_verify.specs.Changes.{space_after}
+use Rattle.run_verify.specs.Changes.{space_after_changes}
 use Rattle.run_verify.specs.Showing.{spaces_in}
 use Rattle.run_verify.specs.declared.change.Change.{Change}
 use Rattle.run_verify.specs.declared.shadow.Shadow.{Shadow}
@@ -10,7 +10,7 @@ use Rattle.run_verify.specs.declared.shadow.Shadow.{Shadow}
 -- a shadow follows changes: its space is the one behind so many of them
 pub record Follows (changes : List Change) (shadow : Shadow) : Type 0 where
   pub within : shadow.number ≤ length changes
-  pub space : shadow.space.items ≡ space_after (replicate (length shadow.space.items) 0) (take shadow.number changes)
+  pub space : shadow.space.items ≡ space_after_changes (replicate (length shadow.space.items) 0) (take shadow.number changes)
 
 -- each shadow follows the changes of the partition that its place is for
 abbrev pub AllFollow : List (List Change) → List Shadow → Type 0

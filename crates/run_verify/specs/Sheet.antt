@@ -27,14 +27,14 @@ pub record Sheet : Type 0 where
   pub lines : List (List ℕ)
 
 -- a sheet of both; where there is no separator, the line of the number n is lacking
-abbrev pub joined : ℕ → Result Script (Fault LineFault) → Option (List (List ℕ)) → Result Sheet (Fault LineFault)
-joined n (Err fault) lines = Err fault
-joined n (Ok script) None = Err (record { number = n; cause = BadLine })
-joined n (Ok script) (Some lines) = Ok (record { script = script; lines = lines })
+abbrev pub sheet_joined : ℕ → Result Script (Fault LineFault) → Option (List (List ℕ)) → Result Sheet (Fault LineFault)
+sheet_joined n (Err fault) lines = Err fault
+sheet_joined n (Ok script) None = Err (record { number = n; cause = BadLine })
+sheet_joined n (Ok script) (Some lines) = Ok (record { script = script; lines = lines })
 
 -- the sheet of lines
 abbrev pub sheet_in : List (List ℕ) → Result Sheet (Fault LineFault)
-sheet_in lines = joined (length lines + 1) (script_in 1 None (before_separator lines)) (behind_separator lines)
+sheet_in lines = sheet_joined (length lines + 1) (script_in 1 None (before_separator lines)) (behind_separator lines)
 
 -- the sheet of a text, or its first line that is refused
 abbrev pub sheet_of : List ℕ → Result Sheet (Fault LineFault)

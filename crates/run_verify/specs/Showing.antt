@@ -8,7 +8,7 @@ use Rattle.group_types.specs.declared.process.ProcessId.TheVariants.{DataNode, P
 use Rattle.group_types.specs.declared.run.Run.{Run}
 use Rattle.scenario_text.specs.Texts.{value_text}
 use Rattle.run_verify.specs.Changes.{space_behind}
-use Rattle.run_verify.specs.Passing.{Account, FitsRun, TellsBytes, with_shown}
+use Rattle.run_verify.specs.Passing.{Account, RunFitsValue, TellsBytes, with_shown}
 use Rattle.run_verify.specs.Updates.{space_at}
 use Rattle.run_verify.specs.declared.change.Change.{Change}
 use Rattle.run_verify.specs.declared.change.Effect.{Effect}
@@ -16,7 +16,7 @@ use Rattle.run_verify.specs.declared.change.Effect.TheVariants.{Writes, Removes,
 
 -- the run of a value fits it, and lies in the space
 abbrev pub IsFitEffect : Dimensions → Effect → Type 0
-IsFitEffect s (Writes value (Some run)) = FitsRun s (length value) run
+IsFitEffect s (Writes value (Some run)) = RunFitsValue s (length value) run
 IsFitEffect s (Writes value None) = ⊤
 IsFitEffect s Removes = ⊤
 IsFitEffect s Keeps = ⊤
@@ -48,8 +48,8 @@ abbrev pub space_seen : Dimensions → List (List Change) → ProcessId → List
 space_seen s changes p stamp = space_at s (spaces_in s changes) p stamp
 
 -- a stamp can be, and a word is the text of the bytes of a run there
-abbrev pub IsTold : Dimensions → List (List Change) → ProcessId → Run → List ℕ → List ℕ → Type 0
-IsTold s changes p run stamp word = IsStamped changes p stamp × (value_text (bytes_at run.at run.len (space_seen s changes p stamp)) ≡ word)
+abbrev pub IsWordTold : Dimensions → List (List Change) → ProcessId → Run → List ℕ → List ℕ → Type 0
+IsWordTold s changes p run stamp word = IsStamped changes p stamp × (value_text (bytes_at run.at run.len (space_seen s changes p stamp)) ≡ word)
 
 -- what comes next behind a line for a look
 abbrev pub IsLooked : Dimensions → Account → ProcessId → Run → List ℕ → Account → Type 0

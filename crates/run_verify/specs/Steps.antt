@@ -4,7 +4,7 @@ use Rattle.std.specs.Str.{bytes_eq}
 use Rattle.group_types.specs.Dimensions.{Dimensions, callers}
 use Rattle.group_calls.specs.declared.event.Event.{Event}
 use Rattle.group_calls.specs.declared.event.Event.TheVariants as happens
-use Rattle.scenario_text.specs.Meaning.{is_skipped, line_of}
+use Rattle.scenario_text.specs.Meaning.{is_skipped, line_meaning}
 use Rattle.scenario_text.specs.declared.line.Line.{Line}
 use Rattle.scenario_text.specs.declared.line.Line.TheVariants.{Skipped, Group, Ask, Collect, Deliver, Fail, Flush, Trace, Drain, Show, Places, Time, Stop}
 use Rattle.scenario_text.specs.declared.line.LineFault.{LineFault}
@@ -41,42 +41,42 @@ abbrev pub with_ask : Setting → ℕ → Setting
 with_ask s caller = record { shape = s.shape; moment = s.moment; asked = slice_set s.asked caller (slice_index s.asked caller + 1) }
 
 -- only a call that was asked is traced
-abbrev pub by_trace : Setting → ℕ → ℕ → Event → StepNext
-by_trace s caller call e = if nat_lt call (slice_index s.asked caller) then asks_for s (Make e) else Refused BadLine
+abbrev pub trace_steps : Setting → ℕ → ℕ → Event → StepNext
+trace_steps s caller call e = if nat_lt call (slice_index s.asked caller) then asks_for s (Make e) else Refused BadLine
 
 -- what a line of this meaning does where the group isn't named yet
-abbrev pub first_by : Line → StepNext
-first_by Skipped = Goes None [] []
-first_by (Group shape) = sets (first_setting shape)
-first_by _ = Refused BadLine
+abbrev pub first_steps : Line → StepNext
+first_steps Skipped = Goes None [] []
+first_steps (Group shape) = sets (first_setting shape)
+first_steps _ = Refused BadLine
 
 -- what it does behind the group line
-abbrev pub then_by : Setting → Line → StepNext
-then_by s Skipped = sets s
-then_by s (Group shape) = Refused BadLine
-then_by s (Ask caller from act) = asks_for (with_ask s caller) (Make (happens.Ask caller (record { moment = s.moment; act = act }) from))
-then_by s (Collect caller call from) = asks_for s (Make (happens.Collect caller call from))
-then_by s (Deliver from to) = asks_for s (Make (happens.Deliver from to))
-then_by s (Fail from keep) = asks_for s (Make (happens.Fail from keep))
-then_by s (Flush from) = asks_for s (Make (happens.Flush from))
-then_by s (Trace caller call partition from) = by_trace s caller call (happens.Trace caller call partition from)
-then_by s Drain = asks_for s Deliveries
-then_by s (Show from run) = asks_for s (Look from run)
-then_by s Places = asks_for s Placing
-then_by s (Time moment) = sets (record { shape = s.shape; moment = moment; asked = s.asked })
-then_by s Stop = Ends
+abbrev pub later_steps : Setting → Line → StepNext
+later_steps s Skipped = sets s
+later_steps s (Group shape) = Refused BadLine
+later_steps s (Ask caller from act) = asks_for (with_ask s caller) (Make (happens.Ask caller (record { moment = s.moment; act = act }) from))
+later_steps s (Collect caller call from) = asks_for s (Make (happens.Collect caller call from))
+later_steps s (Deliver from to) = asks_for s (Make (happens.Deliver from to))
+later_steps s (Fail from keep) = asks_for s (Make (happens.Fail from keep))
+later_steps s (Flush from) = asks_for s (Make (happens.Flush from))
+later_steps s (Trace caller call partition from) = trace_steps s caller call (happens.Trace caller call partition from)
+later_steps s Drain = asks_for s Deliveries
+later_steps s (Show from run) = asks_for s (Look from run)
+later_steps s Places = asks_for s Placing
+later_steps s (Time moment) = sets (record { shape = s.shape; moment = moment; asked = s.asked })
+later_steps s Stop = Ends
 
 -- what a line does that is read so
-abbrev pub next_by : Option Setting → Result Line LineFault → StepNext
-next_by setting (Err fault) = Refused fault
-next_by None (Ok line) = first_by line
-next_by (Some s) (Ok line) = then_by s line
+abbrev pub steps_by_meaning : Option Setting → Result Line LineFault → StepNext
+steps_by_meaning setting (Err fault) = Refused fault
+steps_by_meaning None (Ok line) = first_steps line
+steps_by_meaning (Some s) (Ok line) = later_steps s line
 
-abbrev pub shape_in : Option Setting → Option Dimensions
-shape_in setting = option_map (λ s. s.shape) setting
+abbrev pub setting_shape : Option Setting → Option Dimensions
+setting_shape setting = option_map (λ s. s.shape) setting
 
-abbrev pub next_of : Option Setting → List ℕ → StepNext
-next_of setting line = next_by setting (line_of (shape_in setting) line)
+abbrev pub steps_of_line : Option Setting → List ℕ → StepNext
+steps_of_line setting line = steps_by_meaning setting (line_meaning (setting_shape setting) line)
 
 -- whether lines hold nothing more before `stop` or the end
 abbrev pub is_over : List (List ℕ) → Bool
@@ -107,12 +107,12 @@ ended n None = bad_line n
 ended n (Some s) = Ok (record { shape = s.shape; steps = [] })
 
 -- what comes of the line of this number, which is skipped or not and stands where it may or doesn't, and of the rest
-abbrev pub from_line : Bool → Bool → ℕ → Option Setting → StepNext → (Option Setting → Result Script (Fault LineFault)) → Result Script (Fault LineFault)
-from_line skipped well n setting (Goes next steps text) rest = if skipped then rest next else (if well then behind steps (rest next) else bad_line n)
-from_line skipped well n setting Ends rest = ended n setting
-from_line skipped well n setting (Refused cause) rest = Err (record { number = n; cause = cause })
+abbrev pub script_from_line : Bool → Bool → ℕ → Option Setting → StepNext → (Option Setting → Result Script (Fault LineFault)) → Result Script (Fault LineFault)
+script_from_line skipped well n setting (Goes next steps text) rest = if skipped then rest next else (if well then behind steps (rest next) else bad_line n)
+script_from_line skipped well n setting Ends rest = ended n setting
+script_from_line skipped well n setting (Refused cause) rest = Err (record { number = n; cause = cause })
 
 -- the script of lines, or the first of them that is refused, where the next has the number n
 abbrev pub script_in : ℕ → Option Setting → List (List ℕ) → Result Script (Fault LineFault)
 script_in n setting [] = ended n setting
-script_in n setting (line ∷ lines) = from_line (is_skipped line) (stands_well line lines) n setting (next_of setting line) (λ next. script_in (n + 1) next lines)
+script_in n setting (line ∷ lines) = script_from_line (is_skipped line) (stands_well line lines) n setting (steps_of_line setting line) (λ next. script_in (n + 1) next lines)

@@ -50,14 +50,14 @@ HasJudged before now held held_now Want =
     ⊎ ((entries shown : ℕ) × IsVerifiedText before now entries shown × HasWritten held held_now (verified_line entries shown))
 
 -- the status that tells a fault
-abbrev pub status_of_sink : SinkFault → VerifyStatus
-status_of_sink sink.Failed = WriteFault
-status_of_sink sink.Want = Want
+abbrev pub status_of_write_fault : SinkFault → VerifyStatus
+status_of_write_fault sink.Failed = WriteFault
+status_of_write_fault sink.Want = Want
 
-abbrev pub status_of_read : edge.ReadFault → VerifyStatus
-status_of_read read.TooLong = TooLong
-status_of_read read.Failed = ReadFault
-status_of_read read.Want = Want
+abbrev pub status_of_read_fault : edge.ReadFault → VerifyStatus
+status_of_read_fault read.TooLong = TooLong
+status_of_read_fault read.Failed = ReadFault
+status_of_read_fault read.Want = Want
 
 abbrev pub status_of_fault : VerifyFault → VerifyStatus
 status_of_fault (fault.BadLine n) = BadLine n
@@ -65,9 +65,9 @@ status_of_fault (fault.BadShape field) = BadShape field
 status_of_fault fault.Want = Want
 
 -- the status of a text that was verified so
-abbrev pub status_in : Result (Unit {0}) VerifyStatus → VerifyStatus
-status_in (Ok _) = Done
-status_in (Err status) = status
+abbrev pub status_of_result : Result (Unit {0}) VerifyStatus → VerifyStatus
+status_of_result (Ok _) = Done
+status_of_result (Err status) = status
 
 -- a text was read to its end, or it has more bytes than the limit, or a read failed, or there was no memory
 abbrev pub HasReadText : Input → Input → ℕ → ℕ → Result (List ℕ) VerifyStatus → Type 0
@@ -87,8 +87,8 @@ IsFoundOf text (Err Want) = ⊤
 IsFoundOf text (Err _) = ⊥
 
 -- a line was written, or a front of it where that failed
-abbrev pub HasTold : List ℕ → List ℕ → List ℕ → Result (Unit {0}) VerifyStatus → Type 0
-HasTold held held_now line (Ok _) = Appends held held_now line
-HasTold held held_now line (Err WriteFault) = HasWritten held held_now line
-HasTold held held_now line (Err Want) = HasWritten held held_now line
-HasTold held held_now line (Err _) = ⊥
+abbrev pub HasToldLine : List ℕ → List ℕ → List ℕ → Result (Unit {0}) VerifyStatus → Type 0
+HasToldLine held held_now line (Ok _) = Appends held held_now line
+HasToldLine held held_now line (Err WriteFault) = HasWritten held held_now line
+HasToldLine held held_now line (Err Want) = HasWritten held held_now line
+HasToldLine held held_now line (Err _) = ⊥

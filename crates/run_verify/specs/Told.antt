@@ -6,7 +6,7 @@ use Rattle.group_calls.specs.Turns.{Turn, log_of}
 use Rattle.group_calls.specs.declared.event.Event.{Event}
 use Rattle.group_calls.specs.declared.event.Event.TheVariants as happens
 use Rattle.scenario_text.specs.Texts.{answer_text, entry_text, many_placed, place_text, shown_text}
-use Rattle.transcript_text.specs.Forms.{FitsAnswer, MayAnswer, kind_of}
+use Rattle.transcript_text.specs.Forms.{FitsAnswer, MayAnswer, kind_of_event}
 use Rattle.run_verify.specs.declared.step.Step.{Step}
 use Rattle.run_verify.specs.declared.step.Step.TheVariants.{Make, Deliveries, Look, Placing}
 
@@ -58,23 +58,23 @@ lines_told [] = []
 lines_told (told ∷ more) = told_lines told ++ lines_told more
 
 -- the turns that are told
-abbrev pub turns_in : Told → List Turn
-turns_in (Made turn) = turn ∷ []
-turns_in (Drained turns n) = turns
-turns_in _ = []
+abbrev pub turns_told_in : Told → List Turn
+turns_told_in (Made turn) = turn ∷ []
+turns_told_in (Drained turns n) = turns
+turns_told_in _ = []
 
 abbrev pub turns_told : List Told → List Turn
 turns_told [] = []
-turns_told (told ∷ more) = turns_in told ++ turns_told more
+turns_told (told ∷ more) = turns_told_in told ++ turns_told more
 
 -- the runs that are told
-abbrev pub runs_in : Told → List (List (Option Run))
-runs_in (Placed runs) = runs
-runs_in _ = []
+abbrev pub runs_told_in : Told → List (List (Option Run))
+runs_told_in (Placed runs) = runs
+runs_told_in _ = []
 
 abbrev pub runs_told : List Told → List (List (Option Run))
 runs_told [] = []
-runs_told (told ∷ more) = runs_in told ++ runs_told more
+runs_told (told ∷ more) = runs_told_in told ++ runs_told more
 
 -- how many lines show bytes
 abbrev pub count_shown : List Told → ℕ
@@ -92,18 +92,18 @@ IsDelivery (happens.Flush _) = ⊥
 IsDelivery (happens.Trace _ _ _ _) = ⊥
 
 -- this can be told for a step: an answer that its event can have, within the limits of its numbers
-abbrev pub Tells : Step → Told → Type 0
-Tells (Make event) (Made turn) = (turn.event ≡ event) × MayAnswer (kind_of event) turn.answer × FitsAnswer turn.answer
-Tells Deliveries (Drained turns n) = All (λ turn. IsDelivery turn.event) turns × (n < 2 ^ 64)
-Tells (Look p run) (Shown stamp bytes) = ⊤
-Tells (Look p run) Lost = ⊤
-Tells (Look p run) Down = ⊤
-Tells Placing (Placed runs) = ⊤
-Tells _ _ = ⊥
+abbrev pub CanBeTold : Step → Told → Type 0
+CanBeTold (Make event) (Made turn) = (turn.event ≡ event) × MayAnswer (kind_of_event event) turn.answer × FitsAnswer turn.answer
+CanBeTold Deliveries (Drained turns n) = All (λ turn. IsDelivery turn.event) turns × (n < 2 ^ 64)
+CanBeTold (Look p run) (Shown stamp bytes) = ⊤
+CanBeTold (Look p run) Lost = ⊤
+CanBeTold (Look p run) Down = ⊤
+CanBeTold Placing (Placed runs) = ⊤
+CanBeTold _ _ = ⊥
 
 -- and for all steps, in order
 abbrev pub TellAll : List Step → List Told → Type 0
 TellAll [] [] = Unit {0}
-TellAll (step ∷ steps) (told ∷ more) = Tells step told × TellAll steps more
+TellAll (step ∷ steps) (told ∷ more) = CanBeTold step told × TellAll steps more
 TellAll [] (told ∷ more) = ⊥
 TellAll (step ∷ steps) [] = ⊥

@@ -27,8 +27,8 @@ abbrev pub updates_by : Dimensions → List (List (Option Run)) → List Entry �
 updates_by s runs log d = updates_from s.k d (empty_table s.k) (at [] runs d) log
 
 -- a space after its first n updates
-abbrev pub space_after : Dimensions → List Logged → ℕ → List ℕ
-space_after s updates n = space_from (replicate (space_of s) 0) (take n updates)
+abbrev pub space_after_updates : Dimensions → List Logged → ℕ → List ℕ
+space_after_updates s updates n = space_from (replicate (space_of s) 0) (take n updates)
 
 -- a stamp that a process can have, where so many updates of each partition were logged: its partition's number, or one for
 -- each partition, none above what was logged
@@ -53,18 +53,18 @@ shown_at s spaces p run stamp = bytes_at run.at run.len (space_at s spaces p sta
 
 -- a run is clear for a value of this length, where these are the runs of the items: it lies in the space, is as long as the
 -- value, and has no address in common with any of them
-pub record IsClear (s : Dimensions) (items : List ℕ → Option Run) (run : Run) (len : ℕ) : Type 0 where
+pub record IsClearRun (s : Dimensions) (items : List ℕ → Option Run) (run : Run) (len : ℕ) : Type 0 where
   pub inside : run.at + run.len ≤ space_of s
   pub long : run.len ≡ len
   pub apart : (key : List ℕ) (other : Run) → items key ≡ Some other → AreApart run other
 
 -- the runs of the items behind updates
-abbrev pub item_runs : List Logged → List ℕ → Option Run
-item_runs updates key = run_on key None updates
+abbrev pub item_run_behind : List Logged → List ℕ → Option Run
+item_run_behind updates key = run_on key None updates
 
 -- an update stands right behind others: its value at a clear run, or no run where it brings none
 abbrev pub StandsRight : Dimensions → List Logged → Logged → Bool → Type 0
-StandsRight s before u true = (run : Run) × (value : Holding) × (u.run ≡ Some run) × (u.item ≡ Some value) × IsClear s (item_runs before) run (length value.item.value)
+StandsRight s before u true = (run : Run) × (value : Holding) × (u.run ≡ Some run) × (u.item ≡ Some value) × IsClearRun s (item_run_behind before) run (length value.item.value)
 StandsRight s before u false = u.run ≡ None
 
 -- so do updates, one after the other

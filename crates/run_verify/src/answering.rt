@@ -1,11 +1,11 @@
 ghost use Rattle.std.specs.Prelude.{◌≡◌, ◌≤◌, length, All, IfOk, IfErr, OnOk, true};
 ghost use Rattle.scenario_run.specs.Lines.{lines_of};
-ghost use Rattle.transcript_text.specs.Forms.{kind_of, kind_of_act};
+ghost use Rattle.transcript_text.specs.Forms.{kind_of_act, kind_of_event};
 ghost use Rattle.run_verify.specs.Accounts.{account_of};
 ghost use Rattle.memc_table.specs.Table.{contents};
-ghost use Rattle.run_verify.specs.Judging.{IsAnswered, Judges, TellsReplyTo};
+ghost use Rattle.run_verify.specs.Judging.{IsAnswerJudged, Judges, TellsReplyTo};
 ghost use Rattle.run_verify.specs.Passing.{after_event};
-ghost use Rattle.run_verify.specs.Plain.{FitsEvent};
+ghost use Rattle.run_verify.specs.Plain.{IsEventInRange};
 
 use crate::account::Account;
 use crate::calls::{add_call, calls_of, is_ahead, is_text_of, reply_in};
@@ -17,8 +17,8 @@ use transcript_text::answer::{Said, read_said};
 
 impl Account {
     ghost use Rattle.std.specs.Prelude.{◌↔◌, ◌<◌, IsTrue};
-    ghost use Rattle.run_verify.specs.Judging.{IsTextThere, logged_in};
-    ghost use Rattle.run_verify.specs.Passing.{LogsAhead, front_of, next_name};
+    ghost use Rattle.run_verify.specs.Judging.{IsTextThere, reply_logged};
+    ghost use Rattle.run_verify.specs.Passing.{LogsAhead, entry_front, next_call_name};
 
     /// Takes the answer of an event, if the line tells one, with these lines ahead.
     pub(crate) fn answer(
@@ -27,8 +27,8 @@ impl Account {
         line: &[u8],
         ahead: &[u8],
     ) -> Result<bool, AllocError>
-        requires { FitsEvent event.now }
-        ensures { Judges (IsAnswered (account_of self.old) event.now line.now (lines_of ahead.now))
+        requires { IsEventInRange event.now }
+        ensures { Judges (IsAnswerJudged (account_of self.old) event.now line.now (lines_of ahead.now))
             (account_of self.new) result }
     {
         match read_said(kind(event), line) {
@@ -46,7 +46,7 @@ impl Account {
 
     /// Keeps the call that an event asks, if it asks one, which takes effect or not.
     fn ask(&mut self, event: &Event, taken: bool) -> Result<bool, AllocError>
-        requires { FitsEvent event.now }
+        requires { IsEventInRange event.now }
         ensures account { OnOk result (account_of self.new ≡ after_event (account_of self.old) event.now taken) }
         ensures goes { IfOk result (λ goes. goes ≡ true) }
     {
@@ -59,7 +59,7 @@ impl Account {
 
     /// Whether a text is that of the reply of the entry of an event's call.
     fn is_reply_to(&self, event: &Event, reply: &[u8], ahead: &[u8]) -> Result<bool, AllocError>
-        requires { FitsEvent event.now }
+        requires { IsEventInRange event.now }
         ensures { IfOk result (λ yes. IsTrue yes
             ↔ TellsReplyTo (account_of self.now) event.now reply.now (lines_of ahead.now)) }
     {
@@ -75,7 +75,7 @@ impl Account {
     fn is_next(&self, caller: u32, reply: &[u8], ahead: &[u8]) -> Result<bool, AllocError>
         requires { caller < 256 }
         ensures { IfOk result (λ yes. IsTrue yes ↔ LogsAhead
-            (front_of (next_name (account_of self.now) caller)) reply.now (lines_of ahead.now)) }
+            (entry_front (next_call_name (account_of self.now) caller)) reply.now (lines_of ahead.now)) }
     {
         let call = calls_of(&self.calls, caller).len() as u64;
         is_ahead(self.alloc, caller, call, reply, ahead)
@@ -90,8 +90,8 @@ impl Account {
         ahead: &[u8],
     ) -> Result<bool, AllocError>
         requires { caller < 256 }
-        ensures { IfOk result (λ yes. IsTrue yes ↔ IsTextThere (logged_in (account_of self.now).calls caller call)
-            (front_of (record { caller = caller; call = call })) reply.now (lines_of ahead.now)) }
+        ensures { IfOk result (λ yes. IsTrue yes ↔ IsTextThere (reply_logged (account_of self.now).calls caller call)
+            (entry_front (record { caller = caller; call = call })) reply.now (lines_of ahead.now)) }
     {
         match reply_in(calls_of(&self.calls, caller), call) {
             Some(logged) => is_text_of(self.alloc, logged, reply),
@@ -102,7 +102,7 @@ impl Account {
 
 /// The kind of an event.
 fn kind(event: &Event) -> Kind
-    ensures { result ≡ kind_of event.now }
+    ensures { result ≡ kind_of_event event.now }
 {
     match event {
         Event::Ask { op, .. } => kind_of_act(op.act()),

@@ -4,7 +4,7 @@ ghost use Rattle.scenario_text.specs.Texts.{reply_text};
 ghost use Rattle.scenario_run.specs.Lines.{lines_of};
 ghost use Rattle.transcript_text.specs.Forms.{FitsReply};
 ghost use Rattle.run_verify.specs.Accounts.{lists_of};
-ghost use Rattle.run_verify.specs.Passing.{LogsAhead, front_of};
+ghost use Rattle.run_verify.specs.Passing.{LogsAhead, entry_front};
 
 use crate::ahead::logs_ahead;
 use crate::call::Call;
@@ -93,7 +93,7 @@ pub(crate) fn is_ahead(
     reply: &[u8],
     ahead: &[u8],
 ) -> Result<bool, AllocError>
-    ensures { IfOk result (λ yes. IsTrue yes ↔ LogsAhead (front_of (record { caller = caller; call = call })) reply.now
+    ensures { IfOk result (λ yes. IsTrue yes ↔ LogsAhead (entry_front (record { caller = caller; call = call })) reply.now
         (lines_of ahead.now)) }
 {
     let front = front(alloc, caller, call)?;
@@ -102,7 +102,7 @@ pub(crate) fn is_ahead(
 
 /// How the line of a call's entry begins.
 fn front(alloc: Global, caller: u32, call: u64) -> Result<Vec<u8>, AllocError>
-    ensures { IfOk result (λ front. front.items ≡ front_of (record { caller = caller; call = call })) }
+    ensures { IfOk result (λ front. front.items ≡ entry_front (record { caller = caller; call = call })) }
 {
     let mut text = format!(in alloc; "= {caller}")?.into_bytes();
     text.extend_from_slice(format!(in alloc; ".{call}")?.as_bytes())?;

@@ -2,8 +2,8 @@ ghost use Rattle.std.specs.Prelude.{◌≡◌, ◌↔◌, ◌<◌, ◌^◌, All,
 ghost use Rattle.scenario_text.specs.Texts.{entry_text};
 ghost use Rattle.transcript_text.specs.Texts.{FitsName, text_of_name};
 ghost use Rattle.run_verify.specs.Accounts.{account_of};
-ghost use Rattle.run_verify.specs.Judging.{HasApplied, HasRead, IsEntryTold, open_op};
-ghost use Rattle.run_verify.specs.Passing.{Begins};
+ghost use Rattle.run_verify.specs.Judging.{HasAppliedOp, HasReadEntry, IsEntryTold, open_op};
+ghost use Rattle.run_verify.specs.Passing.{IsFrontOf};
 
 use crate::account::Account;
 use crate::call::Call;
@@ -18,7 +18,7 @@ impl Account {
     /// Reads the next entry from a line of the log, if the line tells it, and applies it to the table.
     pub(crate) fn read_entry(&mut self, line: &[u8]) -> Result<Option<Entry>, AllocError>
         requires low { All (λ count. count < 2 ^ 62) (account_of self.old).table.counts }
-        ensures { IfOk result (HasRead (account_of self.old) line.now (account_of self.new)) }
+        ensures { IfOk result (HasReadEntry (account_of self.old) line.now (account_of self.new)) }
     {
         match named(line) {
             None => Ok(None),
@@ -30,8 +30,8 @@ impl Account {
     fn read_named(&mut self, name: Name, line: &[u8]) -> Result<Option<Entry>, AllocError>
         requires low { All (λ count. count < 2 ^ 62) (account_of self.old).table.counts }
         requires name { FitsName name }
-        requires front { Begins (text_of_name name) line.now }
-        ensures { IfOk result (HasRead (account_of self.old) line.now (account_of self.new)) }
+        requires front { IsFrontOf (text_of_name name) line.now }
+        ensures { IfOk result (HasReadEntry (account_of self.old) line.now (account_of self.new)) }
     {
         match open_call(calls_of(&self.calls, name.caller), name.call)? {
             None => Ok(None),
@@ -42,7 +42,7 @@ impl Account {
     /// Applies the op of a call to the table, and compares its entry with a line.
     fn apply(&mut self, name: Name, op: Op, line: &[u8]) -> Result<Option<Entry>, AllocError>
         requires low { All (λ count. count < 2 ^ 62) (account_of self.old).table.counts }
-        ensures { IfOk result (HasApplied (account_of self.old) name op line.now (account_of self.new)) }
+        ensures { IfOk result (HasAppliedOp (account_of self.old) name op line.now (account_of self.new)) }
     {
         match self.table.apply(&op) {
             Ok(reply) => {

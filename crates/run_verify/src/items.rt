@@ -1,6 +1,6 @@
 ghost use Rattle.std.specs.Prelude.{ℕ, List, ◌≡◌, ◌↔◌, ◌≤◌, ◌+◌, None, Some, length, IfOk, OnOk, IsTrue, IfSome};
 ghost use Rattle.group_types.specs.Dimensions.{space_of};
-ghost use Rattle.run_verify.specs.Items.{IsMarked, IsOff, cleared, filled, runs_of, with_run};
+ghost use Rattle.run_verify.specs.Items.{IsMarked, IsOff, cleared, filled, item_runs_of, with_run};
 
 use group_types::{Key, Run, Shape};
 use memchr::memchr;
@@ -21,7 +21,7 @@ impl Items {
     pub(crate) fn new(alloc: Global, shape: Shape) -> Result<Items, AllocError>
         ensures shape { IfOk result (λ items. items.shape ≡ shape) }
         ensures marked { IfOk result IsMarked }
-        ensures none { IfOk result (λ items. (key : List ℕ) → runs_of items key ≡ None) }
+        ensures none { IfOk result (λ items. (key : List ℕ) → item_runs_of items key ≡ None) }
     {
         Ok(Items {
             alloc,
@@ -35,7 +35,7 @@ impl Items {
     pub(crate) fn is_off(&self, run: Run) -> bool
         requires marked { IsMarked self.now }
         requires inside { run.at + run.len ≤ space_of self.now.shape }
-        ensures { IsTrue result ↔ IsOff (runs_of self.now) run }
+        ensures { IsTrue result ↔ IsOff (item_runs_of self.now) run }
     {
         let from = run.at as usize;
         memchr(1, &self.marks[from..from + run.len as usize]).is_none()
@@ -45,10 +45,10 @@ impl Items {
     pub(crate) fn put(&mut self, key: &Key, run: Run) -> Result<(), AllocError>
         requires marked { IsMarked self.old }
         requires inside { run.at + run.len ≤ space_of self.old.shape }
-        requires off { IsOff (runs_of self.old) run }
+        requires off { IsOff (item_runs_of self.old) run }
         ensures marked { OnOk result (IsMarked self.new) }
         ensures runs { OnOk result ((other : List ℕ)
-            → runs_of self.new other ≡ with_run key.now (Some run) (runs_of self.old) other) }
+            → item_runs_of self.new other ≡ with_run key.now (Some run) (item_runs_of self.old) other) }
         ensures shape { self.new.shape ≡ self.old.shape }
     {
         let old = self.runs.insert(key.clone()?, run)?;
@@ -61,7 +61,7 @@ impl Items {
     pub(crate) fn remove(&mut self, key: &Key)
         requires marked { IsMarked self.old }
         ensures marked { IsMarked self.new }
-        ensures runs { (other : List ℕ) → runs_of self.new other ≡ with_run key.now None (runs_of self.old) other }
+        ensures runs { (other : List ℕ) → item_runs_of self.new other ≡ with_run key.now None (item_runs_of self.old) other }
         ensures shape { self.new.shape ≡ self.old.shape }
     {
         let old = self.runs.remove(key);

@@ -1,7 +1,7 @@
 ghost use Rattle.std.specs.Prelude.{◌≡◌, ◌≤◌, ◌<◌, ◌+◌, ◌^◌, [], All, IfOk, length, replicate};
 ghost use Rattle.scenario_run.specs.Lines.{lines_of};
 ghost use Rattle.run_verify.specs.Accounts.{account_of, lists_of};
-ghost use Rattle.run_verify.specs.Courses.{IsJudged, IsPlacedBehind, IsWithin, logging_by, sheet_on, turn_by};
+ghost use Rattle.run_verify.specs.Courses.{IsAccountWithin, IsJudged, IsPlacedBehind, logging_by, sheet_on, turn_by};
 ghost use Rattle.run_verify.specs.Judging.{IsStepOf};
 ghost use Rattle.run_verify.specs.Passing.{first_account};
 ghost use Rattle.run_verify.specs.Plain.{EndsPlacing};
@@ -69,7 +69,7 @@ fn go_on<'a>(found: Found, turn: &'a [Step], more: &'a [Step], logging: bool) ->
 
 /// Judges the lines for the places, which stand behind so many.
 fn place(shape: Shape, account: &Account, done: u64, rest: &[u8]) -> Result<Verdict, AllocError>
-    requires within { IsWithin shape done (account_of account.now) }
+    requires within { IsAccountWithin shape done (account_of account.now) }
     requires few { done + length rest.now < 2 ^ 62 }
     ensures { IfOk result (IsPlacedBehind done shape (account_of account.now) (lines_of rest.now)) }
 {

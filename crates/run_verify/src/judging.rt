@@ -2,7 +2,7 @@ ghost use Rattle.std.specs.Prelude.{List, ◌≡◌, ◌↔◌, ◌<◌, ◌+◌
 ghost use Rattle.run_verify.specs.declared.change.Change.{Change};
 ghost use Rattle.scenario_text.specs.Texts.{place_text};
 ghost use Rattle.run_verify.specs.Dues.{HasPassed, HasToldAt, TellsAt};
-ghost use Rattle.run_verify.specs.Items.{IsMarked, StandBehind, runs_of};
+ghost use Rattle.run_verify.specs.Items.{IsMarked, StandBehind, item_runs_of};
 
 use crate::change::{Change, Effect};
 use crate::items::Items;
@@ -82,7 +82,7 @@ impl Items {
     fn tells(&self, spot: Spot, run: Run, len: usize, line: &[u8]) -> Result<bool, AllocError>
         requires marked { IsMarked self.now }
         requires few { spot.place < 2 ^ 63 }
-        ensures { IfOk result (λ told. IsTrue told ↔ TellsAt self.now.shape spot run len (runs_of self.now) line.now) }
+        ensures { IfOk result (λ told. IsTrue told ↔ TellsAt self.now.shape spot run len (item_runs_of self.now) line.now) }
     {
         if !is_fit(self.shape, run, len) || !self.is_off(run) {
             return Ok(false);

@@ -2,7 +2,7 @@ ghost use Rattle.std.specs.Prelude.{◌≡◌, ◌<◌, ◌^◌, ◌++◌, ◌�
 ghost use Rattle.group_types.specs.Lists.{at, put};
 ghost use Rattle.group_calls.specs.Turns.{accepts};
 ghost use Rattle.run_verify.specs.Accounts.{account_of, lists_of};
-ghost use Rattle.run_verify.specs.Keeping.{HasChanged, HasEffect, IsKept, IsWritten};
+ghost use Rattle.run_verify.specs.Keeping.{HasChanged, HasEffect, IsEntryKept, IsValueWritten};
 ghost use Rattle.run_verify.specs.Passing.{value_in, with_reply};
 ghost use Rattle.run_verify.specs.Shadows.{AreMore};
 
@@ -27,7 +27,7 @@ impl Account {
         requires caller { entry.caller < 256 }
         requires call { entry.call < length (at [] (account_of self.old).calls entry.caller) }
         requires partitions { length self.old.changes.items ≡ shape.k }
-        ensures kept { OnOk result (IsKept shape places.now (account_of self.old) entry (account_of self.new)) }
+        ensures kept { OnOk result (IsEntryKept shape places.now (account_of self.old) entry (account_of self.new)) }
         ensures partitions { length self.new.changes.items ≡ length self.old.changes.items }
     {
         let kept = self.keep_change(shape, places, &entry);
@@ -100,7 +100,7 @@ impl Account {
         partition: Partition,
     ) -> Result<Change, AllocError>
         requires { partition.0 < length self.now.changes.items }
-        ensures { IfOk result (IsWritten shape places.now (account_of self.now) key partition.0) }
+        ensures { IfOk result (IsValueWritten shape places.now (account_of self.now) key partition.0) }
     {
         let value = value_in(self.alloc, self.table.item(&key))?;
         let number = changes_of(&self.changes, partition.0).len() as u64 + 1;

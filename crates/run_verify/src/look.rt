@@ -6,7 +6,7 @@ ghost use Rattle.transcript_text.specs.Texts.{FitsNumber};
 ghost use Rattle.run_verify.specs.Accounts.{account_of, lists_of};
 ghost use Rattle.run_verify.specs.Judging.{Judges};
 ghost use Rattle.run_verify.specs.Passing.{TellsBytes};
-ghost use Rattle.run_verify.specs.Showing.{AreBelow, IsFitChange, IsLooked, IsStamped, IsTold, space_seen, stamp_len};
+ghost use Rattle.run_verify.specs.Showing.{AreBelow, IsFitChange, IsLooked, IsStamped, IsWordTold, space_seen, stamp_len};
 
 use crate::account::Account;
 use crate::change::Change;
@@ -103,7 +103,7 @@ impl Account {
         requires fit { All (All (IsFitChange shape)) (lists_of self.old.changes.items) }
         requires stamp { length stamp.now ≡ stamp_len shape at }
         ensures told { IfOk result (λ yes. IsTrue yes
-            ↔ IsTold shape (lists_of self.old.changes.items) at run stamp.now word.now) }
+            ↔ IsWordTold shape (lists_of self.old.changes.items) at run stamp.now word.now) }
         ensures same { account_of self.new ≡ account_of self.old }
     {
         if !self.is_stamped(shape, at, stamp) {

@@ -1,6 +1,6 @@
 ghost use Rattle.std.specs.Prelude.{◌≡◌, ◌↔◌, IsTrue, IfOk};
 ghost use Rattle.scenario_run.specs.Lines.{lines_of};
-ghost use Rattle.run_verify.specs.Passing.{FitsRun};
+ghost use Rattle.run_verify.specs.Passing.{RunFitsValue};
 ghost use Rattle.run_verify.specs.Runs.{ArePlacesOf, IsRunAmong, Names, Rise, rank_of};
 
 use group_types::{Run, Shape};
@@ -140,7 +140,7 @@ fn is_named(place: Place, shape: Shape, partition: u32, number: u64, len: usize)
 
 /// Whether a run has this length, and lies in the space.
 pub(crate) fn is_fit(shape: Shape, run: Run, len: usize) -> bool
-    ensures { IsTrue result ↔ FitsRun shape len run }
+    ensures { IsTrue result ↔ RunFitsValue shape len run }
 {
     run.len as usize == len && u64::from(run.at) + u64::from(run.len) <= u64::from(shape.space())
 }

@@ -1,7 +1,7 @@
 ghost use Rattle.std.specs.Prelude.{◌≡◌, ◌↔◌, ◌<◌, ◌+◌, ◌^◌, length, IfOk, IsTrue};
 ghost use Rattle.scenario_run.specs.Lines.{lines_of};
 ghost use Rattle.run_verify.specs.Accounts.{lists_of};
-ghost use Rattle.run_verify.specs.Dues.{HasEnded, HasToldPart, dues_left, dues_on};
+ghost use Rattle.run_verify.specs.Dues.{HasCountedPlaces, HasToldPart, dues_left, dues_on};
 ghost use Rattle.run_verify.specs.Placings.{ArePlacedFrom};
 ghost use Rattle.run_verify.specs.Told.{placed_line};
 
@@ -85,7 +85,7 @@ fn judge_part<'a>(
 /// Judges the lines behind all places: they tell how many there were, and no more.
 fn judge_end(alloc: Global, passed: u64, text: &[u8]) -> Result<Option<u64>, AllocError>
     requires { passed < 2 ^ 63 }
-    ensures { IfOk result (HasEnded passed (lines_of text.now)) }
+    ensures { IfOk result (HasCountedPlaces passed (lines_of text.now)) }
 {
     if text.is_empty() {
         return Ok(Some(passed + 1));

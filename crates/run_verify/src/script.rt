@@ -2,7 +2,7 @@ ghost use Rattle.std.specs.Prelude.{◌≡◌, ◌+◌, ◌≤◌, ◌<◌, ◌^
 ghost use Rattle.scenario_run.specs.Lines.{lines_of};
 ghost use Rattle.scenario_text.specs.Meaning.{is_skipped};
 ghost use Rattle.run_verify.specs.Judging.{AreStepsOf, IsStepOf};
-ghost use Rattle.run_verify.specs.Scripts.{HasKept, HasReadScript, HasTaken, IsAtLine, IsToldOf};
+ghost use Rattle.run_verify.specs.Scripts.{HasKept, HasReadScript, HasTakenLine, IsAtLine, IsToldOf};
 ghost use Rattle.run_verify.specs.Sheet.{before_separator, behind_separator, separator};
 ghost use Rattle.run_verify.specs.Steps.{behind, ended, is_over, script_in, stands_well};
 
@@ -122,7 +122,7 @@ fn take_line(
 ) -> Result<bool, VerifyFault>
     requires number { number < 2 ^ 62 }
     requires low { IsAtLine number setting.old }
-    ensures taken { HasTaken number setting.old setting.new steps.old.items steps.new.items line.now
+    ensures taken { HasTakenLine number setting.old setting.new steps.old.items steps.new.items line.now
         (before_separator (lines_of rest.now)) result }
     ensures low { IsAtLine (number + 1) setting.new }
     ensures steps { AreStepsOf setting.old steps.old.items → OnOk result (AreStepsOf setting.new steps.new.items) }

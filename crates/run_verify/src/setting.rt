@@ -1,8 +1,8 @@
 ghost use Rattle.std.specs.Prelude.{◌≡◌, ◌<◌, ◌≤◌, ◌+◌, ◌^◌, IfOk, IfErr, Some};
 ghost use Rattle.group_types.specs.Dimensions.{callers};
 ghost use Rattle.scenario_text.specs.Meaning.{IsLineOf};
-ghost use Rattle.run_verify.specs.Scripts.{HasBegun, HasTreated, IsAtLine, IsTreatedOf};
-ghost use Rattle.run_verify.specs.Steps.{first_by, first_setting, next_of, then_by, with_ask};
+ghost use Rattle.run_verify.specs.Scripts.{HasTreatedFirst, IsAtLine, IsLineTreated, IsTreatedOf};
+ghost use Rattle.run_verify.specs.Steps.{first_setting, first_steps, later_steps, steps_of_line, with_ask};
 
 use crate::step::Step;
 use group_calls::Event;
@@ -80,7 +80,7 @@ pub(crate) fn treat(
 ) -> Result<Treated, LineFault>
     requires number { number < 2 ^ 62 }
     requires low { IsAtLine number setting.old }
-    ensures treated { HasTreated setting.old (next_of setting.old line.now) setting.new result }
+    ensures treated { IsLineTreated setting.old (steps_of_line setting.old line.now) setting.new result }
     ensures low { IsAtLine (number + 1) setting.new }
     ensures step { IsTreatedOf setting.old setting.new result }
 {
@@ -99,7 +99,7 @@ pub(crate) fn treat(
 /// The setting after a line before which there was none.
 fn begin(alloc: Global, line: Line) -> Result<Option<Setting>, LineFault>
     requires { IsLineOf None line }
-    ensures { HasBegun (first_by line) result }
+    ensures { HasTreatedFirst (first_steps line) result }
 {
     match line {
         Line::Skipped => Ok(None),
@@ -124,7 +124,7 @@ fn follow(number: u64, setting: &mut Setting, line: Line) -> Result<Treated, Lin
     requires line { IsLineOf (Some setting.old.shape) line }
     requires number { number < 2 ^ 62 }
     requires low { IsAtLine number (Some setting.old) }
-    ensures treated { HasTreated (Some setting.old) (then_by setting.old line) (Some setting.new) result }
+    ensures treated { IsLineTreated (Some setting.old) (later_steps setting.old line) (Some setting.new) result }
     ensures low { IsAtLine (number + 1) (Some setting.new) }
     ensures step { IsTreatedOf (Some setting.old) (Some setting.new) result }
 {

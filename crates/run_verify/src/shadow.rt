@@ -1,7 +1,7 @@
 ghost use Rattle.std.specs.Prelude.{List, ◌≡◌, ◌≤◌, All, length, replicate, take, IfOk, OnOk};
 ghost use Rattle.run_verify.specs.declared.change.Change.{Change};
 ghost use Rattle.group_types.specs.Dimensions.{space_of};
-ghost use Rattle.run_verify.specs.Changes.{space_after, space_behind, written_by};
+ghost use Rattle.run_verify.specs.Changes.{space_after_changes, space_behind, written_by};
 ghost use Rattle.run_verify.specs.Shadows.{Follows};
 ghost use Rattle.run_verify.specs.Showing.{IsFitChange, IsFitEffect};
 
@@ -80,7 +80,7 @@ fn zeros(alloc: Global, shape: Shape) -> Result<Vec<u8>, AllocError>
 fn write_all(shape: Shape, changes: &[Change], space: &mut Vec<u8>)
     requires fit { All (IsFitChange shape) changes.now }
     requires long { length space.old.items ≡ space_of shape }
-    ensures space { space.new.items ≡ space_after space.old.items changes.now }
+    ensures space { space.new.items ≡ space_after_changes space.old.items changes.now }
     ensures long { length space.new.items ≡ space_of shape }
 {
     let mut rest = changes;

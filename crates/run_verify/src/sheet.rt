@@ -1,6 +1,6 @@
 ghost use Rattle.std.specs.Prelude.{◌≤◌, length, All, IfOk};
 ghost use Rattle.run_verify.specs.Judging.{IsStepOf};
-ghost use Rattle.run_verify.specs.Scripts.{HasRead, sheet_by};
+ghost use Rattle.run_verify.specs.Scripts.{HasReadLines, sheet_by};
 ghost use Rattle.run_verify.specs.Sheet.{sheet_of};
 
 use crate::script::{LONGEST_SHEET, Script, read_script, transcript_in};
@@ -11,7 +11,7 @@ use std::alloc::Global;
 /// Reads the script of a text, and finds its transcript.
 pub(crate) fn read_sheet(alloc: Global, text: &[u8]) -> Result<(Script, &[u8]), VerifyFault>
     requires short { length text.now ≤ LONGEST_SHEET }
-    ensures read { HasRead sheet_by (sheet_of text.now) result }
+    ensures read { HasReadLines sheet_by (sheet_of text.now) result }
     ensures steps { IfOk result (λ sheet. All (IsStepOf sheet.0.shape) sheet.0.steps) }
     ensures shorter { IfOk result (λ sheet. length sheet.1.now ≤ length text.now) }
 {

@@ -37,9 +37,9 @@ impl From<AllocError> for VerifyStatus {
 
 impl From<ReadFault> for VerifyStatus {
     ghost use Rattle.std.specs.Prelude.{◌≡◌};
-    ghost use Rattle.run_verify.specs.Text.{status_of_read};
+    ghost use Rattle.run_verify.specs.Text.{status_of_read_fault};
 
-    ghost from_gives = { λ fault status. status ≡ status_of_read fault };
+    ghost from_gives = { λ fault status. status ≡ status_of_read_fault fault };
 
     fn from(fault: ReadFault) -> VerifyStatus {
         match fault {
@@ -52,9 +52,9 @@ impl From<ReadFault> for VerifyStatus {
 
 impl From<SinkFault> for VerifyStatus {
     ghost use Rattle.std.specs.Prelude.{◌≡◌};
-    ghost use Rattle.run_verify.specs.Text.{status_of_sink};
+    ghost use Rattle.run_verify.specs.Text.{status_of_write_fault};
 
-    ghost from_gives = { λ fault status. status ≡ status_of_sink fault };
+    ghost from_gives = { λ fault status. status ≡ status_of_write_fault fault };
 
     fn from(fault: SinkFault) -> VerifyStatus {
         match fault {

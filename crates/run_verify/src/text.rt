@@ -1,6 +1,6 @@
 ghost use Rattle.std.specs.Prelude.{◌≡◌, ◌≤◌, length, Err};
 ghost use Rattle.edge_io.specs.Faults.{HasCauseOf, Rose};
-ghost use Rattle.run_verify.specs.Text.{HasJudged, HasTold, IsFoundOf, status_in, verified_line};
+ghost use Rattle.run_verify.specs.Text.{HasJudged, HasToldLine, IsFoundOf, status_of_result, verified_line};
 
 use crate::reading::read_text;
 use crate::script::LONGEST_SHEET;
@@ -30,7 +30,7 @@ fn verify_source<S: Source, K: Sink>(
     sink: &mut K,
 ) -> Result<(), VerifyStatus>
     ensures judged { HasJudged (S.input source.old) (S.input source.new) (K.held sink.old) (K.held sink.new)
-        (status_in result) }
+        (status_of_result result) }
     ensures read { result ≡ Err VerifyStatus.ReadFault → Rose (S.faults source.old) (S.faults source.new) }
     ensures write { HasCauseOf (K.faults sink.old) (K.faults sink.new) result VerifyStatus.WriteFault }
 {
@@ -52,7 +52,7 @@ fn find(alloc: Global, text: &[u8]) -> Result<(u64, u64), VerifyStatus>
 
 /// Tells that all is checked.
 fn tell<K: Sink>(alloc: Global, sink: &mut K, entries: u64, shown: u64) -> Result<(), VerifyStatus>
-    ensures told { HasTold (K.held sink.old) (K.held sink.new) (verified_line entries shown) result }
+    ensures told { HasToldLine (K.held sink.old) (K.held sink.new) (verified_line entries shown) result }
     ensures cause { HasCauseOf (K.faults sink.old) (K.faults sink.new) result VerifyStatus.WriteFault }
 {
     let line = format!(in alloc; "verified {entries} {shown}\n")?;

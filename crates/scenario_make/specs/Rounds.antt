@@ -43,39 +43,39 @@ abbrev pub second_loss : ℕ
 second_loss = 3001
 
 -- the process that is asked in a round about a key of a home: of the lost one its next in rank
-unfoldable pub asked_at : ℕ → ℕ → ProcessId
-asked_at round zero = if nat_lt round first_loss then DataNode 0 else if nat_lt round second_loss then ParityNode 0 else ParityNode 1
-asked_at round (suc d) = DataNode (suc d)
+unfoldable pub asked_process : ℕ → ℕ → ProcessId
+asked_process round zero = if nat_lt round first_loss then DataNode 0 else if nat_lt round second_loss then ParityNode 0 else ParityNode 1
+asked_process round (suc d) = DataNode (suc d)
 
 -- a process by its place among the processes of the group
-unfoldable pub process_at : ℕ → ProcessId
-process_at x = if nat_lt x 3 then DataNode x else ParityNode (x - 3)
+unfoldable pub process_numbered : ℕ → ProcessId
+process_numbered x = if nat_lt x 3 then DataNode x else ParityNode (x - 3)
 
 -- the word of a process
-unfoldable pub process_word : ProcessId → List ℕ
-process_word (DataNode d) = codes "d" ++ decimal d
-process_word (ParityNode i) = codes "p" ++ decimal i
+unfoldable pub process_name : ProcessId → List ℕ
+process_name (DataNode d) = codes "d" ++ decimal d
+process_name (ParityNode i) = codes "p" ++ decimal i
 
 -- the words of a key, and of a value of as many bytes
-abbrev pub key_word : ℕ → List ℕ
-key_word i = codes "k" ++ decimal i
+abbrev pub key_name : ℕ → List ℕ
+key_name i = codes "k" ++ decimal i
 
 abbrev pub value_word : ℕ → List ℕ
 value_word len = codes "*" ++ (decimal len ++ codes "*61")
 
 -- the words by which a caller asks an op on key i in a round
 abbrev pub ask_words : ℕ → ℕ → ℕ → List (List ℕ) → List (List ℕ)
-ask_words round caller i op = codes "ask" ∷ decimal caller ∷ process_word (asked_at round (home_of (key_word i) 3)) ∷ op
+ask_words round caller i op = codes "ask" ∷ decimal caller ∷ process_name (asked_process round (home_of (key_name i) 3)) ∷ op
 
 -- the words of a round's line
-abbrev pub words_of : ℕ → Round → List (List ℕ)
-words_of round (Set caller i len) = ask_words round caller i (codes "set" ∷ key_word i ∷ codes "0" ∷ value_word len ∷ [])
-words_of round (Get caller i) = ask_words round caller i (codes "get" ∷ key_word i ∷ [])
-words_of round (Delete caller i) = ask_words round caller i (codes "delete" ∷ key_word i ∷ [])
-words_of round (Deliver from to) =
-    if from == to then codes "drain" ∷ [] else codes "deliver" ∷ process_word (process_at from) ∷ process_word (process_at to) ∷ []
-words_of round Drain = codes "drain" ∷ []
-words_of round (Flush d) = codes "flush" ∷ process_word (DataNode d) ∷ []
+abbrev pub round_words : ℕ → Round → List (List ℕ)
+round_words round (Set caller i len) = ask_words round caller i (codes "set" ∷ key_name i ∷ codes "0" ∷ value_word len ∷ [])
+round_words round (Get caller i) = ask_words round caller i (codes "get" ∷ key_name i ∷ [])
+round_words round (Delete caller i) = ask_words round caller i (codes "delete" ∷ key_name i ∷ [])
+round_words round (Deliver from to) =
+    if from == to then codes "drain" ∷ [] else codes "deliver" ∷ process_name (process_numbered from) ∷ process_name (process_numbered to) ∷ []
+round_words round Drain = codes "drain" ∷ []
+round_words round (Flush d) = codes "flush" ∷ process_name (DataNode d) ∷ []
 
 -- words with single spaces between them, and a line end
 abbrev pub line : List (List ℕ) → List ℕ

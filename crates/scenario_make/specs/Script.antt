@@ -1,7 +1,7 @@
 -- The script that a number makes.
 use Rattle.std.specs.Prelude.{ℕ, zero, suc, ◌+◌, List, ◌++◌, codes, flat_map}
 use Rattle.std.specs.List.{range_with_len}
-use Rattle.scenario_make.specs.Rounds.{after_round, line, lines_before, round_from, words_of}
+use Rattle.scenario_make.specs.Rounds.{after_round, line, lines_before, round_from, round_words}
 
 -- the state after so many rounds, from a number on
 abbrev pub after_rounds : ℕ → ℕ → ℕ
@@ -10,7 +10,7 @@ after_rounds n (suc r) = after_round (after_rounds n r)
 
 -- the text of the round that follows so many
 abbrev pub round_text : ℕ → ℕ → List ℕ
-round_text n r = lines_before (r + 1) ++ line (words_of (r + 1) (round_from (after_rounds n r)))
+round_text n r = lines_before (r + 1) ++ line (round_words (r + 1) (round_from (after_rounds n r)))
 
 -- the text of so many rounds
 unfoldable pub rounds_text : ℕ → ℕ → List ℕ

@@ -2,7 +2,7 @@
 
 ghost use Rattle.std.specs.Prelude.{◌≡◌, ◌-◌, ◌≤◌, IfOk, string_bytes};
 ghost use Rattle.group_types.specs.Hash.{home_of};
-ghost use Rattle.scenario_make.specs.Rounds.{asked_at, key_word, line, lines_before, process_at, process_word, value_word, words_of};
+ghost use Rattle.scenario_make.specs.Rounds.{asked_process, key_name, line, lines_before, process_name, process_numbered, round_words, value_word};
 
 use crate::round::Round;
 use group_types::ProcessId;
@@ -17,7 +17,7 @@ const DATA_PROCESSES: u32 = 3;
 
 /// The line of a round of this number, with its line end.
 pub fn write_line(alloc: Global, number: u32, round: Round) -> Result<String, AllocError>
-    ensures { IfOk result (λ text. string_bytes text ≡ line (words_of number round)) }
+    ensures { IfOk result (λ text. string_bytes text ≡ line (round_words number round)) }
 {
     match round {
         Round::Set { caller, key, len } => {
@@ -59,7 +59,7 @@ pub fn losses_before(number: u32) -> &'static [u8]
 }
 
 fn write_asked(alloc: Global, number: u32, key: u32) -> Result<String, AllocError>
-    ensures { IfOk result (λ text. string_bytes text ≡ process_word (asked_at number (home_of (key_word key) 3))) }
+    ensures { IfOk result (λ text. string_bytes text ≡ process_name (asked_process number (home_of (key_name key) 3))) }
 {
     let word = format!(in alloc; "k{key}")?;
     let home = fnv1a_of(word.as_bytes()) % DATA_PROCESSES;
@@ -74,7 +74,7 @@ fn write_value(alloc: Global, len: u32) -> Result<String, AllocError>
 
 #[tactic(auto, unfolding(crate::specs::Rounds::process_word))]
 fn write_process(alloc: Global, process: ProcessId) -> Result<String, AllocError>
-    ensures { IfOk result (λ text. string_bytes text ≡ process_word process) }
+    ensures { IfOk result (λ text. string_bytes text ≡ process_name process) }
 {
     match process {
         ProcessId::DataNode(d) => format!(in alloc; "d{d}"),
@@ -84,7 +84,7 @@ fn write_process(alloc: Global, process: ProcessId) -> Result<String, AllocError
 
 #[tactic(auto, unfolding(crate::specs::Rounds::asked_at))]
 fn process_asked(number: u32, home: u32) -> ProcessId
-    ensures { result ≡ asked_at number home }
+    ensures { result ≡ asked_process number home }
 {
     match home {
         0 if number >= SECOND_LOSS => ProcessId::ParityNode(1),
@@ -95,7 +95,7 @@ fn process_asked(number: u32, home: u32) -> ProcessId
 
 #[tactic(auto, unfolding(crate::specs::Rounds::process_at))]
 fn nth_process(n: u32) -> ProcessId
-    ensures { result ≡ process_at n }
+    ensures { result ≡ process_numbered n }
 {
     if n < DATA_PROCESSES {
         ProcessId::DataNode(n)

@@ -17,7 +17,7 @@ use Rattle.group_calls.specs.declared.event.Answer.{Answer}
 use Rattle.scenario_text.specs.Texts.{answer_text, entries_text, entry_text}
 use Rattle.group_run.specs.Shown.{is_down}
 use Rattle.scenario_run.specs.Marks.{marked_entries}
-use Rattle.scenario_run.specs.Playing.{drained_text, draining, turn_text}
+use Rattle.scenario_run.specs.Playing.{drained_text, draining_unless_down, turn_text}
 use Rattle.scenario_run.proofs.Draining.{Lightens, burden, lightens}
 use Rattle.scenario_run.proofs.Leading.{IsLedTo, led-step}
 use Rattle.scenario_run.proofs.Truth.{up}
@@ -154,13 +154,13 @@ turn-written w e answer front line text logged front_is answer_is line_is text_i
     ∙ ap (λ (xs : List Entry). answer_text (step w e).turn.answer ++ 10 ∷ entries_text xs) logged_is
 
 -- the deliveries of a drain, by whether the group is down
-pub draining-down : (w : World) → IsDown w → draining w ≡ []
+pub draining-down : (w : World) → IsDown w → draining_unless_down w ≡ []
 draining-down w down = by (is_down w) refl where
   by : (b : Bool) → is_down w ≡ b → (if b then [] else drain_events (load_of w) w) ≡ []
   by true is = refl
   by false is = absurd (up w is down)
 
-pub draining-up : (w : World) → ¬ (IsDown w) → draining w ≡ drain_events (load_of w) w
+pub draining-up : (w : World) → ¬ (IsDown w) → draining_unless_down w ≡ drain_events (load_of w) w
 draining-up w not_down = by (is_down w) refl where
   by : (b : Bool) → is_down w ≡ b → (if b then [] else drain_events (load_of w) w) ≡ drain_events (load_of w) w
   by true is = absurd (not_down (grind (arith, nat_tests)))

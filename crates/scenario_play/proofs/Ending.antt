@@ -7,13 +7,13 @@ use Rattle.edge_io.specs.Faults.{Rose}
 use Rattle.edge_io.specs.Moving.{Appends, Input, IsEnded, Takes}
 use Rattle.edge_io.specs.Writing.{HasWritten, HasWrittenPart}
 use Rattle.edge_io.proofs.Moving.{Appends-nil, Appends-trans}
-use Rattle.scenario_play.specs.Ends.{HasPlayedScript, HasRead, HasTreated}
-use Rattle.scenario_play.specs.Language.{Language, told_in}
+use Rattle.scenario_play.specs.Ends.{HasPlayedScript, HasReadInput, HasTreatedScript}
+use Rattle.scenario_play.specs.Language.{Language, status_told}
 use Rattle.scenario_play.specs.Outside.{EndsWith, Outside, StopsWithin, TellsFront}
 use Rattle.scenario_play.specs.Part.{IsPlayedInPart}
-use Rattle.scenario_play.specs.Played.{IsPlayed, IsWritten}
+use Rattle.scenario_play.specs.Played.{IsPlayed, IsTextWritten}
 use Rattle.scenario_play.specs.Player.{HasPlayed}
-use Rattle.scenario_play.specs.Status.{HasFaultOf, IsEarly, IsRefusal, IsTold, IsUnread, TellsOfScript, last_line, longest_script}
+use Rattle.scenario_play.specs.Status.{HasFaultOf, IsEarly, IsStatusTold, IsUnread, TellsOfLine, TellsOfScript, last_line, longest_script}
 use Rattle.scenario_play.specs.declared.status.Status.{Status}
 use Rattle.scenario_play.specs.declared.status.Status.TheVariants.{Done, BadWords, BadLine, BadShape, BadCount, TooLong}
 use Rattle.scenario_play.specs.declared.status.Status.TheVariants.{ReadFault, WriteFault, Want, Cut, LineTooLong, Worn}
@@ -25,14 +25,14 @@ short n within = grind (arith, nat_tests)
 long : (n : ℕ) → longest_script < n → nat_lt longest_script n ≡ true
 long n above = grind (arith, nat_tests)
 
-pub told-short : (l : Language) (text : List ℕ) → length text ≤ longest_script → told_in l text ≡ l.verdict text
+pub told-short : (l : Language) (text : List ℕ) → length text ≤ longest_script → status_told l text ≡ l.verdict text
 told-short l text within = rw (short (length text) within) refl
 
-pub told-long : (l : Language) (text : List ℕ) → longest_script < length text → told_in l text ≡ TooLong
+pub told-long : (l : Language) (text : List ℕ) → longest_script < length text → status_told l text ≡ TooLong
 told-long l text above = rw (long (length text) above) refl
 
 -- a text of one byte more than a script may have
-long-told : (l : Language) (text : List ℕ) → length text ≡ 16777217 → told_in l text ≡ TooLong
+long-told : (l : Language) (text : List ℕ) → length text ≡ 16777217 → status_told l text ≡ TooLong
 long-told l text all = told-long l text (omega (arith, all))
 
 -- fronts of a text
@@ -53,13 +53,13 @@ in-part transcript script before now (inr part) = record { count = part.count; b
 -- what was read to its end and then played
 module _ (l : Language) (a b : Outside) (text : List ℕ) (within : length text ≤ longest_script)
     (taken : Takes a.input b.input text) (met : IsEnded b.input) where
-  treated : (result : Result (Unit {0}) Status) → HasPlayedScript l text a b result → HasTreated l a b result
+  treated : (result : Result (Unit {0}) Status) → HasPlayedScript l text a b result → HasTreatedScript l a b result
   treated result ends = record { script = text; taken = taken; few = omega (arith, within); ends = ends }
 
   abbrev Played : Result (Unit {0}) Status → Type 0
   Played result = HasPlayed a.held b.held a.writes b.writes l.transcript text (l.verdict text) result
 
-  pub treated-done : (done : Unit {0}) → Played (Ok done) → HasTreated l a b (Ok done)
+  pub treated-done : (done : Unit {0}) → Played (Ok done) → HasTreatedScript l a b (Ok done)
   treated-done done played = treated (Ok done) (told-short l text within ∙ played.0, met, played.1)
 
   fault : (status : Status) → Played (Err status) → HasPlayedScript l text a b (Err status)
@@ -80,12 +80,12 @@ module _ (l : Language) (a b : Outside) (text : List ℕ) (within : length text 
   fault TooLong played = absurd played.0
   fault ReadFault played = absurd played.0
 
-  pub treated-fault : (status : Status) → Played (Err status) → HasTreated l a b (Err status)
+  pub treated-fault : (status : Status) → Played (Err status) → HasTreatedScript l a b (Err status)
   treated-fault status played = treated (Err status) (fault status played)
 
 -- what was not read to its end
 module _ (l : Language) (a b : Outside) (same : b.held ≡ a.held) where
-  pub treated-unread : (status : Status) → HasRead a.input b.input a.reads b.reads (Err status) → HasTreated l a b (Err status)
+  pub treated-unread : (status : Status) → HasReadInput a.input b.input a.reads b.reads (Err status) → HasTreatedScript l a b (Err status)
   treated-unread TooLong read = record {
     script = read.bytes;
     taken = read.taken;
@@ -117,7 +117,7 @@ module _ (l : Language) (a b : Outside) (same : b.held ≡ a.held) where
 
 -- who counted a fault
 pub read-fault : (input now : Input) (read_before read_now writes : ℕ) (status : Status)
-    → HasRead input now read_before read_now (Err status) → HasFaultOf read_before read_now writes writes status
+    → HasReadInput input now read_before read_now (Err status) → HasFaultOf read_before read_now writes writes status
 read-fault input now read_before read_now writes ReadFault read = read.0
 read-fault input now read_before read_now writes WriteFault read = absurd read
 read-fault input now read_before read_now writes BadWords read = absurd read
@@ -166,14 +166,14 @@ pub fault-told : (r r' w w' : ℕ) (s status other : Status) → HasFaultOf r r'
 fault-told r r' w w' s status other fault is now differs = subst (HasFaultOf r r' w w') (came_from s status other is now differs) fault
 
 -- a script of which all is done is not too long
-whole : (l : Language) (text : List ℕ) → told_in l text ≡ Done → l.verdict text ≡ Done
+whole : (l : Language) (text : List ℕ) → status_told l text ≡ Done → l.verdict text ≡ Done
 whole l text is = by (nat_lt longest_script (length text)) is where
   by : (b : Bool) → (if b then TooLong else l.verdict text) ≡ Done → l.verdict text ≡ Done
   by true is = absurd (cc is)
   by false is = is
 
 pub played-done : (l : Language) → ((text : List ℕ) → l.verdict text ≡ Done → l.Promise text)
-    → (a b : Outside) (done : Unit {0}) → HasTreated l a b (Ok done) → IsPlayed l a b Done
+    → (a b : Outside) (done : Unit {0}) → HasTreatedScript l a b (Ok done) → IsPlayed l a b Done
 played-done l keeps a b done end = record {
   script = end.script;
   taken = end.taken;
@@ -214,7 +214,7 @@ behind before middle now faults_before faults_middle faults_now text line wrote 
 -- after the last line was told
 module _ (l : Language) (script : List ℕ) (a b c : Outside) (kept : c.input ≡ b.input) (reads : c.reads ≡ b.reads)
     (later : a.writes ≤ b.writes) (more : b.writes ≤ c.writes) where
-  is-told : (s : Status) → HasPlayedScript l script a b (Err s) → IsTold (told_in l script) a.reads c.reads a.writes c.writes s
+  is-told : (s : Status) → HasPlayedScript l script a b (Err s) → IsStatusTold (status_told l script) a.reads c.reads a.writes c.writes s
   is-told (BadLine n) end = inl (sym end.1)
   is-told (BadShape f) end = inl (sym end.1)
   is-told (BadCount n) end = inl (sym end.1)
@@ -283,7 +283,7 @@ module _ (l : Language) (script : List ℕ) (a b c : Outside) (kept : c.input �
   abbrev Tells : Status → Type 0
   Tells s = EndsWith b.held c.held b.writes c.writes [] (last_line s)
 
-  refused : (s : Status) → HasPlayedScript l script a b (Err s) → IsRefusal s → Tells s
+  refused : (s : Status) → HasPlayedScript l script a b (Err s) → TellsOfLine s → Tells s
       → EndsWith a.held c.held a.writes c.writes (l.transcript script) (last_line s)
   refused (BadLine n) end refusal tells = behind a.held b.held c.held a.writes b.writes c.writes (l.transcript script) (last_line (BadLine n)) end.3 later tells
   refused (BadShape f) end refusal tells = behind a.held b.held c.held a.writes b.writes c.writes (l.transcript script)
@@ -333,7 +333,7 @@ module _ (l : Language) (script : List ℕ) (a b c : Outside) (kept : c.input �
   too-long s end is = (subst (λ (x : Status). HasPlayedScript l script a b (Err x)) is end).1
 
   -- where all of the script is done there was no memory before its end
-  within : (s : Status) → HasPlayedScript l script a b (Err s) → (last_line s ≡ [] → Want ≡ s) → told_in l script ≡ Done
+  within : (s : Status) → HasPlayedScript l script a b (Err s) → (last_line s ≡ [] → Want ≡ s) → status_told l script ≡ Done
       → (b.held ≡ a.held) ⊎ IsPlayedInPart l.transcript script a.held b.held
   within (BadLine n) end silent done = absurd (cc (sym done ∙ end.1))
   within (BadShape f) end silent done = absurd (cc (sym done ∙ end.1))
@@ -367,7 +367,7 @@ module _ (l : Language) (script : List ℕ) (a b c : Outside) (kept : c.input �
     done_ended = λ is. absurd (not-done s end is);
     done_bytes = λ is. absurd (not-done s end is);
     promises = λ is. absurd (not-done s end is);
-    refused_bytes = λ refusal. refused s end refusal (surely s tells (λ is. subst IsRefusal is refusal));
+    refused_bytes = λ refusal. refused s end refusal (surely s tells (λ is. subst TellsOfLine is refusal));
     unread_bytes = λ unread. unread-told s end unread (surely s tells (λ is. subst IsUnread is unread));
     bytes = stops s s (λ early. early) end front;
   }
@@ -407,7 +407,7 @@ module _ (l : Language) (script : List ℕ) (a b c : Outside) (kept : c.input �
       (want-told s taken few end (λ none. sym want ∙ silent none) (subst (TellsFront b.held c.held) want front))
 
 pub told-ended : (l : Language) (a b c : Outside) → c.input ≡ b.input → c.reads ≡ b.reads → a.writes ≤ b.writes
-    → b.writes ≤ c.writes → (s status : Status) → HasTreated l a b (Err s)
+    → b.writes ≤ c.writes → (s status : Status) → HasTreatedScript l a b (Err s)
     → (status ≡ s) ⊎ (status ≡ Want) → (last_line s ≡ [] → status ≡ s)
     → (status ≡ s → (status ≡ Want) ⊎ EndsWith b.held c.held b.writes c.writes [] (last_line s))
     → TellsFront b.held c.held status → IsPlayed l a c status
@@ -436,7 +436,7 @@ promised l Promise keeps a b status played = record {
 
 -- a text that was written in whole or in part
 pub written-whole : (wanted : Status) (text : List ℕ) (before now : List ℕ) (faults_before faults_now : ℕ)
-    → wanted ≡ Done → Appends before now text → IsWritten wanted text before now faults_before faults_now Done
+    → wanted ≡ Done → Appends before now text → IsTextWritten wanted text before now faults_before faults_now Done
 written-whole wanted text before now faults_before faults_now is bytes = record {
   told = inl (sym is);
   short = λ want. absurd (cc want);
@@ -452,7 +452,7 @@ pub written-part : (wanted : Status) (text : List ℕ) (before middle now : List
     (faults_before faults_middle faults_now : ℕ) (s status : Status) → IsFault wanted faults_before faults_middle s
     → HasWritten before middle text → (middle ≡ before) ⊎ HasWrittenPart before middle text → (status ≡ s)
     ⊎ (status ≡ Want) → TellsFront middle now status → faults_middle ≤ faults_now
-    → IsWritten wanted text before now faults_before faults_now status
+    → IsTextWritten wanted text before now faults_before faults_now status
 written-part wanted text before middle now faults_before faults_middle faults_now s status fault written unfinished is front more = record {
   told = which fault is;
   short = λ want. record { middle = middle; unfinished = unfinished; told = subst (TellsFront middle now) want front };

@@ -16,9 +16,9 @@ use Rattle.scenario_run.proofs.Draining.{load-opening}
 use Rattle.scenario_run.proofs.Leading.{IsLedTo, leads-log, led-on, opened}
 use Rattle.scenario_run.proofs.Promises.{scripts_keep_promises}
 use Rattle.scenario_run.proofs.Running.{GoesOn, line-leads, line-opens}
-use Rattle.scenario_play.specs.Ends.{HasDone, IsLight, IsLightAt, PlayGoesOn, log_len, most_of_a_line}
+use Rattle.scenario_play.specs.Ends.{HasDone, IsLightAt, IsLightPlay, PlayGoesOn, log_len, most_of_a_line}
 use Rattle.scenario_play.specs.Player.{HasTreatedLine, Telling}
-use Rattle.scenario_play.specs.Status.{told_at, told_of, verdict}
+use Rattle.scenario_play.specs.Status.{status_of_lines, told_at, verdict}
 use Rattle.scenario_play.specs.declared.status.Status.TheVariants.{Done}
 use Rattle.scenario_play.proofs.Treating as treating
 
@@ -60,7 +60,7 @@ record Left (n : ℕ) (before now : Option Play) (turns : List Turn) : Type 0 wh
   ready : PlayGoesOn (n + 1) now
   logged : log_len now ≡ log_len before + length (log_of turns)
 
-light-at : (n : ℕ) (s : Dimensions) (p : Play) → IsLedTo s p.world → IsLight (n * most_of_a_line) p → IsLightAt n p
+light-at : (n : ℕ) (s : Dimensions) (p : Play) → IsLedTo s p.world → IsLightPlay (n * most_of_a_line) p → IsLightAt n p
 light-at n s p led light = record { shape = s; events = led.events; run = led.run; is = led.is; light = light }
 
 opens-left : (n : ℕ) (now : Option Play) (turns : List Turn) → turns ≡ [] → (now ≡ None)
@@ -76,7 +76,7 @@ opens-left n now turns quiet (inr (s, limits, some)) = record {
 }
 
 goes-left : (n : ℕ) (s : Dimensions) (p : Play) (now : Option Play) (turns : List Turn) → IsLedTo s p.world
-    → IsLight (n * most_of_a_line) p → GoesOn p.world now turns → Left n (Some p) now turns
+    → IsLightPlay (n * most_of_a_line) p → GoesOn p.world now turns → Left n (Some p) now turns
 goes-left n s p now turns led light on = record {
   ready = subst (PlayGoesOn (n + 1)) (sym on.is)
       (light-at (n + 1) s on.play (led-on s p.world on.play.world turns led on.leads) (let more = on.light in
@@ -136,7 +136,7 @@ module _ (n : ℕ) (before now : Option Play) (bytes : List ℕ) where
 -- a script of which all is done keeps its promises
 pub all-kept : (text : List ℕ) → verdict text ≡ Done → KeepsPromises text
 all-kept text is = scripts_keep_promises text (by (first_fault text) is) where
-  by : (fault : Option (Fault LineFault)) → told_of told_at fault ≡ Done → fault ≡ None
+  by : (fault : Option (Fault LineFault)) → status_of_lines told_at fault ≡ Done → fault ≡ None
   by None is = refl
   by (Some fault) is = absurd (never fault.number fault.cause is) where
     never : (n : ℕ) (cause : LineFault) → ¬ (told_at n cause ≡ Done)

@@ -9,10 +9,10 @@ use Rattle.scenario_run.specs.Course.{Fault}
 use Rattle.scenario_run.specs.Script.{first_fault}
 use Rattle.scenario_text.specs.declared.line.LineFault.{LineFault}
 use Rattle.scenario_text.specs.declared.line.LineFault.TheVariants as line
-use Rattle.scenario_play.specs.Language.{Language, group_scripts, told_in}
+use Rattle.scenario_play.specs.Language.{Language, group_scripts, status_told}
 use Rattle.scenario_play.specs.Outside.{EndsWith, Outside, StopsWithin, TellsFront}
 use Rattle.scenario_play.specs.Played.{IsPlayed}
-use Rattle.scenario_play.specs.Status.{IsEarly, IsRefusal, IsTold, last_line, longest_script, told_at, told_of}
+use Rattle.scenario_play.specs.Status.{IsEarly, IsStatusTold, TellsOfLine, last_line, longest_script, status_of_lines, told_at}
 use Rattle.scenario_play.specs.Whole.{PlaysAll, PlaysAllAlways}
 use Rattle.scenario_play.specs.declared.status.Status.{Status}
 use Rattle.scenario_play.specs.declared.status.Status.TheVariants.{Done, BadWords, BadLine, BadShape, BadCount, TooLong}
@@ -25,13 +25,13 @@ abbrev pub NeverReadFault : Language → Type 0
 NeverReadFault l = (text : List ℕ) → ¬ (l.verdict text ≡ ReadFault)
 
 -- nor a script
-told-not_read : (l : Language) → NeverReadFault l → (text : List ℕ) → ¬ (told_in l text ≡ ReadFault)
+told-not_read : (l : Language) → NeverReadFault l → (text : List ℕ) → ¬ (status_told l text ≡ ReadFault)
 told-not_read l never text is = by (nat_lt longest_script (length text)) is where
   by : (b : Bool) → ¬ ((if b then TooLong else l.verdict text) ≡ ReadFault)
   by true is = cc is
   by false is = never text is
 
-not-both : (s : Status) → IsRefusal s → IsEarly s → ⊥
+not-both : (s : Status) → TellsOfLine s → IsEarly s → ⊥
 not-both (BadLine n) refusal early = early
 not-both (BadShape f) refusal early = early
 not-both (BadCount c) refusal early = early
@@ -54,9 +54,9 @@ module _ (l : Language) (never : NeverReadFault l) (before now : Outside) (statu
     (split : all ≡ played.script ++ rest)
     (whole : IsEnded now.input → (played.script ≡ all) × (now.input.left ≡ Some [])) where
   abbrev Told : List ℕ → Status → Type 0
-  Told text s = IsTold (told_in l text) before.reads now.reads before.writes now.writes s
+  Told text s = IsStatusTold (status_told l text) before.reads now.reads before.writes now.writes s
 
-  refused-ended : IsRefusal status → IsEnded now.input
+  refused-ended : TellsOfLine status → IsEnded now.input
   refused-ended refusal = by played.bytes where
     by : (IsEnded now.input × StopsWithin before.held now.held (l.transcript played.script) status)
         ⊎ (IsEarly status × TellsFront before.held now.held status) → IsEnded now.input
@@ -129,7 +129,7 @@ plays-all l never before now status played = by before.input.left now.input.left
 
 pub group-never : NeverReadFault group_scripts
 group-never text is = by (first_fault text) is where
-  by : (fault : Option (Fault LineFault)) → ¬ (told_of told_at fault ≡ ReadFault)
+  by : (fault : Option (Fault LineFault)) → ¬ (status_of_lines told_at fault ≡ ReadFault)
   by None is = cc is
   by (Some fault) is = never fault.number fault.cause is where
     never : (n : ℕ) (cause : LineFault) → ¬ (told_at n cause ≡ ReadFault)

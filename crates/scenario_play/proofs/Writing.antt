@@ -10,7 +10,7 @@ use Rattle.edge_io.specs.Writing.{HasWritten, HasWrittenPart}
 use Rattle.scenario_run.specs.Lines.{lines_of}
 use Rattle.scenario_play.specs.Part.{IsPlayedInPart, IsUntreated}
 use Rattle.scenario_play.specs.Player.{EndsAt, HasMetEnd, HasPlayed, Telling}
-use Rattle.scenario_play.specs.Status.{IsRefusal}
+use Rattle.scenario_play.specs.Status.{TellsOfLine}
 use Rattle.scenario_play.specs.declared.status.Status.{Status}
 use Rattle.scenario_play.specs.declared.status.Status.TheVariants.{Done, BadWords, BadLine, BadShape, BadCount, TooLong}
 use Rattle.scenario_play.specs.declared.status.Status.TheVariants.{ReadFault, WriteFault, Want, Cut, LineTooLong, Worn}
@@ -111,7 +111,7 @@ module _ (held held_now : List ℕ) (writes writes_now : ℕ) (transcript : List
   Played result = HasPlayed held held_now writes writes_now transcript script verdict result
 
   -- a refusal, behind all that is written before it
-  refused : (status : Status) → IsRefusal status → verdict ≡ status → Appends held held_now (transcript script) → Played (Err status)
+  refused : (status : Status) → TellsOfLine status → verdict ≡ status → Appends held held_now (transcript script) → Played (Err status)
   refused (BadLine n) refusal is bytes = (tt, is, bytes)
   refused (BadShape f) refusal is bytes = (tt, is, bytes)
   refused (BadCount n) refusal is bytes = (tt, is, bytes)
@@ -139,7 +139,7 @@ module _ (held held_now : List ℕ) (writes writes_now : ℕ) (transcript : List
   )
 
   pub refused-at : {P : Type 0} (tells : Telling P) (n : ℕ) (before : P) (line : List ℕ) (lines : List (List ℕ))
-      (status : Status) → (status ≡ Want) ⊎ (IsRefusal status × EndsAt tells n before line status)
+      (status : Status) → (status ≡ Want) ⊎ (TellsOfLine status × EndsAt tells n before line status)
       → IsUntreated transcript script held held_now → tells.verdict n before (line ∷ lines) ≡ verdict
       → Written held held_now (tells.text before (line ∷ lines)) (transcript script) → Played (Err status)
   refused-at tells n before line lines status (inl want) left told written = subst (λ (s : Status). Played (Err s)) (sym want) (inl left)

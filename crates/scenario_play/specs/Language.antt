@@ -14,8 +14,8 @@ pub record Language : Type 1 where
   pub Promise : List ℕ → Type 0
 
 -- what is told of a script
-abbrev pub told_in : Language → List ℕ → Status
-told_in l text = told_by l.verdict text
+abbrev pub status_told : Language → List ℕ → Status
+status_told l text = told_by l.verdict text
 
 -- scripts of one group
 abbrev pub group_scripts : Language

@@ -4,7 +4,7 @@ use Rattle.edge_io.specs.Faults.{Rose}
 use Rattle.edge_io.specs.Moving.{Appends}
 use Rattle.edge_io.specs.Writing.{HasWritten}
 use Rattle.scenario_play.specs.Part.{IsPlayedInPart}
-use Rattle.scenario_play.specs.Status.{IsRefusal}
+use Rattle.scenario_play.specs.Status.{TellsOfLine}
 use Rattle.scenario_play.specs.declared.status.Status.{Status}
 use Rattle.scenario_play.specs.declared.status.Status.TheVariants.{Done, WriteFault, Want}
 
@@ -20,7 +20,7 @@ abbrev pub telling : {P : Type 0} → (P → List (List ℕ) → List ℕ) → (
 telling text verdict entries ready = record { text = text; verdict = verdict; entries = entries; Ready = ready }
 
 -- the script goes on behind a line, for which this was written
-pub record GoesOn {P : Type 0} (tells : Telling P) (n : ℕ) (before now : P) (line written : List ℕ) : Type 0 where
+pub record ScriptGoesOn {P : Type 0} (tells : Telling P) (n : ℕ) (before now : P) (line written : List ℕ) : Type 0 where
   pub text : (lines : List (List ℕ)) → tells.text before (line ∷ lines) ≡ written ++ tells.text now lines
   pub verdict : (lines : List (List ℕ)) → tells.verdict n before (line ∷ lines) ≡ tells.verdict (n + 1) now lines
   pub entries : (lines : List (List ℕ)) → tells.entries before (line ∷ lines) ≡ tells.entries now lines
@@ -33,14 +33,14 @@ pub record EndsAt {P : Type 0} (tells : Telling P) (n : ℕ) (before : P) (line 
 
 -- a line was treated: the script goes on or ends, or the line is refused, or there was no memory
 abbrev pub HasTreatedLine : {P : Type 0} → Telling P → ℕ → P → P → List ℕ → Result (Option (List ℕ)) Status → Type 0
-HasTreatedLine tells n before now line (Ok (Some written)) = GoesOn tells n before now line written
+HasTreatedLine tells n before now line (Ok (Some written)) = ScriptGoesOn tells n before now line written
 HasTreatedLine tells n before now line (Ok None) = EndsAt tells n before line Done × ((lines : List (List ℕ)) → tells.entries before (line ∷ lines) ≡ tells.entries now [])
-HasTreatedLine tells n before now line (Err status) = (status ≡ Want) ⊎ (IsRefusal status × EndsAt tells n before line status)
+HasTreatedLine tells n before now line (Err status) = (status ≡ Want) ⊎ (TellsOfLine status × EndsAt tells n before line status)
 
 -- there are no more lines: all were treated, or one is lacking
 abbrev pub HasMetEnd : {P : Type 0} → Telling P → ℕ → P → Result (Unit {0}) Status → Type 0
 HasMetEnd tells n player (Ok _) = (tells.text player [] ≡ []) × (tells.verdict n player [] ≡ Done)
-HasMetEnd tells n player (Err status) = (tells.text player [] ≡ []) × (tells.verdict n player [] ≡ status) × IsRefusal status
+HasMetEnd tells n player (Err status) = (tells.text player [] ≡ []) × (tells.verdict n player [] ≡ status) × TellsOfLine status
 
 -- lines were treated to the end or to the first that is refused, and what is written for them was written, or a front of
 -- it
@@ -48,10 +48,10 @@ abbrev pub HasPlayed : List ℕ → List ℕ → ℕ → ℕ → (List ℕ → L
 HasPlayed before now faults_before faults_now transcript script verdict (Ok _) = (verdict ≡ Done) × Appends before now (transcript script)
 HasPlayed before now faults_before faults_now transcript script verdict (Err WriteFault) = Rose faults_before faults_now × HasWritten before now (transcript script)
 HasPlayed before now faults_before faults_now transcript script verdict (Err Want) = IsPlayedInPart transcript script before now
-HasPlayed before now faults_before faults_now transcript script verdict (Err status) = IsRefusal status × (verdict ≡ status) × Appends before now (transcript script)
+HasPlayed before now faults_before faults_now transcript script verdict (Err status) = TellsOfLine status × (verdict ≡ status) × Appends before now (transcript script)
 
 -- the bytes in an answer
-abbrev pub text_in : {E Z : Type 0} → Result (Option (Vec ℕ Z)) E → Result (Option (List ℕ)) E
-text_in (Ok (Some text)) = Ok (Some text.items)
-text_in (Ok None) = Ok None
-text_in (Err e) = Err e
+abbrev pub bytes_in_text : {E Z : Type 0} → Result (Option (Vec ℕ Z)) E → Result (Option (List ℕ)) E
+bytes_in_text (Ok (Some text)) = Ok (Some text.items)
+bytes_in_text (Ok None) = Ok None
+bytes_in_text (Err e) = Err e

@@ -105,9 +105,9 @@ told_at n (line.BadShape field) = BadShape field
 told_at n line.Want = Want
 
 -- what is told of lines with this first fault, where this is told of a line that is refused
-abbrev pub told_of : {F : Type 0} → (ℕ → F → Status) → Option (Fault F) → Status
-told_of tell None = Done
-told_of tell (Some fault) = tell fault.number fault.cause
+abbrev pub status_of_lines : {F : Type 0} → (ℕ → F → Status) → Option (Fault F) → Status
+status_of_lines tell None = Done
+status_of_lines tell (Some fault) = tell fault.number fault.cause
 
 -- what is told of a script, where this is told of its lines
 abbrev pub told_by : (List ℕ → Status) → List ℕ → Status
@@ -115,27 +115,27 @@ told_by verdict text = if nat_lt longest_script (length text) then TooLong else 
 
 -- what is told of the lines of a script of one group, and of the script
 abbrev pub verdict : List ℕ → Status
-verdict text = told_of told_at (first_fault text)
+verdict text = status_of_lines told_at (first_fault text)
 
 abbrev pub status_for : List ℕ → Status
 status_for text = told_by verdict text
 
 -- a status is the one that is to be told, or there was no memory, or an object counted a fault
-abbrev pub IsTold : Status → ℕ → ℕ → ℕ → ℕ → Status → Type 0
-IsTold wanted read_before read_now written_before written_now status =
+abbrev pub IsStatusTold : Status → ℕ → ℕ → ℕ → ℕ → Status → Type 0
+IsStatusTold wanted read_before read_now written_before written_now status =
     (status ≡ wanted) ⊎ (status ≡ Want) ⊎ ((status ≡ ReadFault) × Rose read_before read_now) ⊎ ((status ≡ WriteFault) × Rose written_before written_now)
 
 -- a status that tells of a line
-abbrev pub IsRefusal : Status → Type 0
-IsRefusal (BadLine _) = ⊤
-IsRefusal (BadShape _) = ⊤
-IsRefusal (BadCount _) = ⊤
-IsRefusal _ = ⊥
+abbrev pub TellsOfLine : Status → Type 0
+TellsOfLine (BadLine _) = ⊤
+TellsOfLine (BadShape _) = ⊤
+TellsOfLine (BadCount _) = ⊤
+TellsOfLine _ = ⊥
 
 -- a status that tells what is wrong with a script
 abbrev pub TellsOfScript : Status → Type 0
 TellsOfScript TooLong = ⊤
-TellsOfScript status = IsRefusal status
+TellsOfScript status = TellsOfLine status
 
 -- a status that comes before a line of the script is treated
 abbrev pub IsUnread : Status → Type 0

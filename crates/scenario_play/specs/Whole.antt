@@ -1,21 +1,21 @@
 -- What comes of a script whose source tells the bytes that are to come.
 use Rattle.std.specs.Prelude.{◌≡◌, ℕ, List, [], drop, Some, IfSome}
 use Rattle.edge_io.specs.Moving.{Appends}
-use Rattle.scenario_play.specs.Language.{Language, told_in}
+use Rattle.scenario_play.specs.Language.{Language, status_told}
 use Rattle.scenario_play.specs.Outside.{EndsWith, Outside, StopsWithin}
 use Rattle.scenario_play.specs.Played.{IsPlayed}
-use Rattle.scenario_play.specs.Status.{IsRefusal, IsTold, last_line}
+use Rattle.scenario_play.specs.Status.{IsStatusTold, TellsOfLine, last_line}
 use Rattle.scenario_play.specs.declared.status.Status.{Status}
 use Rattle.scenario_play.specs.declared.status.Status.TheVariants.{Done, TooLong}
 
 -- the script is all that the source had: none of it is left, but where it is too long what follows its limit
 pub record PlaysAll (l : Language) (all : List ℕ) (before now : Outside) (status : Status) : Type 0 where
-  pub told : IsTold (told_in l all) before.reads now.reads before.writes now.writes status
+  pub told : IsStatusTold (status_told l all) before.reads now.reads before.writes now.writes status
   pub done_left : status ≡ Done → now.input.left ≡ Some []
   pub done_bytes : status ≡ Done → Appends before.held now.held (l.transcript all)
   pub promises : status ≡ Done → l.Promise all
-  pub refused_left : IsRefusal status → now.input.left ≡ Some []
-  pub refused_bytes : IsRefusal status → EndsWith before.held now.held before.writes now.writes (l.transcript all) (last_line status)
+  pub refused_left : TellsOfLine status → now.input.left ≡ Some []
+  pub refused_bytes : TellsOfLine status → EndsWith before.held now.held before.writes now.writes (l.transcript all) (last_line status)
   pub too_long_left : status ≡ TooLong → now.input.left ≡ Some (drop 16777217 all)
   pub bytes : StopsWithin before.held now.held (l.transcript all) status
 

@@ -7,7 +7,7 @@ ghost use Rattle.group_run.specs.Progress.{load_of};
 ghost use Rattle.group_run.specs.Headline.{MayCome};
 ghost use Rattle.group_run.specs.World.{step, turns_from, world_after};
 ghost use Rattle.scenario_text.specs.Texts.{entries_text};
-ghost use Rattle.scenario_run.specs.Playing.{draining};
+ghost use Rattle.scenario_run.specs.Playing.{draining_unless_down};
 
 use crate::entries::write_last;
 use crate::making::make_event;
@@ -19,10 +19,10 @@ use std::alloc::{AllocError, Global};
 /// Makes the deliveries of a drain, writes what they log, and gives their number: none while the group is down.
 pub(crate) fn drain(alloc: Global, world: &mut World, text: &mut Vec<u8>) -> Result<u64, AllocError>
     requires light { world.old.events + load_of world.old ≤ 2 ^ 61 }
-    ensures world { OnOk result (world.new ≡ world_after world.old (draining world.old)) }
+    ensures world { OnOk result (world.new ≡ world_after world.old (draining_unless_down world.old)) }
     ensures text { OnOk result (text.new.items ≡ text.old.items
-        ++ entries_text (log_of (turns_from world.old (draining world.old)))) }
-    ensures count { IfOk result (λ count. count ≡ length (draining world.old)) }
+        ++ entries_text (log_of (turns_from world.old (draining_unless_down world.old)))) }
+    ensures count { IfOk result (λ count. count ≡ length (draining_unless_down world.old)) }
 {
     if world.is_down() {
         return Ok(0);

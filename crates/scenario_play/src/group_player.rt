@@ -48,16 +48,16 @@ impl Player for GroupPlayer {
     ghost use Rattle.std.specs.Prelude.{◌+◌, length};
     ghost use Rattle.group_calls.specs.Turns.{log_of};
     ghost use Rattle.scenario_text.specs.declared.line.LineFault.TheVariants.{BadLine};
-    ghost use Rattle.scenario_run.specs.Course.{fault_in, text_in, turns_in};
+    ghost use Rattle.scenario_run.specs.Course.{fault_in, text_in, turns_of_lines};
     ghost use Rattle.scenario_run.specs.Playing.{next_of};
     ghost use Rattle.scenario_play.specs.Ends.{PlayGoesOn, log_len};
-    ghost use Rattle.scenario_play.specs.Status.{told_at, told_of};
+    ghost use Rattle.scenario_play.specs.Status.{status_of_lines, told_at};
 
     ghost text = { λ play lines. text_in next_of play lines };
 
-    ghost verdict = { λ n play lines. told_of told_at (fault_in next_of BadLine n play lines) };
+    ghost verdict = { λ n play lines. status_of_lines told_at (fault_in next_of BadLine n play lines) };
 
-    ghost entries = { λ play lines. log_len play + length (log_of (turns_in next_of play lines)) };
+    ghost entries = { λ play lines. log_len play + length (log_of (turns_of_lines next_of play lines)) };
 
     ghost ready = { PlayGoesOn };
 

@@ -3,7 +3,7 @@ ghost use Rattle.edge_io.specs.Moving.{Appends};
 ghost use Rattle.edge_io.specs.Faults.{Rose};
 ghost use Rattle.edge_io.specs.Writing.{HasWritten, HasWrittenPart};
 ghost use Rattle.scenario_make.specs.Script.{script_text};
-ghost use Rattle.scenario_play.specs.Played.{IsWritten};
+ghost use Rattle.scenario_play.specs.Played.{IsTextWritten};
 
 use crate::play::write_text;
 use crate::status::Status;
@@ -14,7 +14,7 @@ use std::alloc::Global;
 
 /// Writes the script that the number makes.
 pub fn make<K: Sink>(alloc: Global, number: u64, sink: &mut K) -> Status
-    ensures { IsWritten Status.Done (script_text number) (K.held sink.old) (K.held sink.new) (K.faults sink.old)
+    ensures { IsTextWritten Status.Done (script_text number) (K.held sink.old) (K.held sink.new) (K.faults sink.old)
         (K.faults sink.new) result }
 {
     match write_script(alloc, number, sink) {

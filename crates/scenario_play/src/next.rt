@@ -1,8 +1,8 @@
 ghost use Rattle.std.specs.Prelude.{◌≡◌, ◌^◌, ◌<◌, ◌≤◌, [], IfSome, IfOk};
 ghost use Rattle.scenario_text.specs.Meaning.{IsLineOf};
 ghost use Rattle.scenario_run.specs.Playing.{first_by, next_of, then_by};
-ghost use Rattle.scenario_play.specs.Ends.{HasBegun, HasDone, IsLight};
-ghost use Rattle.scenario_play.specs.Player.{text_in};
+ghost use Rattle.scenario_play.specs.Ends.{HasBegun, HasDone, IsLightPlay};
+ghost use Rattle.scenario_play.specs.Player.{bytes_in_text};
 
 use crate::playing::Play;
 use group_calls::Event;
@@ -16,8 +16,8 @@ pub(crate) fn treat(
     play: &mut Option<Play>,
     line: &[u8],
 ) -> Result<Option<Vec<u8>>, LineFault>
-    requires { IfSome play.old (IsLight (2 ^ 61)) }
-    ensures { HasDone play.old (next_of play.old line.now) play.new (text_in result) }
+    requires { IfSome play.old (IsLightPlay (2 ^ 61)) }
+    ensures { HasDone play.old (next_of play.old line.now) play.new (bytes_in_text result) }
 {
     match play {
         None => {
@@ -46,8 +46,8 @@ fn begin(alloc: Global, line: Line) -> Result<Option<Play>, LineFault>
 /// Treats a line behind the group line.
 fn follow(alloc: Global, play: &mut Play, line: Line) -> Result<Option<Vec<u8>>, LineFault>
     requires line { IsLineOf (Some play.old.world.shape) line }
-    requires light { IsLight (2 ^ 61) play.old }
-    ensures { HasDone (Some play.old) (then_by play.old line) (Some play.new) (text_in result) }
+    requires light { IsLightPlay (2 ^ 61) play.old }
+    ensures { HasDone (Some play.old) (then_by play.old line) (Some play.new) (bytes_in_text result) }
 {
     let text = match line {
         Line::Skipped => Vec::new(alloc),

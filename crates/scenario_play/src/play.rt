@@ -3,7 +3,7 @@ ghost use Rattle.edge_io.specs.Moving.{Appends};
 ghost use Rattle.edge_io.specs.Faults.{Rose};
 ghost use Rattle.edge_io.specs.Writing.{HasWritten, HasWrittenPart};
 ghost use Rattle.scenario_run.specs.Lines.{lines_of};
-ghost use Rattle.scenario_play.specs.Ends.{HasTreated};
+ghost use Rattle.scenario_play.specs.Ends.{HasTreatedScript};
 ghost use Rattle.scenario_play.specs.Language.{group_scripts, language_of};
 ghost use Rattle.scenario_play.specs.Outside.{outside};
 ghost use Rattle.scenario_play.specs.Played.{IsPlayed};
@@ -59,7 +59,7 @@ fn play_script<P: Player, S: Source, K: Sink>(
     sink: &mut K,
 ) -> Result<(), Status>
     requires ready { P.ready 1 player.old }
-    ensures end { HasTreated (language_of (P.text player.old) (P.verdict 1 player.old))
+    ensures end { HasTreatedScript (language_of (P.text player.old) (P.verdict 1 player.old))
         (outside (S.input source.old) (S.faults source.old) (K.held sink.old) (K.faults sink.old))
         (outside (S.input source.new) (S.faults source.new) (K.held sink.new) (K.faults sink.new)) result }
     ensures fault { IfErr result (λ status. HasFaultOf (S.faults source.old) (S.faults source.new) (K.faults sink.old)

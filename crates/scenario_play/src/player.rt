@@ -1,5 +1,5 @@
 ghost use Rattle.std.specs.Prelude.{ℕ, ◌≤◌, List};
-ghost use Rattle.scenario_play.specs.Player.{HasMetEnd, HasTreatedLine, telling, text_in};
+ghost use Rattle.scenario_play.specs.Player.{HasMetEnd, HasTreatedLine, bytes_in_text, telling};
 ghost use Rattle.scenario_play.specs.declared.status.Status.{Status};
 
 use crate::status::Status;
@@ -23,7 +23,7 @@ pub trait Player {
     fn treat(&mut self, alloc: Global, number: u64, line: &[u8]) -> Result<Option<Vec<u8>>, Status>
         requires number { number ≤ 16777217 }
         requires ready { ready number self.old }
-        ensures { HasTreatedLine (telling text verdict entries ready) number self.old self.new line.now (text_in result) };
+        ensures { HasTreatedLine (telling text verdict entries ready) number self.old self.new line.now (bytes_in_text result) };
 
     /// What there is to say behind the last line.
     fn end(&self, number: u64) -> Result<(), Status>

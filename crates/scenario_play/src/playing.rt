@@ -5,8 +5,8 @@ ghost use Rattle.group_run.specs.Headline.{MayCome};
 ghost use Rattle.group_run.specs.World.{opening, step, turns_from, world_after};
 ghost use Rattle.group_run.specs.Shown.{held};
 ghost use Rattle.scenario_run.specs.Placing.{placed_text};
-ghost use Rattle.scenario_run.specs.Playing.{draining, drained_text, look, turn_text};
-ghost use Rattle.scenario_play.specs.Ends.{IsLight};
+ghost use Rattle.scenario_run.specs.Playing.{drained_text, draining_unless_down, look, turn_text};
+ghost use Rattle.scenario_play.specs.Ends.{IsLightPlay};
 
 use crate::deliveries::drain;
 use crate::entries::write_last;
@@ -74,7 +74,7 @@ impl Play {
     /// An event is made: its answer on a line, and what it logged.
     pub(crate) fn make(&mut self, alloc: Global, event: Event) -> Result<Vec<u8>, AllocError>
         requires may { MayCome self.old.world event }
-        requires light { IsLight (2 ^ 61) self.old }
+        requires light { IsLightPlay (2 ^ 61) self.old }
         ensures play { OnOk result (self.new ≡ record {
           world =
               (step self.old.world event).world;
@@ -91,14 +91,14 @@ impl Play {
 
     /// Messages are delivered until none is left: what that logged, and how many there were.
     pub(crate) fn drain(&mut self, alloc: Global) -> Result<Vec<u8>, AllocError>
-        requires light { IsLight (2 ^ 61) self.old }
+        requires light { IsLightPlay (2 ^ 61) self.old }
         ensures play { OnOk result (self.new ≡ record {
           world = world_after self.old.world
-              (draining self.old.world);
+              (draining_unless_down self.old.world);
           moment = self.old.moment;
         }) }
         ensures text { IfOk result (λ text. text.items
-            ≡ drained_text (turns_from self.old.world (draining self.old.world))) }
+            ≡ drained_text (turns_from self.old.world (draining_unless_down self.old.world))) }
     {
         let mut text = Vec::new(alloc);
         let count = drain(alloc, &mut self.world, &mut text)?;

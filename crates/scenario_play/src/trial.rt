@@ -4,7 +4,7 @@ ghost use Rattle.std.specs.String.{string_bytes};
 ghost use Rattle.edge_io.specs.Faults.{Rose};
 ghost use Rattle.edge_io.specs.Writing.{HasWritten, HasWrittenPart};
 ghost use Rattle.scenario_make.specs.Script.{script_text};
-ghost use Rattle.scenario_play.specs.Played.{IsWritten};
+ghost use Rattle.scenario_play.specs.Played.{IsTextWritten};
 ghost use Rattle.scenario_play.specs.Status.{TellsOfScript, status_for};
 ghost use Rattle.scenario_play.specs.Trial.{trial_of, trial_text};
 
@@ -22,7 +22,7 @@ use std::alloc::Global;
 /// Plays the script that the number makes, and writes what came of it on a line: how many lines the script has, how
 /// many entries its group logged, and how many bytes its transcript has.
 pub fn trial<K: Sink>(alloc: Global, number: u64, sink: &mut K) -> Status
-    ensures { IsWritten (status_for (script_text number)) (trial_text number) (K.held sink.old) (K.held sink.new)
+    ensures { IsTextWritten (status_for (script_text number)) (trial_text number) (K.held sink.old) (K.held sink.new)
         (K.faults sink.old) (K.faults sink.new) result }
 {
     match write_trial(alloc, number, sink) {

@@ -29,7 +29,7 @@ use Rattle.law_progress.proofs.Whole.{next-comes}
 use Rattle.law_progress.proofs.Always.{deliveries_lower}
 use Rattle.law_progress.specs.Ends.{IsDelivery}
 use Rattle.group_run.specs.Shown.{is_down}
-use Rattle.scenario_run.specs.Playing.{draining}
+use Rattle.scenario_run.specs.Playing.{draining_unless_down}
 use Rattle.scenario_run.proofs.Leading.{IsLedTo, led-step}
 use Rattle.scenario_run.proofs.Truth.{up}
 
@@ -112,7 +112,7 @@ module _ (s : Dimensions) where
         let rest = later (step w e).world (led-step s w e led one.may) one.up in
         record { run = (one.may, rest.run); light = let light = rest.light in let less = one.lower in omega (arith, light, less) }
 
-  pub drains : (w : World) → IsLedTo s w → Drains w (draining w)
+  pub drains : (w : World) → IsLedTo s w → Drains w (draining_unless_down w)
   drains w led = by (is_down w) refl where
     by : (b : Bool) → is_down w ≡ b → Drains w (if b then [] else drain_events (load_of w) w)
     by true is = record { run = tt; light = omega arith }

@@ -1,10 +1,10 @@
 -- What lines log, write and refuse behind a line, by what it does.
 use Rattle.std.proofs.Common.{ℕ, ◌≡◌, ◌+◌, List, [], ◌∷◌, ◌++◌, Option, Some, None, ap}
-use Rattle.scenario_run.specs.Course.{Ends, Fault, Goes, Next, Refused, Rules, fault_in, named_in, text_in, turns_in}
+use Rattle.scenario_run.specs.Course.{Ends, Fault, Goes, LineRules, Next, Refused, fault_in, named_in, text_in, turns_of_lines}
 
-module _ {S T F : Type 0} (rules : Rules S T F) where
+module _ {S T F : Type 0} (rules : LineRules S T F) where
   abbrev pub turns_after : Next S T F → List (List ℕ) → List T
-  turns_after next lines = elim next [ Goes state turns text ↦ turns ++ turns_in rules state lines | Ends ↦ [] | Refused cause ↦ [] ]
+  turns_after next lines = elim next [ Goes state turns text ↦ turns ++ turns_of_lines rules state lines | Ends ↦ [] | Refused cause ↦ [] ]
 
   abbrev pub text_after : Next S T F → List (List ℕ) → List ℕ
   text_after next lines = elim next [ Goes state turns text ↦ text ++ text_in rules state lines | Ends ↦ [] | Refused cause ↦ [] ]
@@ -28,7 +28,7 @@ module _ {S T F : Type 0} (rules : Rules S T F) where
   fault-line lacking n (Some p) bytes lines next is = ap (λ (x : Next S T F). fault_after lacking n x lines) is
 
   pub turns-line : (before : Option S) (bytes : List ℕ) (lines : List (List ℕ)) (next : Next S T F)
-      → rules before bytes ≡ next → turns_in rules before (bytes ∷ lines) ≡ turns_after next lines
+      → rules before bytes ≡ next → turns_of_lines rules before (bytes ∷ lines) ≡ turns_after next lines
   turns-line before bytes lines next is = ap (λ (n : Next S T F). turns_after n lines) is
 
   -- the state that is named first behind a line

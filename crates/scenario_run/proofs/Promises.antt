@@ -12,17 +12,17 @@ use Rattle.group_run.specs.World.{World, after, opening, step, world_after}
 use Rattle.law_headline.proofs.Headlines.{headline_always}
 use Rattle.group_run.specs.Shown.{HoldsTruth, held}
 use Rattle.law_headline.proofs.Truth.{truth_always}
-use Rattle.scenario_text.specs.Meaning.{IsLineOf, line_of}
+use Rattle.scenario_text.specs.Meaning.{IsLineOf, line_meaning}
 use Rattle.scenario_text.specs.declared.line.Line.{Line}
 use Rattle.scenario_text.specs.declared.line.Line.TheVariants.{Skipped, Group, Ask, Collect, Deliver, Fail, Flush, Trace, Drain, Show, Places, Time, Stop}
 use Rattle.scenario_text.specs.declared.line.LineFault.{LineFault}
 use Rattle.scenario_text.specs.declared.line.LineFault.TheVariants.{BadLine}
 use Rattle.scenario_text.proofs.Lines.{line_of-within}
 use Rattle.scenario_run.specs.Lines.{lines_of}
-use Rattle.scenario_run.specs.Course.{Ends, Goes, Refused, fault_in, named_in, turns_in}
+use Rattle.scenario_run.specs.Course.{Ends, Goes, Refused, fault_in, named_in, turns_of_lines}
 use Rattle.scenario_run.specs.Playing.{Play, PlayNext, look, next_by, next_of, shape_in}
 use Rattle.scenario_run.specs.Promises.{AreTrueLines, IsTrueLine, ScriptsKeepPromises}
-use Rattle.scenario_run.specs.Script.{events_of, turns_of}
+use Rattle.scenario_run.specs.Script.{script_events, script_turns}
 use Rattle.scenario_run.proofs.Following.{fault_after, named-line, turns_after}
 use Rattle.scenario_run.proofs.Leading.{IsLedTo, Leads, leads-then, led-on, opened}
 use Rattle.scenario_run.proofs.Running.{Opens, line-leads, line-opens, never-ends, parts}
@@ -31,7 +31,7 @@ use Rattle.scenario_run.proofs.Truth.{shows-truth}
 -- what follows a line, by what it does
 abbrev TrueAfter : Option Play → List ℕ → PlayNext → List (List ℕ) → Type 0
 TrueAfter play line next lines = elim next [
-  | Goes next turns text ↦ IsTrueLine play (line_of (shape_in play) line) text × AreTrueLines next lines
+  | Goes next turns text ↦ IsTrueLine play (line_meaning (shape_in play) line) text × AreTrueLines next lines
   | Ends ↦ Unit {0}
   | Refused fault ↦ Unit {0}
 ]
@@ -45,11 +45,11 @@ module _ (s : Dimensions) where
   none : (w : World) → Runs w []
   none w = record { v = w; leads = record { events = []; run = tt; turns_are = refl; to = refl } }
 
-  mutual-runs : (p : Play) (lines : List (List ℕ)) → IsLedTo s p.world → Runs p.world (turns_in next_of (Some p) lines)
+  mutual-runs : (p : Play) (lines : List (List ℕ)) → IsLedTo s p.world → Runs p.world (turns_of_lines next_of (Some p) lines)
   mutual-runs p [] led = none p.world
   mutual-runs p (line ∷ lines) led = by (next_of (Some p) line) refl (λ q. mutual-runs q lines) where
     by : (next : PlayNext) → next_of (Some p) line ≡ next
-        → ((q : Play) → IsLedTo s q.world → Runs q.world (turns_in next_of (Some q) lines))
+        → ((q : Play) → IsLedTo s q.world → Runs q.world (turns_of_lines next_of (Some q) lines))
         → Runs p.world (turns_after next_of next lines)
     by Ends is later = none p.world
     by (Refused fault) is later = none p.world
@@ -58,8 +58,8 @@ module _ (s : Dimensions) where
         let rest = later on.play (led-on s p.world on.play.world turns led on.leads) in
         record {
           v = rest.v;
-          leads = leads-then p.world on.play.world rest.v turns (turns_in next_of next lines) on.leads
-              (subst (λ (q : Option Play). Leads on.play.world rest.v (turns_in next_of q lines)) (sym on.is) rest.leads);
+          leads = leads-then p.world on.play.world rest.v turns (turns_of_lines next_of next lines) on.leads
+              (subst (λ (q : Option Play). Leads on.play.world rest.v (turns_of_lines next_of q lines)) (sym on.is) rest.leads);
         }
 
   -- what is shown behind the group line is true
@@ -94,7 +94,7 @@ module _ (s : Dimensions) where
     by (Refused fault) is later = tt
     by (Goes next turns text) is later =
         let on = line-leads s p line next turns text led is in (
-          true-line p (line_of (Some p.world.shape) line) next turns text led (λ l reads. line_of-within (Some p.world.shape) line l reads) is,
+          true-line p (line_meaning (Some p.world.shape) line) next turns text led (λ l reads. line_of-within (Some p.world.shape) line l reads) is,
           subst (λ (q : Option Play). AreTrueLines q lines) (sym on.is) (later on.play (led-on s p.world on.play.world turns led on.leads)),
         )
 
@@ -103,7 +103,7 @@ record Named (lines : List (List ℕ)) : Type 0 where
   shape : Dimensions
   limits : IsShape shape
   named : shape_in (named_in next_of None lines) ≡ Some shape
-  runs : Runs (opening shape) (turns_in next_of None lines)
+  runs : Runs (opening shape) (turns_of_lines next_of None lines)
   true_lines : AreTrueLines None lines
 
 begins : (n : ℕ) (lines : List (List ℕ)) → fault_in next_of BadLine n None lines ≡ None → Named lines
@@ -113,10 +113,10 @@ begins n (line ∷ lines) ends = by (next_of None line) refl ends (begins (n + 1
       → Opens next turns text → fault_in next_of BadLine (n + 1) next lines ≡ None
       → (fault_in next_of BadLine (n + 1) None lines ≡ None → Named lines) → Named (line ∷ lines)
   begun next turns text is opens rest later = either opens.is where
-    turns_are : (q : Option Play) → next ≡ q → turns_in next_of None (line ∷ lines) ≡ turns_in next_of q lines
+    turns_are : (q : Option Play) → next ≡ q → turns_of_lines next_of None (line ∷ lines) ≡ turns_of_lines next_of q lines
     turns_are q same = ap (λ (x : PlayNext). turns_after next_of x lines) is
-        ∙ ap (λ (ts : List Turn). ts ++ turns_in next_of next lines) opens.quiet
-        ∙ ap (λ (x : Option Play). turns_in next_of x lines) same
+        ∙ ap (λ (ts : List Turn). ts ++ turns_of_lines next_of next lines) opens.quiet
+        ∙ ap (λ (x : Option Play). turns_of_lines next_of x lines) same
 
     shape_is : (q : Option Play) → next ≡ q → shape_in (named_in next_of None (line ∷ lines)) ≡ shape_in (named_in next_of q lines)
     shape_is q same = ap shape_in (named-line next_of line lines (Goes next turns text) is ∙ ap (λ (x : Option Play). named_in next_of x lines) same)
@@ -174,10 +174,10 @@ scripts_keep_promises text whole = record {
   s : Dimensions
   s = named.shape
 
-  leads : Leads (opening s) named.runs.v (turns_of text)
+  leads : Leads (opening s) named.runs.v (script_turns text)
   leads = named.runs.leads
 
-  same : leads.events ≡ events_of text
+  same : leads.events ≡ script_events text
   same = sym (events-are (opening s) leads.events) ∙ ap (λ (ts : List Turn). map (λ turn. turn.event) ts) leads.turns_are
 
   run : IsRun s leads.events

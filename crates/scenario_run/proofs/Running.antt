@@ -11,14 +11,14 @@ use Rattle.group_calls.specs.declared.event.Event.TheVariants as happens
 use Rattle.group_run.specs.Headline.{MayCome}
 use Rattle.group_run.specs.World as machine
 use Rattle.group_run.specs.World.{World, after, opening, step, world_after}
-use Rattle.scenario_text.specs.Meaning.{IsLineOf, line_of}
+use Rattle.scenario_text.specs.Meaning.{IsLineOf, line_meaning}
 use Rattle.scenario_text.specs.declared.line.Line.{Line}
 use Rattle.scenario_text.specs.declared.line.Line.TheVariants.{Skipped, Group, Ask, Collect, Deliver, Fail, Flush, Trace, Drain, Show, Places, Time, Stop}
 use Rattle.scenario_text.specs.declared.line.LineFault.{LineFault}
 use Rattle.scenario_text.specs.declared.line.LineFault.TheVariants.{BadLine}
 use Rattle.scenario_text.proofs.Lines.{line_of-within}
 use Rattle.scenario_run.specs.Course.{Ends, Goes, Next, Refused}
-use Rattle.scenario_run.specs.Playing.{Play, by_event, by_trace, draining, drained_text, first_by, next_by, next_of, quietly, then_by, turn_text}
+use Rattle.scenario_run.specs.Playing.{Play, by_event, by_trace, drained_text, draining_unless_down, first_by, next_by, next_of, quietly, then_by, turn_text}
 use Rattle.scenario_run.proofs.Draining.{burden, drains, event-light, line_burden}
 use Rattle.scenario_run.proofs.Leading.{IsLedTo, Leads}
 
@@ -86,14 +86,14 @@ then-leads s p (Trace caller call d from) next turns text led within is =
     traces s p caller call (happens.Trace caller call d from) next turns text led (λ less. (within.0, less, within.1, within.2)) is
 then-leads s p Drain next turns text led within is =
     let drain = drains s p.world led in
-    let v : World = world_after p.world (draining p.world) in
+    let v : World = world_after p.world (draining_unless_down p.world) in
     let both = parts (Some (record { world = v; moment = p.moment })) next
-    (machine.turns_from p.world (draining p.world)) turns
-    (drained_text (machine.turns_from p.world (draining p.world))) text is in
+    (machine.turns_from p.world (draining_unless_down p.world)) turns
+    (drained_text (machine.turns_from p.world (draining_unless_down p.world))) text is in
     record {
       play = record { world = v; moment = p.moment };
       is = both.0;
-      leads = record { events = draining p.world; run = drain.run; turns_are = sym both.1; to = refl };
+      leads = record { events = draining_unless_down p.world; run = drain.run; turns_are = sym both.1; to = refl };
       light =
           let lighter = drain.light in omega (arith, lighter);
     }
@@ -112,7 +112,7 @@ next-leads s p (Ok l) next turns text led within is = then-leads s p l next turn
 
 pub line-leads : (s : Dimensions) (p : Play) (line : List ℕ) (next : Option Play) (turns : List Turn) (text : List ℕ) → IsLedTo s p.world
     → next_of (Some p) line ≡ Goes next turns text → GoesOn p.world next turns
-line-leads s p line next turns text led is = next-leads s p (line_of (Some p.world.shape) line) next turns text led
+line-leads s p line next turns text led is = next-leads s p (line_meaning (Some p.world.shape) line) next turns text led
     (λ l reads. line_of-within (Some p.world.shape) line l reads) is
 
 -- the group line, or a line before it
@@ -144,7 +144,7 @@ next-opens (Err fault) next turns text within is = absurd (cc is)
 next-opens (Ok l) next turns text within is = first-opens l next turns text (within l refl) is
 
 pub line-opens : (line : List ℕ) (next : Option Play) (turns : List Turn) (text : List ℕ) → next_of None line ≡ Goes next turns text → Opens next turns text
-line-opens line next turns text is = next-opens (line_of None line) next turns text (λ l reads. line_of-within None line l reads) is
+line-opens line next turns text is = next-opens (line_meaning None line) next turns text (λ l reads. line_of-within None line l reads) is
 
 -- before the group line no line is the last
 never-ends-by : (l : Line) → IsLineOf None l → first_by l ≡ Ends → ⊥
@@ -167,4 +167,4 @@ never-ends-in (Err fault) within is = cc is
 never-ends-in (Ok l) within is = never-ends-by l (within l refl) is
 
 pub never-ends : (line : List ℕ) → next_of None line ≡ Ends → ⊥
-never-ends line is = never-ends-in (line_of None line) (λ l reads. line_of-within None line l reads) is
+never-ends line is = never-ends-in (line_meaning None line) (λ l reads. line_of-within None line l reads) is

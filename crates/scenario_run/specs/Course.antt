@@ -14,28 +14,28 @@ pub record Fault (F : Type 0) : Type 0 where
   pub cause : F
 
 -- what each line does: to no state, until a line names one
-abbrev pub Rules : Type 0 → Type 0 → Type 0 → Type 0
-Rules S T F = Option S → List ℕ → Next S T F
+abbrev pub LineRules : Type 0 → Type 0 → Type 0 → Type 0
+LineRules S T F = Option S → List ℕ → Next S T F
 
 -- the turns of lines, up to the end or to a line that is refused
-abbrev pub turns_in : {S T F : Type 0} → Rules S T F → Option S → List (List ℕ) → List T
-turns_in rules state [] = []
-turns_in rules state (line ∷ lines) = elim (rules state line) [ Goes next turns text ↦ turns ++ turns_in rules next lines | Ends ↦ [] | Refused cause ↦ [] ]
+abbrev pub turns_of_lines : {S T F : Type 0} → LineRules S T F → Option S → List (List ℕ) → List T
+turns_of_lines rules state [] = []
+turns_of_lines rules state (line ∷ lines) = elim (rules state line) [ Goes next turns text ↦ turns ++ turns_of_lines rules next lines | Ends ↦ [] | Refused cause ↦ [] ]
 
 -- what is written for these lines
-abbrev pub text_in : {S T F : Type 0} → Rules S T F → Option S → List (List ℕ) → List ℕ
+abbrev pub text_in : {S T F : Type 0} → LineRules S T F → Option S → List (List ℕ) → List ℕ
 text_in rules state [] = []
 text_in rules state (line ∷ lines) = elim (rules state line) [ Goes next turns text ↦ text ++ text_in rules next lines | Ends ↦ [] | Refused cause ↦ [] ]
 
 -- the first line before the end that is refused, where the next line has the number n; a script that ends before its
 -- state is named lacks the line after its last
-abbrev pub fault_in : {S T F : Type 0} → Rules S T F → F → ℕ → Option S → List (List ℕ) → Option (Fault F)
+abbrev pub fault_in : {S T F : Type 0} → LineRules S T F → F → ℕ → Option S → List (List ℕ) → Option (Fault F)
 fault_in rules lacking n None [] = Some (record { number = n; cause = lacking })
 fault_in rules lacking n (Some p) [] = None
 fault_in rules lacking n state (line ∷ lines) = elim (rules state line) [ Goes next turns text ↦ fault_in rules lacking (n + 1) next lines | Ends ↦ None | Refused cause ↦ Some (record { number = n; cause = cause }) ]
 
 -- the state as it was first named
-abbrev pub named_in : {S T F : Type 0} → Rules S T F → Option S → List (List ℕ) → Option S
+abbrev pub named_in : {S T F : Type 0} → LineRules S T F → Option S → List (List ℕ) → Option S
 named_in rules (Some p) lines = Some p
 named_in rules None [] = None
 named_in rules None (line ∷ lines) = elim (rules None line) [ Goes next turns text ↦ named_in rules next lines | Ends ↦ None | Refused cause ↦ None ]

@@ -13,7 +13,7 @@ use Rattle.group_run.specs.Meaning.{is_dead}
 use Rattle.group_run.specs.Progress.{load_of}
 use Rattle.group_run.specs.World.{World, WorldStep, opening, step, turns_from, world_after}
 use Rattle.group_run.specs.Shown.{held, is_down, stamp_of}
-use Rattle.scenario_text.specs.Meaning.{line_of}
+use Rattle.scenario_text.specs.Meaning.{line_meaning}
 use Rattle.scenario_text.specs.Texts.{answer_text, entries_text, shown_text}
 use Rattle.scenario_text.specs.declared.line.Line.{Line}
 use Rattle.scenario_text.specs.declared.line.Line.TheVariants.{Skipped, Group, Ask, Collect, Deliver, Fail, Flush, Trace, Drain, Show, Places, Time, Stop}
@@ -49,8 +49,8 @@ by_trace p caller call e = if nat_lt call (at 0 p.world.asked caller) then by_ev
 
 -- the deliveries of a drain: always from the lowest link that has a message, until none is left; none
 -- while the group is down
-abbrev pub draining : World → List Event
-draining w = if is_down w then [] else drain_events (load_of w) w
+abbrev pub draining_unless_down : World → List Event
+draining_unless_down w = if is_down w then [] else drain_events (load_of w) w
 
 -- what the deliveries of a drain logged, and how many there were
 abbrev pub drained_text : List Turn → List ℕ
@@ -86,7 +86,7 @@ then_by p (Deliver from to) = by_event p (happens.Deliver from to)
 then_by p (Fail from keep) = by_event p (happens.Fail from keep)
 then_by p (Flush from) = by_event p (happens.Flush from)
 then_by p (Trace caller call partition from) = by_trace p caller call (happens.Trace caller call partition from)
-then_by p Drain = by_drain p (draining p.world)
+then_by p Drain = by_drain p (draining_unless_down p.world)
 then_by p (Show from run) = by_show p from run
 then_by p Places = by_places p
 then_by p (Time moment) = quietly (Some (record { world = p.world; moment = moment }))
@@ -104,4 +104,4 @@ shape_in play = option_map (λ p. p.world.shape) play
 
 -- what a line does
 abbrev pub next_of : Option Play → List ℕ → PlayNext
-next_of play line = next_by play (line_of (shape_in play) line)
+next_of play line = next_by play (line_meaning (shape_in play) line)

@@ -11,14 +11,14 @@ use Rattle.group_run.specs.Headline.{Headline, IsRun}
 use Rattle.group_run.specs.World as machine
 use Rattle.group_run.specs.World.{World}
 use Rattle.group_run.specs.Shown.{told_bytes}
-use Rattle.scenario_text.specs.Meaning.{line_of}
+use Rattle.scenario_text.specs.Meaning.{line_meaning}
 use Rattle.scenario_text.specs.declared.line.Line.{Line}
 use Rattle.scenario_text.specs.declared.line.Line.TheVariants.{Show}
 use Rattle.scenario_text.specs.declared.line.LineFault.{LineFault}
 use Rattle.scenario_run.specs.Lines.{lines_of}
 use Rattle.scenario_run.specs.Course.{Goes, Ends, Refused}
 use Rattle.scenario_run.specs.Playing.{Play, look, next_of, shape_in}
-use Rattle.scenario_run.specs.Script.{events_of, first_fault, shape_of, turns_of}
+use Rattle.scenario_run.specs.Script.{first_fault, script_events, script_shape, script_turns}
 
 -- the text shows what the log tells
 abbrev pub ShowsTruth : World → ProcessId → Run → List ℕ → Type 0
@@ -33,7 +33,7 @@ IsTrueLine _ _ text = Unit {0}
 abbrev pub AreTrueLines : Option Play → List (List ℕ) → Type 0
 AreTrueLines play [] = Unit {0}
 AreTrueLines play (line ∷ lines) = elim (next_of play line) [
-  | Goes next turns text ↦ IsTrueLine play (line_of (shape_in play) line) text × AreTrueLines next lines
+  | Goes next turns text ↦ IsTrueLine play (line_meaning (shape_in play) line) text × AreTrueLines next lines
   | Ends ↦ Unit {0}
   | Refused fault ↦ Unit {0}
 ]
@@ -41,12 +41,12 @@ AreTrueLines play (line ∷ lines) = elim (next_of play line) [
 -- a script's group keeps its promises
 pub record KeepsPromises (text : List ℕ) : Type 0 where
   pub shape : Dimensions
-  pub named : shape_of text ≡ Some shape
-  pub run : IsRun shape (events_of text)
-  pub turns : machine.turns_of shape (events_of text) ≡ turns_of text
-  pub legal : IsLegal shape.k (log_of (turns_of text))
-  pub within : AnswersWithin shape.k (turns_of text)
-  pub headline : Headline shape (events_of text)
+  pub named : script_shape text ≡ Some shape
+  pub run : IsRun shape (script_events text)
+  pub turns : machine.turns_of shape (script_events text) ≡ script_turns text
+  pub legal : IsLegal shape.k (log_of (script_turns text))
+  pub within : AnswersWithin shape.k (script_turns text)
+  pub headline : Headline shape (script_events text)
   pub shown : AreTrueLines None (lines_of text)
 
 -- the promises are kept by every script none of whose lines is refused

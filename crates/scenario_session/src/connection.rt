@@ -1,6 +1,6 @@
 ghost use Rattle.std.specs.Prelude.{◌≡◌, ◌≤◌};
 ghost use Rattle.edge_io.specs.Faults.{HasCauseOf, Rose};
-ghost use Rattle.scenario_session.specs.Session.{HasEndedSession, IsServed};
+ghost use Rattle.scenario_session.specs.Session.{HasEndedSession, IsSessionServed};
 
 use crate::end::{SessionEnd, end_of};
 use caller_table::{World, WorldCaller};
@@ -34,7 +34,7 @@ fn serve_fresh<S: Source, K: Sink, T: Clock>(
     sink: &mut K,
     clock: &T,
 ) -> Result<End, ConnectionFault>
-    ensures served { IsServed shape (T.moment clock.now) (S.input source.old) (S.input source.new) (K.held sink.old)
+    ensures served { IsSessionServed shape (T.moment clock.now) (S.input source.old) (S.input source.new) (K.held sink.old)
         (K.held sink.new) result }
     ensures read { HasCauseOf (S.faults source.old) (S.faults source.new) result ConnectionFault.ReadFault }
     ensures write { HasCauseOf (K.faults sink.old) (K.faults sink.new) result ConnectionFault.WriteFault }

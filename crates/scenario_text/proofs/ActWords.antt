@@ -6,7 +6,7 @@ use Rattle.memc_table.specs.Numeral.{number_of}
 use Rattle.memc_table.specs.declared.act.Act.{Act}
 use Rattle.memc_table.specs.declared.act.Act.TheVariants as act
 use Rattle.scenario_text.proofs.Read.{bound, mapped}
-use Rattle.scenario_text.specs.Acts.{act_of, act_by, stored, store_of, exptime_of, verb_of}
+use Rattle.scenario_text.specs.Acts.{act_of_words, act_of_verb, stored, store_of_words, exptime_of, verb_of}
 use Rattle.scenario_text.specs.Words.{number_below, key_of_word, value_of_word}
 use Rattle.scenario_text.specs.declared.read_act.Store.{Store}
 use Rattle.scenario_text.specs.declared.verb.StoreMode.{StoreMode}
@@ -62,9 +62,9 @@ key-words (act.Prepend key value) read = read.0
 key-words (act.Incr key n) read = read.0
 key-words (act.Decr key n) read = read.0
 
-store_of-words : (flags : List ℕ) (words : List (List ℕ)) (s : Store) → store_of flags words ≡ Some s
+store_of-words : (flags : List ℕ) (words : List (List ℕ)) (s : Store) → store_of_words flags words ≡ Some s
     → ReadsStore s.flags s.expiry s.value
-unfolding store_of
+unfolding store_of_words
 store_of-words flags [] s is = cc is
 store_of-words flags (value ∷ exptime) s is =
     let f = bound (number_below (2 ^ 32) flags) _ s is in
@@ -83,17 +83,17 @@ stored-words Replace key s k item = (k, item)
 moved : (a b : Act) → a ≡ b → ReadsAct a → ReadsAct b
 moved a b same read = subst ReadsAct same read
 
-act_by-words : (v : Verb) (key : List ℕ) (words : List (List ℕ)) (a : Act) → act_by v key words ≡ Some a → ReadsAct a
-unfolding act_by
+act_by-words : (v : Verb) (key : List ℕ) (words : List (List ℕ)) (a : Act) → act_of_verb v key words ≡ Some a → ReadsAct a
+unfolding act_of_verb
 act_by-words verb.Get key [] a is = let k = mapped act.Get (key_of_word key) a is in moved (act.Get k.0) a k.2 (key, k.1)
 act_by-words (verb.Store mode) key (flags ∷ words) a is =
     let k = bound (key_of_word key) _ a is in
-    let s = bound (store_of flags words) _ a k.2 in
+    let s = bound (store_of_words flags words) _ a k.2 in
     moved (stored mode k.0 s.0) a (cc s.2) (stored-words mode k.0 s.0 (key, k.1) (store_of-words flags words s.0 s.1))
 act_by-words verb.Cas key (flags ∷ cas ∷ words) a is =
     let k = bound (key_of_word key) _ a is in
     let n = bound (number_of cas) _ a k.2 in
-    let s = bound (store_of flags words) _ a n.2 in
+    let s = bound (store_of_words flags words) _ a n.2 in
     moved (act.Cas k.0 s.0.flags s.0.expiry n.0 s.0.value) a (cc s.2)
     ((key, k.1), store_of-words flags words s.0 s.1, (cas, n.1))
 act_by-words verb.Delete key [] a is =
@@ -120,6 +120,6 @@ act_by-words verb.Decr key (w ∷ []) a is =
     moved (act.Decr k.0 n.0) a (cc n.2) ((key, k.1), (w, n.1))
 act_by-words v key words a is = cc is
 
-pub act_of-words : (words : List (List ℕ)) (a : Act) → act_of words ≡ Some a → ReadsAct a
+pub act_of-words : (words : List (List ℕ)) (a : Act) → act_of_words words ≡ Some a → ReadsAct a
 act_of-words (name ∷ key ∷ words) a is = let v = bound (verb_of name) _ a is in act_by-words v.0 key words a v.2
 act_of-words words a is = cc is

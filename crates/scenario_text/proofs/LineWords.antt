@@ -10,9 +10,9 @@ use Rattle.group_types.specs.declared.run.Run.{Run}
 use Rattle.memc_table.specs.Numeral.{number_of}
 use Rattle.scenario_text.proofs.ActWords.{ReadsAct, ReadsNumber, act_of-words}
 use Rattle.scenario_text.proofs.Read.{bound, mapped, passed}
-use Rattle.scenario_text.specs.Acts.{act_of}
-use Rattle.scenario_text.specs.Meaning.{delivery, event_line, is_skipped, keyword_of, line_by, line_of, look, or_bad_line}
-use Rattle.scenario_text.specs.Words.{keep_of_word, number_below, partition_of_word, process_of_word, run_of, words_of}
+use Rattle.scenario_text.specs.Acts.{act_of_words}
+use Rattle.scenario_text.specs.Meaning.{delivery, event_line, is_skipped, keyword_of, line_by, line_meaning, look, or_bad_line}
+use Rattle.scenario_text.specs.Words.{keep_of_word, number_below, partition_of_word, process_of_word, run_of_words, split_words}
 use Rattle.scenario_text.specs.declared.keyword.Keyword.{Keyword}
 use Rattle.scenario_text.specs.declared.keyword.Keyword.TheVariants as keyword
 use Rattle.scenario_text.specs.declared.line.Line.{Line}
@@ -88,7 +88,7 @@ unfolding line_by
 line_by-words s keyword.Ask (caller ∷ at ∷ op) l is =
     let c = bound (number_below callers caller) _ l is in
     let p = bound (process_of_word s at) _ l c.2 in
-    let a = bound (act_of op) _ l p.2 in
+    let a = bound (act_of_words op) _ l p.2 in
     moved s keyword.Ask (Ask c.0 p.0 a.0) l a.2 refl ((caller, c.1), (at, p.1), act_of-words op a.0 a.1)
 line_by-words s keyword.Collect (caller ∷ call ∷ at ∷ []) l is =
     let c = bound (number_below callers caller) _ l is in
@@ -115,7 +115,7 @@ line_by-words s keyword.Trace (caller ∷ call ∷ partition ∷ at ∷ []) l is
 line_by-words s keyword.Drain [] l is = moved s keyword.Drain Drain l is refl tt
 line_by-words s keyword.Show (at ∷ from ∷ len ∷ []) l is =
     let p = bound (process_of_word s at) _ l is in
-    let r = bound (run_of from len) _ l p.2 in
+    let r = bound (run_of_words from len) _ l p.2 in
     look-words s p.0 r.0 l (at, p.1) r.2
 line_by-words s keyword.Places [] l is = moved s keyword.Places Places l is refl tt
 line_by-words s keyword.Time (moment ∷ []) l is =
@@ -134,9 +134,9 @@ event_line-words s (name ∷ words) l is =
     let k = bound (keyword_of name) _ l is in (line_by-words s k.0 words l k.2).parts
 
 -- a line behind the group line
-pub line_of-words : (s : Dimensions) (line : List ℕ) (l : Line) → line_of (Some s) line ≡ Ok l → ReadsLine s l
+pub line_of-words : (s : Dimensions) (line : List ℕ) (l : Line) → line_meaning (Some s) line ≡ Ok l → ReadsLine s l
 line_of-words s line l is = by (is_skipped line) is
   where
-    by : (b : Bool) → (if b then Ok Skipped else or_bad_line (event_line s (words_of line))) ≡ Ok l → ReadsLine s l
+    by : (b : Bool) → (if b then Ok Skipped else or_bad_line (event_line s (split_words line))) ≡ Ok l → ReadsLine s l
     by true is = let same : Skipped ≡ l = cc is in subst (ReadsLine s) same tt
-    by false is = event_line-words s (words_of line) l (or_bad_line-some (event_line s (words_of line)) l is)
+    by false is = event_line-words s (split_words line) l (or_bad_line-some (event_line s (split_words line)) l is)

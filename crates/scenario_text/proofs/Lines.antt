@@ -15,9 +15,9 @@ use Rattle.scenario_text.proofs.LineWords.{ReadsCaller, ReadsLine, ReadsProcess,
 use Rattle.scenario_text.proofs.Read.{mapped, chosen, passed}
 use Rattle.scenario_text.proofs.Limits.{shape-of}
 use Rattle.scenario_text.proofs.Values.{act-bytes}
-use Rattle.scenario_text.specs.Meaning.{line_of, group_line, group_of, group_within, group_unless, first_out_of_range}
+use Rattle.scenario_text.specs.Meaning.{line_meaning, group_line, group_line_of, group_within, group_unless, first_out_of_range}
 use Rattle.scenario_text.specs.Meaning.{is_skipped, IsWithin, IsLineOf}
-use Rattle.scenario_text.specs.Words.{number_below, process_of_word, partition_of_word, words_of}
+use Rattle.scenario_text.specs.Words.{number_below, process_of_word, partition_of_word, split_words}
 use Rattle.scenario_text.specs.declared.line.Line.{Line}
 use Rattle.scenario_text.specs.declared.line.LineFault.{LineFault}
 use Rattle.scenario_text.specs.declared.line.LineFault.TheVariants.{BadLine}
@@ -86,7 +86,7 @@ group_within-group d l is = by (first_out_of_range d) refl is
     by None none is = let same : Group d ≡ l = cc is in subst (IsLineOf None) same (shape-of d none)
     by (Some field) some is = cc is
 
-group_of-group : (k m blocks block : Option ℕ) (l : Line) → group_of k m blocks block ≡ Ok l → IsLineOf None l
+group_of-group : (k m blocks block : Option ℕ) (l : Line) → group_line_of k m blocks block ≡ Ok l → IsLineOf None l
 group_of-group None m blocks block l is = cc is
 group_of-group (Some k) None blocks block l is = cc is
 group_of-group (Some k) (Some m) None block l is = cc is
@@ -102,7 +102,7 @@ group_line-group (a ∷ b ∷ c ∷ d ∷ []) l is = cc is
 group_line-group (name ∷ k ∷ m ∷ blocks ∷ block ∷ []) l is = by (bytes_eq name (codes "group")) is
   where
     numbers : Result Line LineFault
-    numbers = group_of (number_below (2 ^ 32) k) (number_below (2 ^ 32) m) (number_below (2 ^ 32) blocks) (number_below (2 ^ 32) block)
+    numbers = group_line_of (number_below (2 ^ 32) k) (number_below (2 ^ 32) m) (number_below (2 ^ 32) blocks) (number_below (2 ^ 32) block)
 
     by : (b : Bool) → (if b then numbers else Err BadLine) ≡ Ok l → IsLineOf None l
     by true is = group_of-group (number_below (2 ^ 32) k) (number_below (2 ^ 32) m) (number_below (2 ^ 32) blocks) (number_below (2 ^ 32) block) l is
@@ -110,10 +110,10 @@ group_line-group (name ∷ k ∷ m ∷ blocks ∷ block ∷ []) l is = by (bytes
 group_line-group (a ∷ b ∷ c ∷ d ∷ e ∷ f ∷ words) l is = cc is
 
 -- what a line means may stand there
-pub line_of-within : (shape : Option Dimensions) (line : List ℕ) (l : Line) → line_of shape line ≡ Ok l → IsLineOf shape l
+pub line_of-within : (shape : Option Dimensions) (line : List ℕ) (l : Line) → line_meaning shape line ≡ Ok l → IsLineOf shape l
 line_of-within (Some s) line l is = line-within s l (line_of-words s line l is)
 line_of-within None line l is = by (is_skipped line) is
   where
-    by : (b : Bool) → (if b then Ok Skipped else group_line (words_of line)) ≡ Ok l → IsLineOf None l
+    by : (b : Bool) → (if b then Ok Skipped else group_line (split_words line)) ≡ Ok l → IsLineOf None l
     by true is = let same : Skipped ≡ l = cc is in subst (IsLineOf None) same tt
-    by false is = group_line-group (words_of line) l is
+    by false is = group_line-group (split_words line) l is

@@ -7,13 +7,13 @@ use Rattle.std.specs.Result.{result_ok}
 use Rattle.std.specs.Str.{bytes_eq}
 use Rattle.hex.proofs.HexLemmas.{decode_of-ok}
 use Rattle.hex.specs.Hex.{IsBytes, decode_of}
-use Rattle.memc_table.specs.Act.{value_of}
+use Rattle.memc_table.specs.Act.{act_value}
 use Rattle.memc_table.specs.Ruling.{longest_value}
 use Rattle.memc_table.specs.declared.act.Act.{Act}
 use Rattle.memc_table.specs.declared.act.Act.TheVariants as act
 use Rattle.scenario_text.proofs.ActWords.{ReadsAct, ReadsValue}
 use Rattle.scenario_text.proofs.Read.{bound, chosen, passed}
-use Rattle.scenario_text.specs.Words.{number_below, hex_value, if_short, bytes_of, repeated, value_of_word}
+use Rattle.scenario_text.specs.Words.{number_below, hex_value, if_short, repeated_bytes, repeated, value_of_word}
 
 abbrev pub AreBytes : List ℕ → Type 0
 AreBytes bytes = All (λ b. b < 256) bytes
@@ -40,7 +40,7 @@ if_short-value : (o : Option (List ℕ)) (value : List ℕ) → if_short o ≡ S
 if_short-value None value is = cc is
 if_short-value (Some x) value is = (passed (nat_le (length x) longest_value) (Some x) value is).1
 
-bytes_of-bytes : (n : ℕ) (byte value : List ℕ) → IsBytes byte → bytes_of n byte ≡ Some value → AreBytes value
+bytes_of-bytes : (n : ℕ) (byte value : List ℕ) → IsBytes byte → repeated_bytes n byte ≡ Some value → AreBytes value
 bytes_of-bytes n [] value h is = cc is
 bytes_of-bytes n (b ∷ []) value h is =
     let same : replicate n b ≡ value = cc ((passed (nat_lt 0 n) (Some (replicate n b)) value is).1) in
@@ -71,7 +71,7 @@ value-bytes : (value : List ℕ) → ReadsValue value → AreBytes value
 value-bytes value read = value_of_word-bytes read.0 value read.1
 
 -- the value of an op that is read consists of bytes
-pub act-bytes : (a : Act) → ReadsAct a → AreBytes (value_of a)
+pub act-bytes : (a : Act) → ReadsAct a → AreBytes (act_value a)
 act-bytes (act.Set key flags expiry value) read = value-bytes value read.1.valued
 act-bytes (act.Add key flags expiry value) read = value-bytes value read.1.valued
 act-bytes (act.Replace key flags expiry value) read = value-bytes value read.1.valued

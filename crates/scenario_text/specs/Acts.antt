@@ -34,9 +34,9 @@ exptime_of (word ∷ []) = signed_of word
 exptime_of _ = None
 
 -- what an item is made of: the words `<value>` or `<value> <exptime>`, with these flags
-unfoldable pub store_of : List ℕ → List (List ℕ) → Option Store
-store_of flags [] = None
-store_of flags (value ∷ exptime) = do
+unfoldable pub store_of_words : List ℕ → List (List ℕ) → Option Store
+store_of_words flags [] = None
+store_of_words flags (value ∷ exptime) = do
   flags ← number_below (2 ^ 32) flags
   value ← value_of_word value
   expiry ← exptime_of exptime
@@ -49,41 +49,41 @@ stored Add key s = act.Add key s.flags s.expiry s.value
 stored Replace key s = act.Replace key s.flags s.expiry s.value
 
 -- what a verb asks of a key, with the words behind it
-unfoldable pub act_by : Verb → List ℕ → List (List ℕ) → Option Act
-act_by verb.Get key [] = option_map act.Get (key_of_word key)
-act_by (verb.Store mode) key (flags ∷ words) = do
+unfoldable pub act_of_verb : Verb → List ℕ → List (List ℕ) → Option Act
+act_of_verb verb.Get key [] = option_map act.Get (key_of_word key)
+act_of_verb (verb.Store mode) key (flags ∷ words) = do
   key ← key_of_word key
-  s ← store_of flags words
+  s ← store_of_words flags words
   Some (stored mode key s)
-act_by verb.Cas key (flags ∷ cas ∷ words) = do
+act_of_verb verb.Cas key (flags ∷ cas ∷ words) = do
   key ← key_of_word key
   cas ← number_of cas
-  s ← store_of flags words
+  s ← store_of_words flags words
   Some (act.Cas key s.flags s.expiry cas s.value)
-act_by verb.Delete key [] = option_map act.Delete (key_of_word key)
-act_by verb.Touch key (exptime ∷ []) = do
+act_of_verb verb.Delete key [] = option_map act.Delete (key_of_word key)
+act_of_verb verb.Touch key (exptime ∷ []) = do
   key ← key_of_word key
   expiry ← signed_of exptime
   Some (act.Touch key expiry)
-act_by verb.Append key (value ∷ []) = do
+act_of_verb verb.Append key (value ∷ []) = do
   key ← key_of_word key
   value ← value_of_word value
   Some (act.Append key value)
-act_by verb.Prepend key (value ∷ []) = do
+act_of_verb verb.Prepend key (value ∷ []) = do
   key ← key_of_word key
   value ← value_of_word value
   Some (act.Prepend key value)
-act_by verb.Incr key (by ∷ []) = do
+act_of_verb verb.Incr key (by ∷ []) = do
   key ← key_of_word key
   by ← number_of by
   Some (act.Incr key by)
-act_by verb.Decr key (by ∷ []) = do
+act_of_verb verb.Decr key (by ∷ []) = do
   key ← key_of_word key
   by ← number_of by
   Some (act.Decr key by)
-act_by _ _ _ = None
+act_of_verb _ _ _ = None
 
 -- what the words of an op ask: `<verb> <key>`, and what the verb has behind it
-abbrev pub act_of : List (List ℕ) → Option Act
-act_of (verb ∷ key ∷ words) = verb_of verb >>= λ verb. act_by verb key words
-act_of _ = None
+abbrev pub act_of_words : List (List ℕ) → Option Act
+act_of_words (verb ∷ key ∷ words) = verb_of verb >>= λ verb. act_of_verb verb key words
+act_of_words _ = None

@@ -8,10 +8,10 @@ use Rattle.group_types.specs.declared.process.ProcessId.{ProcessId}
 use Rattle.group_types.specs.declared.run.Run.{Run}
 use Rattle.group_types.specs.declared.shape.Field.{Field}
 use Rattle.group_types.specs.declared.shape.Field.TheVariants.{K, M, Block, Blocks}
-use Rattle.memc_table.specs.Act.{value_of}
+use Rattle.memc_table.specs.Act.{act_value}
 use Rattle.memc_table.specs.Numeral.{number_of}
-use Rattle.scenario_text.specs.Acts.{act_of}
-use Rattle.scenario_text.specs.Words.{◌>>=◌, words_of, number_below, process_of_word, partition_of_word, run_of, keep_of_word}
+use Rattle.scenario_text.specs.Acts.{act_of_words}
+use Rattle.scenario_text.specs.Words.{◌>>=◌, split_words, number_below, process_of_word, partition_of_word, run_of_words, keep_of_word}
 use Rattle.scenario_text.specs.declared.keyword.Keyword.{Keyword}
 use Rattle.scenario_text.specs.declared.keyword.Keyword.TheVariants as keyword
 use Rattle.scenario_text.specs.declared.line.Line.{Line}
@@ -45,13 +45,13 @@ unfoldable pub group_within : Dimensions → Result Line LineFault
 group_within d = group_unless d (first_out_of_range d)
 
 -- the group of numbers, if all words are numbers
-abbrev pub group_of : Option ℕ → Option ℕ → Option ℕ → Option ℕ → Result Line LineFault
-group_of (Some k) (Some m) (Some blocks) (Some block) = group_within (record { k = k; m = m; blocks = blocks; block = block })
-group_of _ _ _ _ = Err BadLine
+abbrev pub group_line_of : Option ℕ → Option ℕ → Option ℕ → Option ℕ → Result Line LineFault
+group_line_of (Some k) (Some m) (Some blocks) (Some block) = group_within (record { k = k; m = m; blocks = blocks; block = block })
+group_line_of _ _ _ _ = Err BadLine
 
 -- the words `group <k> <m> <blocks> <block>`
 abbrev pub group_line : List (List ℕ) → Result Line LineFault
-group_line (name ∷ k ∷ m ∷ blocks ∷ block ∷ []) = if bytes_eq name (codes "group") then group_of (number_below (2 ^ 32) k) (number_below (2 ^ 32) m) (number_below (2 ^ 32) blocks) (number_below (2 ^ 32) block) else Err BadLine
+group_line (name ∷ k ∷ m ∷ blocks ∷ block ∷ []) = if bytes_eq name (codes "group") then group_line_of (number_below (2 ^ 32) k) (number_below (2 ^ 32) m) (number_below (2 ^ 32) blocks) (number_below (2 ^ 32) block) else Err BadLine
 group_line _ = Err BadLine
 
 -- the keyword that the first word of a line is
@@ -83,7 +83,7 @@ unfoldable pub line_by : Dimensions → Keyword → List (List ℕ) → Option L
 line_by shape keyword.Ask (caller ∷ at ∷ op) = do
   caller ← number_below callers caller
   at ← process_of_word shape at
-  act ← act_of op
+  act ← act_of_words op
   Some (Ask caller at act)
 line_by shape keyword.Collect (caller ∷ call ∷ at ∷ []) = do
   caller ← number_below callers caller
@@ -108,7 +108,7 @@ line_by shape keyword.Trace (caller ∷ call ∷ partition ∷ at ∷ []) = do
 line_by shape keyword.Drain [] = Some Drain
 line_by shape keyword.Show (at ∷ from ∷ len ∷ []) = do
   at ← process_of_word shape at
-  run ← run_of from len
+  run ← run_of_words from len
   look shape at run
 line_by shape keyword.Places [] = Some Places
 line_by shape keyword.Time (moment ∷ []) = option_map Time (number_below (2 ^ 62 + 1) moment)
@@ -131,15 +131,15 @@ meaning_of None words = group_line words
 meaning_of (Some shape) words = or_bad_line (event_line shape words)
 
 -- what a line means, or why it is refused
-abbrev pub line_of : Option Dimensions → List ℕ → Result Line LineFault
-line_of shape line = if is_skipped line then Ok Skipped else meaning_of shape (words_of line)
+abbrev pub line_meaning : Option Dimensions → List ℕ → Result Line LineFault
+line_meaning shape line = if is_skipped line then Ok Skipped else meaning_of shape (split_words line)
 
 -- what a line names is within the group's limits: callers, processes, partitions, runs and moments, and a
 -- value consists of bytes
 abbrev pub IsWithin : Dimensions → Line → Type 0
 IsWithin s Skipped = ⊤
 IsWithin s (Group _) = ⊥
-IsWithin s (Ask caller at act) = (caller < callers) × IsProcess s at × All (λ b. b < 256) (value_of act)
+IsWithin s (Ask caller at act) = (caller < callers) × IsProcess s at × All (λ b. b < 256) (act_value act)
 IsWithin s (Collect caller call at) = (caller < callers) × IsProcess s at
 IsWithin s (Deliver from to) = IsProcess s from × IsProcess s to × (from ≢ to)
 IsWithin s (Fail at keep) = IsProcess s at

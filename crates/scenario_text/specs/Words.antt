@@ -19,8 +19,8 @@ o >>= f = option_and_then f o
 
 -- the words of a line: what stands between its single spaces. Two spaces together, and one at
 -- either end, leave an empty word, which has no meaning anywhere
-abbrev pub words_of : List ℕ → List (List ℕ)
-words_of line = slice_split (λ b. b == 32) line
+abbrev pub split_words : List ℕ → List (List ℕ)
+split_words line = slice_split (λ b. b == 32) line
 
 -- the number of a number word, if it is below the limit
 unfoldable pub number_below : ℕ → List ℕ → Option ℕ
@@ -39,8 +39,8 @@ abbrev pub partition_of_word : Dimensions → List ℕ → Option Partition
 partition_of_word shape word = option_map (λ d. record { 0 = d }) (number_below shape.k word)
 
 -- the run of an address and a length
-abbrev pub run_of : List ℕ → List ℕ → Option Run
-run_of at len = do
+abbrev pub run_of_words : List ℕ → List ℕ → Option Run
+run_of_words at len = do
   at ← number_below (2 ^ 32) at
   len ← number_below (2 ^ 32) len
   Some (record { at = at; len = len })
@@ -63,16 +63,16 @@ if_short None = None
 if_short (Some value) = if nat_le (length value) longest_value then Some value else None
 
 -- so many bytes, of one that is given
-abbrev pub bytes_of : ℕ → List ℕ → Option (List ℕ)
-bytes_of len (byte ∷ []) = if nat_lt 0 len then Some (replicate len byte) else None
-bytes_of len _ = None
+abbrev pub repeated_bytes : ℕ → List ℕ → Option (List ℕ)
+repeated_bytes len (byte ∷ []) = if nat_lt 0 len then Some (replicate len byte) else None
+repeated_bytes len _ = None
 
 -- a length and the two digits of a byte: so many of this byte
 abbrev pub repeated : List (List ℕ) → Option (List ℕ)
 repeated (len ∷ digits ∷ []) = do
   len ← number_below (longest_value + 1) len
   byte ← hex_value digits
-  bytes_of len byte
+  repeated_bytes len byte
 repeated _ = None
 
 -- the value that a word is: `-` for no bytes, `*<len>*<digits of a byte>`, or hexadecimal digits

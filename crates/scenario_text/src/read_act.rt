@@ -1,6 +1,6 @@
 ghost use Rattle.std.specs.Prelude.{◌≡◌, ◌<◌, All, map, IfOk, [], ◌∷◌};
-ghost use Rattle.memc_table.specs.Act.{value_of};
-ghost use Rattle.scenario_text.specs.Acts.{act_of, act_by, stored, store_of, exptime_of};
+ghost use Rattle.memc_table.specs.Act.{act_value};
+ghost use Rattle.scenario_text.specs.Acts.{act_of_words, act_of_verb, stored, store_of_words, exptime_of};
 ghost use Rattle.scenario_text.specs.Reads.{IsReadAs};
 
 use crate::line::LineFault;
@@ -21,8 +21,8 @@ pub struct Store {
 
 /// Reads an op: a verb, a key, and what the verb has behind it.
 pub(crate) fn read_act(alloc: Global, words: &[&[u8]]) -> Result<Act, LineFault>
-    ensures meaning { IsReadAs result (act_of (map (λ word. word.now) words.now)) }
-    ensures bytes { IfOk result (λ act. All (λ b. b < 256) (value_of act)) }
+    ensures meaning { IsReadAs result (act_of_words (map (λ word. word.now) words.now)) }
+    ensures bytes { IfOk result (λ act. All (λ b. b < 256) (act_value act)) }
 {
     match words {
         [name, key, words @ ..] => match verb_named(name) {
@@ -34,8 +34,8 @@ pub(crate) fn read_act(alloc: Global, words: &[&[u8]]) -> Result<Act, LineFault>
 }
 
 fn act(alloc: Global, verb: Verb, key: &[u8], words: &[&[u8]]) -> Result<Act, LineFault>
-    ensures meaning { IsReadAs result (act_by verb key.now (map (λ word. word.now) words.now)) }
-    ensures bytes { IfOk result (λ act. All (λ b. b < 256) (value_of act)) }
+    ensures meaning { IsReadAs result (act_of_verb verb key.now (map (λ word. word.now) words.now)) }
+    ensures bytes { IfOk result (λ act. All (λ b. b < 256) (act_value act)) }
 {
     match verb {
         Verb::Get => get(alloc, key, words),
@@ -52,8 +52,8 @@ fn act(alloc: Global, verb: Verb, key: &[u8], words: &[&[u8]]) -> Result<Act, Li
 
 #[tactic(auto, unfolding(crate::specs::Acts::act_by))]
 fn get(alloc: Global, key: &[u8], words: &[&[u8]]) -> Result<Act, LineFault>
-    ensures meaning { IsReadAs result (act_by Verb.Get key.now (map (λ word. word.now) words.now)) }
-    ensures bytes { IfOk result (λ act. value_of act ≡ []) }
+    ensures meaning { IsReadAs result (act_of_verb Verb.Get key.now (map (λ word. word.now) words.now)) }
+    ensures bytes { IfOk result (λ act. act_value act ≡ []) }
 {
     let [] = words else {
         return Err(LineFault::BadLine);
@@ -69,8 +69,8 @@ fn read_stored(
     key: &[u8],
     words: &[&[u8]],
 ) -> Result<Act, LineFault>
-    ensures meaning { IsReadAs result (act_by (Verb.Store mode) key.now (map (λ word. word.now) words.now)) }
-    ensures bytes { IfOk result (λ act. All (λ b. b < 256) (value_of act)) }
+    ensures meaning { IsReadAs result (act_of_verb (Verb.Store mode) key.now (map (λ word. word.now) words.now)) }
+    ensures bytes { IfOk result (λ act. All (λ b. b < 256) (act_value act)) }
 {
     let [flags, words @ ..] = words else {
         return Err(LineFault::BadLine);
@@ -81,8 +81,8 @@ fn read_stored(
 
 #[tactic(auto, unfolding(crate::specs::Acts::act_by))]
 fn compare(alloc: Global, key: &[u8], words: &[&[u8]]) -> Result<Act, LineFault>
-    ensures meaning { IsReadAs result (act_by Verb.Cas key.now (map (λ word. word.now) words.now)) }
-    ensures bytes { IfOk result (λ act. All (λ b. b < 256) (value_of act)) }
+    ensures meaning { IsReadAs result (act_of_verb Verb.Cas key.now (map (λ word. word.now) words.now)) }
+    ensures bytes { IfOk result (λ act. All (λ b. b < 256) (act_value act)) }
 {
     let [flags, cas, words @ ..] = words else {
         return Err(LineFault::BadLine);
@@ -101,8 +101,8 @@ fn compare(alloc: Global, key: &[u8], words: &[&[u8]]) -> Result<Act, LineFault>
 
 #[tactic(auto, unfolding(crate::specs::Acts::act_by))]
 fn delete(alloc: Global, key: &[u8], words: &[&[u8]]) -> Result<Act, LineFault>
-    ensures meaning { IsReadAs result (act_by Verb.Delete key.now (map (λ word. word.now) words.now)) }
-    ensures bytes { IfOk result (λ act. value_of act ≡ []) }
+    ensures meaning { IsReadAs result (act_of_verb Verb.Delete key.now (map (λ word. word.now) words.now)) }
+    ensures bytes { IfOk result (λ act. act_value act ≡ []) }
 {
     let [] = words else {
         return Err(LineFault::BadLine);
@@ -113,8 +113,8 @@ fn delete(alloc: Global, key: &[u8], words: &[&[u8]]) -> Result<Act, LineFault>
 
 #[tactic(auto, unfolding(crate::specs::Acts::act_by))]
 fn touch(alloc: Global, key: &[u8], words: &[&[u8]]) -> Result<Act, LineFault>
-    ensures meaning { IsReadAs result (act_by Verb.Touch key.now (map (λ word. word.now) words.now)) }
-    ensures bytes { IfOk result (λ act. value_of act ≡ []) }
+    ensures meaning { IsReadAs result (act_of_verb Verb.Touch key.now (map (λ word. word.now) words.now)) }
+    ensures bytes { IfOk result (λ act. act_value act ≡ []) }
 {
     let [exptime] = words else {
         return Err(LineFault::BadLine);
@@ -126,8 +126,8 @@ fn touch(alloc: Global, key: &[u8], words: &[&[u8]]) -> Result<Act, LineFault>
 
 #[tactic(auto, unfolding(crate::specs::Acts::act_by))]
 fn append(alloc: Global, key: &[u8], words: &[&[u8]]) -> Result<Act, LineFault>
-    ensures meaning { IsReadAs result (act_by Verb.Append key.now (map (λ word. word.now) words.now)) }
-    ensures bytes { IfOk result (λ act. All (λ b. b < 256) (value_of act)) }
+    ensures meaning { IsReadAs result (act_of_verb Verb.Append key.now (map (λ word. word.now) words.now)) }
+    ensures bytes { IfOk result (λ act. All (λ b. b < 256) (act_value act)) }
 {
     let [value] = words else {
         return Err(LineFault::BadLine);
@@ -139,8 +139,8 @@ fn append(alloc: Global, key: &[u8], words: &[&[u8]]) -> Result<Act, LineFault>
 
 #[tactic(auto, unfolding(crate::specs::Acts::act_by))]
 fn prepend(alloc: Global, key: &[u8], words: &[&[u8]]) -> Result<Act, LineFault>
-    ensures meaning { IsReadAs result (act_by Verb.Prepend key.now (map (λ word. word.now) words.now)) }
-    ensures bytes { IfOk result (λ act. All (λ b. b < 256) (value_of act)) }
+    ensures meaning { IsReadAs result (act_of_verb Verb.Prepend key.now (map (λ word. word.now) words.now)) }
+    ensures bytes { IfOk result (λ act. All (λ b. b < 256) (act_value act)) }
 {
     let [value] = words else {
         return Err(LineFault::BadLine);
@@ -152,8 +152,8 @@ fn prepend(alloc: Global, key: &[u8], words: &[&[u8]]) -> Result<Act, LineFault>
 
 #[tactic(auto, unfolding(crate::specs::Acts::act_by))]
 fn incr(alloc: Global, key: &[u8], words: &[&[u8]]) -> Result<Act, LineFault>
-    ensures meaning { IsReadAs result (act_by Verb.Incr key.now (map (λ word. word.now) words.now)) }
-    ensures bytes { IfOk result (λ act. value_of act ≡ []) }
+    ensures meaning { IsReadAs result (act_of_verb Verb.Incr key.now (map (λ word. word.now) words.now)) }
+    ensures bytes { IfOk result (λ act. act_value act ≡ []) }
 {
     let [by] = words else {
         return Err(LineFault::BadLine);
@@ -165,8 +165,8 @@ fn incr(alloc: Global, key: &[u8], words: &[&[u8]]) -> Result<Act, LineFault>
 
 #[tactic(auto, unfolding(crate::specs::Acts::act_by))]
 fn decr(alloc: Global, key: &[u8], words: &[&[u8]]) -> Result<Act, LineFault>
-    ensures meaning { IsReadAs result (act_by Verb.Decr key.now (map (λ word. word.now) words.now)) }
-    ensures bytes { IfOk result (λ act. value_of act ≡ []) }
+    ensures meaning { IsReadAs result (act_of_verb Verb.Decr key.now (map (λ word. word.now) words.now)) }
+    ensures bytes { IfOk result (λ act. act_value act ≡ []) }
 {
     let [by] = words else {
         return Err(LineFault::BadLine);
@@ -178,7 +178,7 @@ fn decr(alloc: Global, key: &[u8], words: &[&[u8]]) -> Result<Act, LineFault>
 
 fn stored(mode: StoreMode, key: Key, store: Store) -> Act
     ensures act { result ≡ stored mode key store }
-    ensures value { value_of result ≡ store.value }
+    ensures value { act_value result ≡ store.value }
 {
     let Store {
         flags,
@@ -210,7 +210,7 @@ fn stored(mode: StoreMode, key: Key, store: Store) -> Act
 /// Reads flags, a value, and an exptime where there is one.
 #[tactic(auto, unfolding(crate::specs::Acts::store_of))]
 fn read_store(alloc: Global, flags: &[u8], words: &[&[u8]]) -> Result<Store, LineFault>
-    ensures meaning { IsReadAs result (store_of flags.now (map (λ word. word.now) words.now)) }
+    ensures meaning { IsReadAs result (store_of_words flags.now (map (λ word. word.now) words.now)) }
     ensures bytes { IfOk result (λ store. All (λ b. b < 256) store.value) }
 {
     match words {

@@ -3,7 +3,7 @@ ghost use Rattle.group_types.specs.Dimensions.{Dimensions, callers};
 ghost use Rattle.group_types.specs.Names.{IsProcess};
 ghost use Rattle.scenario_text.specs.Meaning.{event_line, line_by, delivery, look, IsWithin};
 ghost use Rattle.scenario_text.specs.Reads.{IsReadAs};
-ghost use Rattle.scenario_text.specs.Words.{number_below, partition_of_word, run_of};
+ghost use Rattle.scenario_text.specs.Words.{number_below, partition_of_word, run_of_words};
 
 use crate::keyword::{Keyword, keyword_named};
 use crate::line::{Line, LineFault};
@@ -210,7 +210,7 @@ fn read_partition(shape: Shape, word: &[u8]) -> Result<Partition, LineFault>
 }
 
 fn read_run(from: &[u8], len: &[u8]) -> Result<Run, LineFault>
-    ensures { IsReadAs result (run_of from.now len.now) }
+    ensures { IsReadAs result (run_of_words from.now len.now) }
 {
     Ok(Run {
         at: read_u32(from)?,

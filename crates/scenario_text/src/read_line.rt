@@ -1,5 +1,5 @@
 ghost use Rattle.std.specs.Prelude.{◌≡◌, map, IfOk};
-ghost use Rattle.scenario_text.specs.Meaning.{line_of, is_skipped, group_line, group_within, IsLineOf};
+ghost use Rattle.scenario_text.specs.Meaning.{line_meaning, is_skipped, group_line, group_within, IsLineOf};
 ghost use Rattle.scenario_text.specs.Reads.{IsMeaning};
 
 use crate::line::{Line, LineFault};
@@ -12,7 +12,7 @@ use std::alloc::Global;
 /// Reads a line without its end. A script without a shape yet has only its group line, and one
 /// with a shape has no further group line.
 pub fn read_line(alloc: Global, shape: Option<Shape>, line: &[u8]) -> Result<Line, LineFault>
-    ensures meaning { IsMeaning result (line_of shape line.now) }
+    ensures meaning { IsMeaning result (line_meaning shape line.now) }
     ensures within { IfOk result (IsLineOf shape) }
 {
     if is_skipped(line) {

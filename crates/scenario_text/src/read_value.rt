@@ -1,7 +1,7 @@
 ghost use Rattle.std.specs.Prelude.{◌<◌, ◌==◌, All, IfOk};
 ghost use Rattle.std.specs.List.{slice_split};
 ghost use Rattle.scenario_text.specs.Reads.{IsReadAs, IsReadBy};
-ghost use Rattle.scenario_text.specs.Words.{value_of_word, hex_value, if_short, repeated, bytes_of};
+ghost use Rattle.scenario_text.specs.Words.{value_of_word, hex_value, if_short, repeated, repeated_bytes};
 
 use crate::line::LineFault;
 use crate::read_word::read_number;
@@ -48,7 +48,7 @@ fn read_repeated(alloc: Global, parts: &[u8]) -> Result<Vec<u8>, LineFault>
 }
 
 fn repeat(alloc: Global, len: usize, byte: &[u8]) -> Result<Vec<u8>, LineFault>
-    ensures { IsReadBy (λ bytes. bytes.items) result (bytes_of len byte.now) }
+    ensures { IsReadBy (λ bytes. bytes.items) result (repeated_bytes len byte.now) }
 {
     match byte {
         [byte] if 0 < len => Ok(vec![in alloc; *byte; len]?),

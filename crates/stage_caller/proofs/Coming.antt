@@ -14,8 +14,8 @@ use Rattle.group_stage.specs.Seated.{view_of}
 use Rattle.group_stage.specs.Views.{asks_by}
 use Rattle.group_stage.specs.declared.seat.Seat.{Seat}
 use Rattle.group_stage.specs.declared.view.Numbered.{Numbered}
-use Rattle.stage_caller.specs.Calling.{Brings, HasCome, IsCalled, IsIdle, IsOwn, IsSame, Wish, asked_to, collected_to, traced_to, wish_of}
-use Rattle.stage_caller.specs.Moving.{HasStepped, IsAsked, Leads}
+use Rattle.stage_caller.specs.Calling.{Brings, HasMovedSeat, IsCalled, IsOwnEvent, IsSameSeat, MadeNoEvent, Wish, asked_to, collected_to, traced_to, wish_of}
+use Rattle.stage_caller.specs.Moving.{HasStepped, StepLeads, WasAskedBefore}
 use Rattle.stage_caller.specs.declared.phase.Next.{Next}
 use Rattle.stage_caller.specs.declared.phase.Next.TheVariants.{Ends, Goes}
 use Rattle.stage_caller.specs.declared.phase.Phase.{Phase}
@@ -40,7 +40,7 @@ brings-append wish n (Ends end) middle last (x ∷ xs) ys first more = absurd fi
 
 -- where a call that waits waits for an ask before
 abbrev pub InTime : ℕ → Next → Type 0
-InTime n (Goes phase) = IsAsked n phase
+InTime n (Goes phase) = WasAskedBefore n phase
 InTime n (Ends end) = Unit {0}
 
 own-ask : (c : ℕ) (op : Asked) (p : _) → ask_by c (Ask c op p) ≡ 1
@@ -96,20 +96,20 @@ traced-in n k says.AlreadyDead low = low
 traced-in n k says.Gone low = tt
 traced-in n k (says.Stale number) low = low
 
-own-in : (wish : Wish) (n : ℕ) (phase : Phase) (e : Event) (a : Answer) (next : Next) → IsOwn wish n phase e a next
-    → IsAsked n phase → InTime (n + ask_by wish.caller e) next
+own-in : (wish : Wish) (n : ℕ) (phase : Phase) (e : Event) (a : Answer) (next : Next) → IsOwnEvent wish n phase e a next
+    → WasAskedBefore n phase → InTime (n + ask_by wish.caller e) next
 own-in wish n phase (Ask caller op p) a next own time =
     subst (InTime (n + ask_by wish.caller (Ask caller op p))) (sym own.3)
     (subst (λ (k : ℕ). InTime (n + k) (asked_to n a)) (sym (ap (λ (c : ℕ). ask_by wish.caller (Ask c op p)) own.1 ∙ own-ask wish.caller op p)) (asked-in n a))
 own-in wish n phase (Collect caller call p) a next own time =
-    subst (InTime (n + 0)) (sym own.2) (collected-in (n + 0) call a (low (subst (IsAsked n) own.0 time))) where
+    subst (InTime (n + 0)) (sym own.2) (collected-in (n + 0) call a (low (subst (WasAskedBefore n) own.0 time))) where
       low : call < n → call < n + 0
       low is = omega (arith, is)
 own-in wish n phase (Trace caller call d p) a next own time =
-    subst (InTime (n + 0)) (sym own.3) (traced-in (n + 0) call a (low (subst (IsAsked n) own.0 time))) where
+    subst (InTime (n + 0)) (sym own.3) (traced-in (n + 0) call a (low (subst (WasAskedBefore n) own.0 time))) where
       low : call < n → call < n + 0
       low is = omega (arith, is)
-own-in wish n phase (Deliver from to) a next own time = subst (InTime (n + 0)) (sym own) (subst (λ (k : ℕ). IsAsked k phase) (omega arith) time)
+own-in wish n phase (Deliver from to) a next own time = subst (InTime (n + 0)) (sym own) (subst (λ (k : ℕ). WasAskedBefore k phase) (omega arith) time)
 own-in wish n phase (Fail p keep) a next own time = absurd own
 own-in wish n phase (Flush p) a next own time = absurd own
 
@@ -122,18 +122,18 @@ brings-in wish n (Goes phase) last (x ∷ xs) brings time =
 brings-in wish n (Ends end) last (x ∷ xs) brings time = absurd brings
 
 -- how often a seat asked, behind these events
-asks-more : (before after : Seat) (xs : List Numbered) → IsSame before after
+asks-more : (before after : Seat) (xs : List Numbered) → IsSameSeat before after
     → (view_of after).made ≡ (view_of before).made ++ xs → after.asks ≡ before.asks + asks_by before.caller xs
 asks-more before after xs same made =
     after.is_seat.asked ∙ ap (λ (c : ℕ). asks_by c (view_of after).made) same.caller ∙ ap (asks_by before.caller) made
     ∙ asks-append before.caller (view_of before).made xs ∙ ap (λ (n : ℕ). n + asks_by before.caller xs) (sym before.is_seat.asked)
 
-pub same-wish : (before after : Seat) (op : Asked) → IsSame before after → wish_of after op ≡ wish_of before op
+pub same-wish : (before after : Seat) (op : Asked) → IsSameSeat before after → wish_of after op ≡ wish_of before op
 same-wish before after op same =
     ap (λ (c : ℕ). record { caller = c; op = op; home = home_of (key_of op.act) (view_of after).shape.k }) same.caller
     ∙ ap (λ (k : ℕ). record { caller = before.caller; op = op; home = home_of (key_of op.act) k }) (ap (λ (s : _). s.k) same.shape)
 
-pub come-none : (before : Seat) (op : Asked) (start : Phase) → HasCome before op start before (Goes start)
+pub come-none : (before : Seat) (op : Asked) (start : Phase) → HasMovedSeat before op start before (Goes start)
 come-none before op start = record {
   same = record { table = refl; shape = refl; caller = refl };
   events = [];
@@ -141,8 +141,8 @@ come-none before op start = record {
   brings = refl;
 }
 
-pub come-more : (before middle after : Seat) (op : Asked) (start phase : Phase) (step : Step) → HasCome before op start middle (Goes phase)
-    → (s : HasStepped (wish_of middle op) phase middle step after) → HasCome before op start after s.last
+pub come-more : (before middle after : Seat) (op : Asked) (start phase : Phase) (step : Step) → HasMovedSeat before op start middle (Goes phase)
+    → (s : HasStepped (wish_of middle op) phase middle step after) → HasMovedSeat before op start after s.last
 come-more before middle after op start phase step come s = record {
   same = record { table = s.same.table ∙ come.same.table; shape = s.same.shape ∙ come.same.shape; caller = s.same.caller ∙ come.same.caller };
   events = come.events ++ s.events;
@@ -153,7 +153,7 @@ come-more before middle after op start phase step come s = record {
 }
 
 pub come-paused : (before middle after : Seat) (op : Asked) (start : Phase) (last : Next)
-    → HasCome before op start middle last → IsIdle middle after → HasCome before op start after last
+    → HasMovedSeat before op start middle last → MadeNoEvent middle after → HasMovedSeat before op start after last
 come-paused before middle after op start last come paused = record {
   same = record { table = paused.same.table ∙ come.same.table; shape = paused.same.shape ∙ come.same.shape; caller = paused.same.caller ∙ come.same.caller };
   events = come.events;
@@ -161,22 +161,22 @@ come-paused before middle after op start last come paused = record {
   brings = come.brings;
 }
 
-pub come-asked : (before after : Seat) (op : Asked) (start phase : Phase) → IsAsked before.asks start
-    → HasCome before op start after (Goes phase) → IsAsked after.asks phase
-come-asked before after op start phase asked come = subst (λ (n : ℕ). IsAsked n phase) (sym (asks-more before after come.events come.same come.made))
+pub come-asked : (before after : Seat) (op : Asked) (start phase : Phase) → WasAskedBefore before.asks start
+    → HasMovedSeat before op start after (Goes phase) → WasAskedBefore after.asks phase
+come-asked before after op start phase asked come = subst (λ (n : ℕ). WasAskedBefore n phase) (sym (asks-more before after come.events come.same come.made))
     (brings-in (wish_of before op) before.asks (Goes start) (Goes phase) come.events come.brings asked)
 
 pub come-goes : (before middle after : Seat) (op : Asked) (start phase next : Phase) (step : Step) (heard : _)
-    → step ≡ steps.Goes next heard → HasCome before op start middle (Goes phase)
-    → HasStepped (wish_of middle op) phase middle step after → HasCome before op start after (Goes next)
+    → step ≡ steps.Goes next heard → HasMovedSeat before op start middle (Goes phase)
+    → HasStepped (wish_of middle op) phase middle step after → HasMovedSeat before op start after (Goes next)
 come-goes before middle after op start phase next step heard is come s =
-    subst (HasCome before op start after) (subst (Leads middle after s.last) is s.leads).0 (come-more before middle after op start phase step come s)
+    subst (HasMovedSeat before op start after) (subst (StepLeads middle after s.last) is s.leads).0 (come-more before middle after op start phase step come s)
 
 pub called : (before middle after : Seat) (op : Asked) (start phase : Phase) (step : Step) (end : CallEnd)
-    → step ≡ steps.Ends end → HasCome before op start middle (Goes phase)
+    → step ≡ steps.Ends end → HasMovedSeat before op start middle (Goes phase)
     → HasStepped (wish_of middle op) phase middle step after → IsCalled before op start end after
 called before middle after op start phase step end is come s = record {
   last = s.last;
   come = come-more before middle after op start phase step come s;
-  over = subst (Leads middle after s.last) is s.leads;
+  over = subst (StepLeads middle after s.last) is s.leads;
 }

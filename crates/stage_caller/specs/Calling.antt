@@ -51,18 +51,18 @@ traced_to n says.Gone = Goes Asks
 traced_to n _ = Goes (Waits n)
 
 -- an event of a call at a phase, whose seat asked n times before, its answer, and where it leads
-abbrev pub IsOwn : Wish → ℕ → Phase → Event → Answer → Next → Type 0
-IsOwn wish n phase (Ask caller op p) answer next = (phase ≡ Asks) × (caller ≡ wish.caller) × (op ≡ wish.op) × (next ≡ asked_to n answer)
-IsOwn wish n phase (Collect caller call p) answer next = (phase ≡ Waits call) × (caller ≡ wish.caller) × (next ≡ collected_to call answer)
-IsOwn wish n phase (Trace caller call d p) answer next = (phase ≡ Waits call) × (caller ≡ wish.caller) × (d.0 ≡ wish.home) × (next ≡ traced_to call answer)
-IsOwn wish n phase (Deliver from to) answer next = next ≡ Goes phase
-IsOwn wish n phase (Fail p keep) answer next = ⊥
-IsOwn wish n phase (Flush p) answer next = ⊥
+abbrev pub IsOwnEvent : Wish → ℕ → Phase → Event → Answer → Next → Type 0
+IsOwnEvent wish n phase (Ask caller op p) answer next = (phase ≡ Asks) × (caller ≡ wish.caller) × (op ≡ wish.op) × (next ≡ asked_to n answer)
+IsOwnEvent wish n phase (Collect caller call p) answer next = (phase ≡ Waits call) × (caller ≡ wish.caller) × (next ≡ collected_to call answer)
+IsOwnEvent wish n phase (Trace caller call d p) answer next = (phase ≡ Waits call) × (caller ≡ wish.caller) × (d.0 ≡ wish.home) × (next ≡ traced_to call answer)
+IsOwnEvent wish n phase (Deliver from to) answer next = next ≡ Goes phase
+IsOwnEvent wish n phase (Fail p keep) answer next = ⊥
+IsOwnEvent wish n phase (Flush p) answer next = ⊥
 
 -- events of a call bring it further, whose seat asked n times before them
 abbrev pub Brings : Wish → ℕ → Next → List Numbered → Next → Type 0
 Brings wish n next [] last = last ≡ next
-Brings wish n (Goes phase) (x ∷ xs) last = (next : Next) × IsOwn wish n phase x.event x.answer next × Brings wish (n + ask_by wish.caller x.event) next xs last
+Brings wish n (Goes phase) (x ∷ xs) last = (next : Next) × IsOwnEvent wish n phase x.event x.answer next × Brings wish (n + ask_by wish.caller x.event) next xs last
 Brings wish n (Ends end) (x ∷ xs) last = ⊥
 
 -- the call is over: its last own event was answered so, or the seat has made all its calls
@@ -71,19 +71,19 @@ IsOver after (Ends by) end = end ≡ by
 IsOver after (Goes phase) end = ((view_of after).calls ≡ most_calls) × (end ≡ ends.Worn)
 
 -- it is the same seat, with the same number
-pub record IsSame (before after : Seat) : Type 0 where
+pub record IsSameSeat (before after : Seat) : Type 0 where
   pub table : after.raw.table_id ≡ before.raw.table_id
   pub shape : (view_of after).shape ≡ (view_of before).shape
   pub caller : after.caller ≡ before.caller
 
 -- the seat made no event
-pub record IsIdle (before after : Seat) : Type 0 where
-  pub same : IsSame before after
+pub record MadeNoEvent (before after : Seat) : Type 0 where
+  pub same : IsSameSeat before after
   pub made : (view_of after).made ≡ (view_of before).made
 
 -- what a call for an op made of its seat since it stood at a phase
-pub record HasCome (before : Seat) (op : Asked) (phase : Phase) (after : Seat) (last : Next) : Type 0 where
-  pub same : IsSame before after
+pub record HasMovedSeat (before : Seat) (op : Asked) (phase : Phase) (after : Seat) (last : Next) : Type 0 where
+  pub same : IsSameSeat before after
   pub events : List Numbered
   pub made : (view_of after).made ≡ (view_of before).made ++ events
   pub brings : Brings (wish_of before op) before.asks (Goes phase) events last
@@ -91,10 +91,10 @@ pub record HasCome (before : Seat) (op : Asked) (phase : Phase) (after : Seat) (
 -- what a call made of its seat since a phase, and ended so
 pub record IsCalled (before : Seat) (op : Asked) (phase : Phase) (end : CallEnd) (after : Seat) : Type 0 where
   pub last : Next
-  pub come : HasCome before op phase after last
+  pub come : HasMovedSeat before op phase after last
   pub over : IsOver after last end
 
 -- what a call for an op made of its seat since a phase before want of memory cut it short
-pub record HasStopped (before : Seat) (op : Asked) (phase : Phase) (after : Seat) : Type 0 where
+pub record IsSeatCutShort (before : Seat) (op : Asked) (phase : Phase) (after : Seat) : Type 0 where
   pub last : Next
-  pub come : HasCome before op phase after last
+  pub come : HasMovedSeat before op phase after last

@@ -10,7 +10,7 @@ use Rattle.group_stage.specs.Kept.{most_calls}
 use Rattle.group_stage.specs.Seated.{view_of}
 use Rattle.group_stage.specs.declared.seat.Seat.{Seat}
 use Rattle.group_stage.specs.declared.view.Numbered.{Numbered}
-use Rattle.stage_caller.specs.Calling.{IsIdle, IsSame}
+use Rattle.stage_caller.specs.Calling.{IsSameSeat, MadeNoEvent}
 
 -- how an order ends that made its event, by the answer
 abbrev pub failed_to : Answer → Option FailEnd
@@ -24,7 +24,7 @@ IsFailAnswer answer = (end : FailEnd) × (failed_to answer ≡ Some end)
 
 -- the seat made one event, and by that the order ends so
 pub record HasFailed (before : Seat) (p : ProcessId) (keep : ℕ) (end : FailEnd) (after : Seat) : Type 0 where
-  pub same : IsSame before after
+  pub same : IsSameSeat before after
   pub event : Numbered
   pub made : (view_of after).made ≡ (view_of before).made ++ event ∷ []
   pub is : event.event ≡ Fail p keep
@@ -34,6 +34,6 @@ pub record HasFailed (before : Seat) (p : ProcessId) (keep : ℕ) (end : FailEnd
 abbrev pub IsFailed : Seat → ProcessId → ℕ → FailEnd → Seat → Type 0
 IsFailed before p keep ends.Made after = HasFailed before p keep ends.Made after
 IsFailed before p keep ends.AlreadyDead after = HasFailed before p keep ends.AlreadyDead after
-IsFailed before p keep ends.Worn after = IsIdle before after × ((view_of after).calls ≡ most_calls)
+IsFailed before p keep ends.Worn after = MadeNoEvent before after × ((view_of after).calls ≡ most_calls)
 IsFailed before p keep ends.Off after = ⊥
 IsFailed before p keep ends.NoProcess after = ⊥

@@ -12,7 +12,7 @@ use Rattle.group_stage.specs.declared.looking.Looked.{Looked}
 use Rattle.group_stage.specs.declared.looking.Looked.TheVariants as look
 use Rattle.group_stage.specs.declared.seat.Seat.{Seat}
 use Rattle.group_stage.specs.declared.view.Numbered.{Numbered}
-use Rattle.stage_caller.specs.Calling.{Brings, IsOver, IsSame, Wish}
+use Rattle.stage_caller.specs.Calling.{Brings, IsOver, IsSameSeat, Wish}
 use Rattle.stage_caller.specs.declared.step.Move.{Move}
 use Rattle.stage_caller.specs.declared.step.Move.TheVariants.{Ask, Collect, Deliver, Look, Trace}
 use Rattle.stage_caller.specs.declared.phase.Next.{Next}
@@ -48,38 +48,38 @@ CanMake s phase (Look from to) = IsLink s from to
 CanMake s phase (Deliver from to) = IsLink s from to
 
 -- what is waited for was asked before
-abbrev pub IsAsked : ℕ → Phase → Type 0
-IsAsked asks Asks = Unit {0}
-IsAsked asks (Waits call) = call < asks
+abbrev pub WasAskedBefore : ℕ → Phase → Type 0
+WasAskedBefore asks Asks = Unit {0}
+WasAskedBefore asks (Waits call) = call < asks
 
 -- the step says where its event leads
-abbrev pub Says : Next → Step → Type 0
-Says next (steps.Goes phase heard) = next ≡ Goes phase
-Says next (steps.Ends end) = next ≡ Ends end
+abbrev pub StepSays : Next → Step → Type 0
+StepSays next (steps.Goes phase heard) = next ≡ Goes phase
+StepSays next (steps.Ends end) = next ≡ Ends end
 
 -- what a step says by the answer of its seat: to is where an answer leads
-abbrev pub Gives : (Answer → Next) → Phase → StageAnswer → Step → Type 0
-Gives to phase (did.Made answer) step = Says (to answer) step
-Gives to phase (did.Busy p) step = Says (Goes phase) step
-Gives to phase did.Worn step = step ≡ steps.Ends ends.Worn
+abbrev pub SaysByAnswer : (Answer → Next) → Phase → StageAnswer → Step → Type 0
+SaysByAnswer to phase (did.Made answer) step = StepSays (to answer) step
+SaysByAnswer to phase (did.Busy p) step = StepSays (Goes phase) step
+SaysByAnswer to phase did.Worn step = step ≡ steps.Ends ends.Worn
 
 -- what a step says by what a look showed
-abbrev pub Shows : Phase → Looked → Step → Type 0
-Shows phase look.Worn step = step ≡ steps.Ends ends.Worn
-Shows phase look.Waits step = Says (Goes phase) step
-Shows phase look.Empty step = Says (Goes phase) step
-Shows phase look.Busy step = Says (Goes phase) step
+abbrev pub SaysByLook : Phase → Looked → Step → Type 0
+SaysByLook phase look.Worn step = step ≡ steps.Ends ends.Worn
+SaysByLook phase look.Waits step = StepSays (Goes phase) step
+SaysByLook phase look.Empty step = StepSays (Goes phase) step
+SaysByLook phase look.Busy step = StepSays (Goes phase) step
 
 -- a step that says so led there
-abbrev pub Leads : Seat → Seat → Next → Step → Type 0
-Leads before after last (steps.Goes phase heard) = (last ≡ Goes phase) × (after.calls ≡ before.calls + 1)
-Leads before after last (steps.Ends end) = IsOver after last end
+abbrev pub StepLeads : Seat → Seat → Next → Step → Type 0
+StepLeads before after last (steps.Goes phase heard) = (last ≡ Goes phase) × (after.calls ≡ before.calls + 1)
+StepLeads before after last (steps.Ends end) = IsOver after last end
 
 -- one call of the seat, which made one event of the call or none
 pub record HasStepped (wish : Wish) (phase : Phase) (before : Seat) (step : Step) (after : Seat) : Type 0 where
-  pub same : IsSame before after
+  pub same : IsSameSeat before after
   pub events : List Numbered
   pub last : Next
   pub made : (view_of after).made ≡ (view_of before).made ++ events
   pub brings : Brings wish before.asks (Goes phase) events last
-  pub leads : Leads before after last step
+  pub leads : StepLeads before after last step

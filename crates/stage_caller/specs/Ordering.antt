@@ -7,33 +7,33 @@ use Rattle.memc_proto.specs.declared.end.CallEnd.{CallEnd}
 use Rattle.memc_proto.specs.declared.end.FailEnd.{FailEnd}
 use Rattle.memc_proto.specs.declared.end.FailEnd.TheVariants as ends
 use Rattle.group_stage.specs.Seated.{shape_of}
-use Rattle.stage_caller.specs.Calling.{HasStopped, IsCalled, IsIdle}
+use Rattle.stage_caller.specs.Calling.{IsCalled, IsSeatCutShort, MadeNoEvent}
 use Rattle.stage_caller.specs.Failing.{IsFailed}
 use Rattle.stage_caller.specs.declared.phase.Phase.TheVariants.{Asks}
 use Rattle.stage_caller.specs.declared.caller.StageCaller.{StageCaller}
 
 -- it is the same caller of the same group, under the same rule
-pub record IsKept (before after : StageCaller) : Type 0 where
+pub record IsSameStage (before after : StageCaller) : Type 0 where
   pub stage : after.stage ≡ before.stage
   pub control : after.control ≡ before.control
 
 -- a call that was made
-pub record HasCalled (before : StageCaller) (op : Asked) (end : CallEnd) (after : StageCaller) : Type 0 where
-  pub same : IsKept before after
+pub record HasCalledStage (before : StageCaller) (op : Asked) (end : CallEnd) (after : StageCaller) : Type 0 where
+  pub same : IsSameStage before after
   pub called : IsCalled before.seat op Asks end after.seat
 
 -- a call that found no memory has made the events that it came to before
 pub record HasGone (before : StageCaller) (op : Asked) (after : StageCaller) : Type 0 where
-  pub same : IsKept before after
-  pub stopped : HasStopped before.seat op Asks after.seat
+  pub same : IsSameStage before after
+  pub stopped : IsSeatCutShort before.seat op Asks after.seat
 
 -- what stands of an order after want of memory: no event was made
 pub record HasMadeNone (before after : StageCaller) : Type 0 where
-  pub same : IsKept before after
-  pub idle : IsIdle before.seat after.seat
+  pub same : IsSameStage before after
+  pub idle : MadeNoEvent before.seat after.seat
 
 -- such orders are taken, and the group has the process
-pub record IsTaken (c : StageCaller) (p : ProcessId) : Type 0 where
+pub record TakesOrder (c : StageCaller) (p : ProcessId) : Type 0 where
   pub control : c.control ≡ true
   pub process : IsProcess (shape_of c.stage.now) p
 
@@ -41,4 +41,4 @@ pub record IsTaken (c : StageCaller) (p : ProcessId) : Type 0 where
 abbrev pub IsOrdered : StageCaller → ProcessId → ℕ → FailEnd → StageCaller → Type 0
 IsOrdered before p keep ends.Off after = (before.control ≡ false) × (after ≡ before)
 IsOrdered before p keep ends.NoProcess after = (before.control ≡ true) × (¬ (IsProcess (shape_of before.stage.now) p)) × (after ≡ before)
-IsOrdered before p keep end after = IsTaken before p × IsKept before after × IsFailed before.seat p keep end after.seat
+IsOrdered before p keep end after = TakesOrder before p × IsSameStage before after × IsFailed before.seat p keep end after.seat

@@ -1,8 +1,8 @@
 ghost use Rattle.std.specs.Prelude.{IfOk, OnErr};
 ghost use Rattle.group_types.specs.Names.{IsProcess};
 ghost use Rattle.group_stage.specs.Seated.{IsOf, shape_of};
-ghost use Rattle.stage_caller.specs.Calling.{IsIdle, asked_to, wish_of};
-ghost use Rattle.stage_caller.specs.Moving.{Gives, HasStepped};
+ghost use Rattle.stage_caller.specs.Calling.{MadeNoEvent, asked_to, wish_of};
+ghost use Rattle.stage_caller.specs.Moving.{HasStepped, SaysByAnswer};
 
 use crate::phase::{Phase, after_ask};
 use crate::step::{Step, heard_of, step_to};
@@ -23,7 +23,7 @@ pub(crate) fn ask(
     requires process { IsProcess (shape_of stage.now) at }
     ensures seat { IsOf stage.now seat.new }
     ensures stepped { IfOk result (λ step. HasStepped (wish_of seat.old op.now) Phase.Asks seat.old step seat.new) }
-    ensures paused { OnErr result (IsIdle seat.old seat.new) }
+    ensures paused { OnErr result (MadeNoEvent seat.old seat.new) }
 {
     let call = seat.asks();
     let ended = stage.try_ask(seat, op, at)?;
@@ -32,7 +32,7 @@ pub(crate) fn ask(
 
 // What an ask came to.
 fn ask_step(call: u64, ended: StageAnswer) -> Step
-    ensures { Gives (asked_to call) Phase.Asks ended result }
+    ensures { SaysByAnswer (asked_to call) Phase.Asks ended result }
 {
     let heard = heard_of(&ended);
     match ended {

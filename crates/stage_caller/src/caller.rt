@@ -1,6 +1,6 @@
 ghost use Rattle.std.specs.Prelude.{◌≡◌, ◌<◌, IfOk, OnErr};
 ghost use Rattle.group_stage.specs.Seated.{IsOf};
-ghost use Rattle.stage_caller.specs.Calling.{HasStopped, IsCalled};
+ghost use Rattle.stage_caller.specs.Calling.{IsCalled, IsSeatCutShort};
 ghost use Rattle.stage_caller.specs.declared.phase.Phase.TheVariants.{Waits};
 
 use crate::calling::make_call;
@@ -26,7 +26,7 @@ pub struct StageCaller<'a> {
 }
 
 impl<'a> StageCaller<'a> {
-    ghost use Rattle.stage_caller.specs.Ordering.{IsKept};
+    ghost use Rattle.stage_caller.specs.Ordering.{IsSameStage};
 
     /// A caller from this seat, which takes orders that a process fail where `control` is on.
     pub fn new(stage: &'a Stage, seat: Seat, control: bool) -> StageCaller<'a>
@@ -46,9 +46,9 @@ impl<'a> StageCaller<'a> {
     /// Goes on with a call for the op whose ask of this number was given a ticket, as it stands after want of memory.
     pub fn resume(&mut self, op: &Op, call: u64) -> Result<CallEnd, AllocError>
         requires asked { call < self.old.seat.asks }
-        ensures same { IsKept self.old self.new }
+        ensures same { IsSameStage self.old self.new }
         ensures called { IfOk result (λ end. IsCalled self.old.seat op.now (Waits call) end self.new.seat) }
-        ensures stopped { OnErr result (HasStopped self.old.seat op.now (Waits call) self.new.seat) }
+        ensures stopped { OnErr result (IsSeatCutShort self.old.seat op.now (Waits call) self.new.seat) }
     {
         let from_data = &mut Heads::new();
         make_call(
@@ -85,11 +85,11 @@ impl<'a> StageCaller<'a> {
 }
 
 impl<'a> Caller for StageCaller<'a> {
-    ghost use Rattle.stage_caller.specs.Behind.{IsBehind, stage_onward, stage_order, stage_ways};
+    ghost use Rattle.stage_caller.specs.Behind.{IsLaterSeat, stage_onward, stage_order, stage_ways};
 
     ghost ways = { stage_ways };
 
-    ghost later = { IsBehind };
+    ghost later = { IsLaterSeat };
 
     ghost order = { stage_order };
 

@@ -1,7 +1,7 @@
 ghost use Rattle.std.specs.Prelude.{◌≡◌, ◌<◌, IfOk, OnErr};
 ghost use Rattle.group_stage.specs.Seated.{IsOf, shape_of};
-ghost use Rattle.stage_caller.specs.Calling.{HasStopped, IsCalled, IsIdle, wish_of};
-ghost use Rattle.stage_caller.specs.Moving.{CanMake, HasStepped, IsAsked};
+ghost use Rattle.stage_caller.specs.Calling.{IsCalled, IsSeatCutShort, MadeNoEvent, wish_of};
+ghost use Rattle.stage_caller.specs.Moving.{CanMake, HasStepped, WasAskedBefore};
 
 use crate::asking::ask;
 use crate::collecting::collect;
@@ -29,10 +29,10 @@ pub(crate) fn make_call(
     start: Phase,
 ) -> Result<CallEnd, AllocError>
     requires seat { IsOf stage.now seat.old }
-    requires asked { IsAsked seat.old.asks start }
+    requires asked { WasAskedBefore seat.old.asks start }
     ensures seat { IsOf stage.now seat.new }
     ensures called { IfOk result (λ end. IsCalled seat.old op.now start end seat.new) }
-    ensures stopped { OnErr result (HasStopped seat.old op.now start seat.new) }
+    ensures stopped { OnErr result (IsSeatCutShort seat.old op.now start seat.new) }
 {
     let shape = stage.shape();
     let partition = home(op.act().key(), shape.k());
@@ -64,13 +64,13 @@ fn make(
     next: Move,
 ) -> Result<Step, AllocError>
     requires seat { IsOf stage.now seat.old }
-    requires asked { IsAsked seat.old.asks phase }
+    requires asked { WasAskedBefore seat.old.asks phase }
     requires can { CanMake (shape_of stage.now) phase next }
     requires inside { partition.0 < (shape_of stage.now).k }
     requires home { partition.0 ≡ (wish_of seat.old op.now).home }
     ensures seat { IsOf stage.now seat.new }
     ensures stepped { IfOk result (λ step. HasStepped (wish_of seat.old op.now) phase seat.old step seat.new) }
-    ensures paused { OnErr result (IsIdle seat.old seat.new) }
+    ensures paused { OnErr result (MadeNoEvent seat.old seat.new) }
 {
     match next {
         Move::Ask(at) => ask(stage, seat, op, at),

@@ -2,8 +2,8 @@ ghost use Rattle.std.specs.Prelude.{IfOk, OnErr};
 ghost use Rattle.memc_table.specs.Asked.{Asked};
 ghost use Rattle.group_types.specs.Names.{IsProcess};
 ghost use Rattle.group_stage.specs.Seated.{IsOf, shape_of};
-ghost use Rattle.stage_caller.specs.Calling.{IsIdle, collected_to, wish_of};
-ghost use Rattle.stage_caller.specs.Moving.{Gives, HasStepped};
+ghost use Rattle.stage_caller.specs.Calling.{MadeNoEvent, collected_to, wish_of};
+ghost use Rattle.stage_caller.specs.Moving.{HasStepped, SaysByAnswer};
 
 use crate::phase::{Phase, after_collect};
 use crate::step::{Step, heard_of, step_to};
@@ -24,7 +24,7 @@ pub(crate) fn collect(
     ensures seat { IsOf stage.now seat.new }
     ensures stepped { IfOk result (λ step. (op : Asked)
         → HasStepped (wish_of seat.old op) (Phase.Waits call) seat.old step seat.new) }
-    ensures paused { OnErr result (IsIdle seat.old seat.new) }
+    ensures paused { OnErr result (MadeNoEvent seat.old seat.new) }
 {
     let ended = stage.try_collect(seat, call, at)?;
     Ok(collect_step(call, ended))
@@ -32,7 +32,7 @@ pub(crate) fn collect(
 
 // What a collect came to.
 fn collect_step(call: u64, ended: StageAnswer) -> Step
-    ensures { Gives (collected_to call) (Phase.Waits call) ended result }
+    ensures { SaysByAnswer (collected_to call) (Phase.Waits call) ended result }
 {
     let heard = heard_of(&ended);
     match ended {

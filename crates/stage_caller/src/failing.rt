@@ -1,7 +1,7 @@
 ghost use Rattle.std.specs.Prelude.{◌≡◌, ◌↔◌, IsTrue, Some, IfOk, OnErr};
 ghost use Rattle.group_types.specs.Names.{IsProcess};
 ghost use Rattle.group_stage.specs.Seated.{IsOf, shape_of};
-ghost use Rattle.stage_caller.specs.Calling.{IsIdle};
+ghost use Rattle.stage_caller.specs.Calling.{MadeNoEvent};
 ghost use Rattle.stage_caller.specs.Failing.{IsFailAnswer, IsFailed, failed_to};
 
 use group_calls::Answer;
@@ -22,7 +22,7 @@ pub(crate) fn fail_process(
     requires process { IsProcess (shape_of stage.now) at }
     ensures seat { IsOf stage.now seat.new }
     ensures failed { IfOk result (λ end. IsFailed seat.old at keep end seat.new) }
-    ensures idle { OnErr result (IsIdle seat.old seat.new) }
+    ensures idle { OnErr result (MadeNoEvent seat.old seat.new) }
 {
     'tries: loop {
         match stage.try_fail(seat, at, keep)? {

@@ -3,8 +3,8 @@ ghost use Rattle.memc_table.specs.Asked.{Asked};
 ghost use Rattle.group_types.specs.Names.{IsProcess};
 ghost use Rattle.group_calls.specs.declared.event.Answer.{Answer};
 ghost use Rattle.group_stage.specs.Seated.{IsOf, shape_of};
-ghost use Rattle.stage_caller.specs.Calling.{IsIdle, wish_of};
-ghost use Rattle.stage_caller.specs.Moving.{Gives, HasStepped};
+ghost use Rattle.stage_caller.specs.Calling.{MadeNoEvent, wish_of};
+ghost use Rattle.stage_caller.specs.Moving.{HasStepped, SaysByAnswer};
 
 use crate::phase::{Next, Phase};
 use crate::step::{Step, heard_of};
@@ -28,7 +28,7 @@ pub(crate) fn help(
     ensures seat { IsOf stage.now seat.new }
     ensures stepped { IfOk result (λ step. (op : Asked)
         → HasStepped (wish_of seat.old op) phase seat.old step seat.new) }
-    ensures paused { OnErr result (IsIdle seat.old seat.new) }
+    ensures paused { OnErr result (MadeNoEvent seat.old seat.new) }
 {
     let ended = stage.try_deliver(seat, from, to)?;
     Ok(help_step(phase, ended))
@@ -36,7 +36,7 @@ pub(crate) fn help(
 
 // What a delivery came to.
 fn help_step(phase: Phase, ended: StageAnswer) -> Step
-    ensures { Gives (λ (a : Answer). Next.Goes phase) phase ended result }
+    ensures { SaysByAnswer (λ (a : Answer). Next.Goes phase) phase ended result }
 {
     let heard = heard_of(&ended);
     match ended {

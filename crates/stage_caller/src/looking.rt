@@ -2,7 +2,7 @@ ghost use Rattle.memc_table.specs.Asked.{Asked};
 ghost use Rattle.group_types.specs.Names.{IsProcess};
 ghost use Rattle.group_stage.specs.Seated.{IsOf, shape_of};
 ghost use Rattle.stage_caller.specs.Calling.{wish_of};
-ghost use Rattle.stage_caller.specs.Moving.{HasStepped, Shows};
+ghost use Rattle.stage_caller.specs.Moving.{HasStepped, SaysByLook};
 
 use crate::phase::Phase;
 use crate::step::{Heard, Step};
@@ -29,7 +29,7 @@ pub(crate) fn look(
 
 // What a look came to.
 fn look_step(phase: Phase, looked: Looked) -> Step
-    ensures { Shows phase looked result }
+    ensures { SaysByLook phase looked result }
 {
     match looked {
         Looked::Waits => Step::Goes(phase, Heard::Moves),

@@ -1,4 +1,4 @@
-ghost use Rattle.stage_caller.specs.Moving.{Says};
+ghost use Rattle.stage_caller.specs.Moving.{StepSays};
 
 use crate::phase::{Next, Phase};
 use group_calls::{Answer, Cause};
@@ -40,7 +40,7 @@ pub(crate) enum Step {
 
 /// The step that leads there.
 pub(crate) fn step_to(next: Next, heard: Heard) -> Step
-    ensures { Says next result }
+    ensures { StepSays next result }
 {
     match next {
         Next::Goes(phase) => Step::Goes(phase, heard),

@@ -2,8 +2,8 @@ ghost use Rattle.std.specs.Prelude.{◌≡◌, ◌<◌, IfOk, OnErr};
 ghost use Rattle.memc_table.specs.Asked.{Asked};
 ghost use Rattle.group_types.specs.Names.{IsProcess};
 ghost use Rattle.group_stage.specs.Seated.{IsOf, shape_of};
-ghost use Rattle.stage_caller.specs.Calling.{IsIdle, traced_to, wish_of};
-ghost use Rattle.stage_caller.specs.Moving.{Gives, HasStepped};
+ghost use Rattle.stage_caller.specs.Calling.{MadeNoEvent, traced_to, wish_of};
+ghost use Rattle.stage_caller.specs.Moving.{HasStepped, SaysByAnswer};
 
 use crate::phase::{Phase, after_trace};
 use crate::step::{Step, heard_of, step_to};
@@ -27,7 +27,7 @@ pub(crate) fn trace(
     ensures seat { IsOf stage.now seat.new }
     ensures stepped { IfOk result (λ step. (op : Asked) → partition.0 ≡ (wish_of seat.old op).home
         → HasStepped (wish_of seat.old op) (Phase.Waits call) seat.old step seat.new) }
-    ensures paused { OnErr result (IsIdle seat.old seat.new) }
+    ensures paused { OnErr result (MadeNoEvent seat.old seat.new) }
 {
     let ended = stage.try_trace(seat, call, partition, at)?;
     Ok(trace_step(call, ended))
@@ -35,7 +35,7 @@ pub(crate) fn trace(
 
 // What a trace came to.
 fn trace_step(call: u64, ended: StageAnswer) -> Step
-    ensures { Gives (traced_to call) (Phase.Waits call) ended result }
+    ensures { SaysByAnswer (traced_to call) (Phase.Waits call) ended result }
 {
     let heard = heard_of(&ended);
     match ended {

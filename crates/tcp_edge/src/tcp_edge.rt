@@ -28,7 +28,7 @@ pub struct TcpEdge<N> {
 
 impl<N> TcpEdge<N> {
     ghost use Rattle.std.specs.Prelude.{◌≡◌, ◌<◌, ◌≤◌, ◌^◌, ◌↔◌, IsTrue, OnOk, None, Some, option_copied};
-    ghost use Rattle.edge_io.specs.Faults.{Rose, raised};
+    ghost use Rattle.edge_io.specs.Faults.{Rose, saturating_next};
 
     /// No port yet: `net` is the runtime value that opens sockets.
     pub fn new(net: N) -> TcpEdge<N>
@@ -72,7 +72,7 @@ impl<N> TcpEdge<N> {
 
     // Counts a fault, and keeps its error.
     fn fail(&mut self, error: io::Error) -> Failed
-        ensures faults { self.new.faults ≡ raised self.old.faults }
+        ensures faults { self.new.faults ≡ saturating_next self.old.faults }
         ensures later { self.old.faults ≤ self.new.faults }
         ensures rose { Rose self.old.faults self.new.faults }
         ensures error { self.new.last_error ≡ Some error }
@@ -106,7 +106,7 @@ impl<N> TcpEdge<N> {
 
 impl<N: Net> TcpEdge<N> {
     ghost use Rattle.std.specs.Prelude.{◌≡◌, ◌≤◌, ◌^◌, ◌+◌, OnOk, OnErr, is_err, if◌then◌else◌};
-    ghost use Rattle.edge_io.specs.Faults.{HasCause, raised};
+    ghost use Rattle.edge_io.specs.Faults.{HasCause, saturating_next};
 
     /// A poll of the system that opened the port: streams that do not wait are waited for at it.
     pub fn poll(&self) -> io::Result<Poll> {
@@ -120,7 +120,7 @@ impl<N: Net> TcpEdge<N> {
         ensures accepts { OnOk result (self.new.accepted ≡ self.old.accepted + 1) }
         ensures none { OnErr result (self.new.accepted ≡ self.old.accepted) }
         ensures cause { HasCause self.old.faults self.new.faults result }
-        ensures count { self.new.faults ≡ (if is_err result then raised self.old.faults else self.old.faults) }
+        ensures count { self.new.faults ≡ (if is_err result then saturating_next self.old.faults else self.old.faults) }
     {
         match self.next() {
             Ok(stream) => {
@@ -134,8 +134,8 @@ impl<N: Net> TcpEdge<N> {
 
 impl<N: Net> Listener for TcpEdge<N> {
     ghost use Rattle.std.specs.Prelude.{◌≡◌, ◌+◌, ◌^◌, ◌≤◌, ◌≢◌, None, Some, false, [], IfOk, OnErr, OnOk, IsSome, IfSome, is_err, if◌then◌else◌};
-    ghost use Rattle.edge_io.specs.Connections.{handed_out};
-    ghost use Rattle.edge_io.specs.Faults.{HasCause, raised};
+    ghost use Rattle.edge_io.specs.Connections.{count_handed_out};
+    ghost use Rattle.edge_io.specs.Faults.{HasCause, saturating_next};
 
     type Incoming = ReadEdge<TcpStream>;
 
@@ -161,7 +161,7 @@ impl<N: Net> Listener for TcpEdge<N> {
         ensures limit { self.new.accepted ≤ 2 ^ 62 }
         ensures none_accepted { self.new.accepted ≡ self.old.accepted }
         ensures cause { HasCause self.old.faults self.new.faults result }
-        ensures count { self.new.faults ≡ (if is_err result then raised self.old.faults else self.old.faults) }
+        ensures count { self.new.faults ≡ (if is_err result then saturating_next self.old.faults else self.old.faults) }
     {
         match listen_at(&self.net, address) {
             Ok(listener) => {
@@ -177,11 +177,11 @@ impl<N: Net> Listener for TcpEdge<N> {
         ensures limit { self.new.accepted ≤ 2 ^ 62 }
         ensures listener { self.new.listener ≡ self.old.listener }
         ensures never_over { IfOk result (λ next. next ≢ None) }
-        ensures accepts { self.new.accepted ≡ self.old.accepted + handed_out result }
+        ensures accepts { self.new.accepted ≡ self.old.accepted + count_handed_out result }
         ensures unread { IfOk result (λ o. IfSome o (λ c. (c.0.past.bytes ≡ []) × (c.0.ended ≡ false))) }
         ensures fresh { IfOk result (λ o. IfSome o (λ c. c.1.past.bytes ≡ [])) }
         ensures cause { HasCause self.old.faults self.new.faults result }
-        ensures count { self.new.faults ≡ (if is_err result then raised self.old.faults else self.old.faults) }
+        ensures count { self.new.faults ≡ (if is_err result then saturating_next self.old.faults else self.old.faults) }
     {
         match self.next() {
             Ok((incoming, outgoing)) => {

@@ -7,8 +7,8 @@ use Rattle.std.specs.Fmt.{decimal}
 use Rattle.group_types.specs.Dimensions.{callers}
 use Rattle.group_types.specs.declared.run.Run.{Run}
 use Rattle.scenario_text.specs.Texts.{name_text, place_text}
-use Rattle.transcript_text.specs.Parts.{FitsFront, IsItemFront, item_text}
-use Rattle.transcript_text.specs.Reading.{Reads, ReadsFront}
+use Rattle.transcript_text.specs.Parts.{FitsFront, IsItemFront, item_words}
+use Rattle.transcript_text.specs.Reading.{ReadsAs, ReadsFront}
 use Rattle.transcript_text.specs.Texts.{FitsName, FitsNumber, FitsPlace, text_of_name, text_of_place}
 use Rattle.transcript_text.specs.declared.name.Name.{Name}
 use Rattle.transcript_text.specs.declared.place.Place.{Place}
@@ -76,11 +76,11 @@ place-numbers line numbers place is same =
     ++ numbers = rw text at (same ∙ is) in
     cc all
 
-pub no_partition : (line numbers : List ℕ) → line ≡ codes "place " ++ numbers → ReadsFront Small Space numbers None → Reads FitsPlace text_of_place line None
+pub no_partition : (line numbers : List ℕ) → line ≡ codes "place " ++ numbers → ReadsFront Small Space numbers None → ReadsAs FitsPlace text_of_place line None
 no_partition line numbers is none place fits same = first-none Small 32 numbers none place.partition _ fits.0 (place-numbers line numbers place is same)
 
 pub no_number : (line numbers : List ℕ) (d : ℕ) (behind : List ℕ) → line ≡ codes "place " ++ numbers → d < 2 ^ 32 → Space d ++ behind ≡ numbers
-    → ReadsFront FitsNumber Space behind None → Reads FitsPlace text_of_place line None
+    → ReadsFront FitsNumber Space behind None → ReadsAs FitsPlace text_of_place line None
 no_number line numbers d behind is below first none place fits same =
     let f = fits.0 in
     let after = first-same 32 d place.partition behind
@@ -102,13 +102,14 @@ place-run line numbers d behind n more is below first fits-n second place fits s
 
 pub no_at : (line numbers : List ℕ) (d : ℕ) (behind : List ℕ) (n : ℕ) (more : List ℕ) → line ≡ codes "place " ++ numbers
     → d < 2 ^ 32 → Space d ++ behind ≡ numbers
-    → n < 2 ^ 64 → Space n ++ more ≡ behind → ReadsFront Small Space more None → Reads FitsPlace text_of_place line None
+    → n < 2 ^ 64 → Space n ++ more ≡ behind → ReadsFront Small Space more None → ReadsAs FitsPlace text_of_place line None
 no_at line numbers d behind n more is below first fits-n second none place fits same =
     first-none Small 32 more none place.run.at _ fits.2 (place-run line numbers d behind n more is below first fits-n second place fits same)
 
 pub no_len : (line numbers : List ℕ) (d : ℕ) (behind : List ℕ) (n : ℕ) (more : List ℕ) (at : ℕ) (word : List ℕ)
     → line ≡ codes "place " ++ numbers → d < 2 ^ 32 → Space d ++ behind ≡ numbers
-    → n < 2 ^ 64 → Space n ++ more ≡ behind → at < 2 ^ 32 → Space at ++ word ≡ more → Reads Small decimal word None → Reads FitsPlace text_of_place line None
+    → n < 2 ^ 64 → Space n ++ more ≡ behind → at < 2 ^ 32 → Space at ++ word ≡ more → ReadsAs Small decimal word None
+    → ReadsAs FitsPlace text_of_place line None
 no_len line numbers d behind n more at word is below first fits-n second small third none place fits same =
     let run = place-run line numbers d behind n more is below first fits-n second place fits same in
     let f = fits.2 in
@@ -117,7 +118,7 @@ no_len line numbers d behind n more at word is below first fits-n second small t
 
 -- ---- items
 
-item-numbers : (text numbers : List ℕ) (flags cas : ℕ) (word : List ℕ) → text ≡ codes "value " ++ numbers → item_text flags cas word ≡ text
+item-numbers : (text numbers : List ℕ) (flags cas : ℕ) (word : List ℕ) → text ≡ codes "value " ++ numbers → item_words flags cas word ≡ text
     → decimal flags ++ 32 ∷ (decimal cas ++ 32 ∷ word) ≡ numbers
 item-numbers text numbers flags cas word is same =
     let all : codes "value " ++ (decimal flags ++ 32 ∷ (decimal cas ++ 32 ∷ word)) ≡ codes "value " ++ numbers =
@@ -138,11 +139,12 @@ no_cas text numbers flags behind is below first none other cas word fits same =
     first-none FitsNumber 32 behind none cas word fits.1 after.1
 
 -- the text of an item tells its flags, its cas number and the word of its value
-pub item_same : (f c : ℕ) (v : List ℕ) (g d : ℕ) (w : List ℕ) → FitsFront f c → FitsFront g d → item_text f c v ≡ item_text g d w → (f ≡ g) × (c ≡ d) × (v ≡ w)
+pub item_same : (f c : ℕ) (v : List ℕ) (g d : ℕ) (w : List ℕ) → FitsFront f c → FitsFront g d → item_words f c v ≡ item_words g d w
+    → (f ≡ g) × (c ≡ d) × (v ≡ w)
 item_same f c v g d w (small, fits) (little, other) same =
-    let is : item_text g d w ≡ codes "value " ++ (decimal g ++ 32 ∷ (decimal d ++ 32 ∷ w)) =
+    let is : item_words g d w ≡ codes "value " ++ (decimal g ++ 32 ∷ (decimal d ++ 32 ∷ w)) =
     ap (λ (t : List ℕ). codes "value " ++ t) (assoc (decimal g) (32 ∷ decimal d) (32 ∷ []) w) in
-    let numbers = item-numbers (item_text g d w) (decimal g ++ 32 ∷ (decimal d ++ 32 ∷ w)) f c v is same in
+    let numbers = item-numbers (item_words g d w) (decimal g ++ 32 ∷ (decimal d ++ 32 ∷ w)) f c v is same in
     let first = first-same 32 g f (decimal d ++ 32 ∷ w) (decimal c ++ 32 ∷ v) (decimal g ++ 32 ∷ (decimal d ++ 32 ∷ w))
     (omega arith) (omega (arith, little)) (omega (arith, small))
     (append_assoc (decimal g) (32 ∷ []) (decimal d ++ 32 ∷ w)) numbers in

@@ -13,8 +13,8 @@ use Rattle.std.specs.Char.{is_ascii_digit}
 use Rattle.std.specs.Fmt.{decimal}
 use Rattle.std.specs.Str.{all_ascii_digits}
 use Rattle.std.specs.Str.Parse.{digits_value}
-use Rattle.memc_table.specs.Numeral.{number_of, value_of}
-use Rattle.transcript_text.specs.Reading.{Reads, ReadsFront, Lacks}
+use Rattle.memc_table.specs.Numeral.{number_of, numeral_value}
+use Rattle.transcript_text.specs.Reading.{ReadsAs, ReadsFront, Lacks}
 use Rattle.transcript_text.specs.Texts.{FitsNumber}
 use Rattle.transcript_text.proofs.Cuts.{Lacks-head, Lacks-tail, cut_same, there}
 
@@ -51,7 +51,7 @@ one_digit (d ∷ e ∷ ds) some plain first = absurd (plain (omega arith, first)
 
 pub number_of-same : (word : List ℕ) (n : ℕ) → number_of word ≡ Some n → ¬ (HasLeadingZero word) → (n < 2 ^ 64) × (decimal n ≡ word)
 number_of-same word n is plain =
-    let outer = passed (nat_le 1 (length word) && nat_le (length word) 20) (value_of word) n is in
+    let outer = passed (nat_le 1 (length word) && nat_le (length word) 20) (numeral_value word) n is in
     let lengths = both (nat_le 1 (length word)) (nat_le (length word) 20) outer.0 in
     let inner = passed (all_ascii_digits word && nat_lt (digits_value 10 word) (2 ^ 64)) (Some (digits_value 10 word)) n outer.1 in
     let digits = both (all_ascii_digits word) (nat_lt (digits_value 10 word) (2 ^ 64)) inner.0 in
@@ -78,23 +78,23 @@ pub Lacks-decimal : (b n : ℕ) → b < 48 → n < 2 ^ 64 → Lacks b (decimal n
 Lacks-decimal b n low fits = digits_lack b (decimal n) low (digits_decimal own n fits)
 
 -- no number is printed as a word with a leading zero
-pub reads-leading_zero : (word : List ℕ) → HasLeadingZero word → Reads FitsNumber decimal word None
+pub reads-leading_zero : (word : List ℕ) → HasLeadingZero word → ReadsAs FitsNumber decimal word None
 reads-leading_zero word leading n fits same = no_leading_zero n fits (subst HasLeadingZero (sym same) leading)
 
-pub reads-number_of : (word : List ℕ) → ¬ (HasLeadingZero word) → Reads FitsNumber decimal word (number_of word)
+pub reads-number_of : (word : List ℕ) → ¬ (HasLeadingZero word) → ReadsAs FitsNumber decimal word (number_of word)
 reads-number_of word plain = by (number_of word) refl
   where
-    by : (o : Option ℕ) → number_of word ≡ o → Reads FitsNumber decimal word o
+    by : (o : Option ℕ) → number_of word ≡ o → ReadsAs FitsNumber decimal word o
     by (Some n) is = number_of-same word n is plain
     by None is = λ n fits same. cc (sym is ∙ rw same at (number_of-decimal n fits))
 
 pub reads-too_large : (word : List ℕ) (limit n : ℕ) → limit < 2 ^ 64 → limit ≤ n
-    → Reads FitsNumber decimal word (Some n) → Reads (λ n. n < limit) decimal word None
+    → ReadsAs FitsNumber decimal word (Some n) → ReadsAs (λ n. n < limit) decimal word None
 reads-too_large word limit n bound large (fits, same) = λ m below text.
     let e = decimal_injective m n (omega (arith, below, bound)) fits (text ∙ sym same) in
     omega (arith, below, large, e)
 
-pub reads-below : (word : List ℕ) (limit : ℕ) → limit < 2 ^ 64 → Reads FitsNumber decimal word None → Reads (λ n. n < limit) decimal word None
+pub reads-below : (word : List ℕ) (limit : ℕ) → limit < 2 ^ 64 → ReadsAs FitsNumber decimal word None → ReadsAs (λ n. n < limit) decimal word None
 reads-below word limit bound none = λ n below same. none n (omega (arith, below, bound)) same
 
 -- no number is the front of a line that lacks the byte behind it
@@ -104,7 +104,7 @@ front-lacks Fits byte line lacks = λ n rest fits same.
 
 -- a front is no number where the word before the byte is none
 pub front-none : (Fits : ℕ → Type 0) (byte : ℕ) (line word rest : List ℕ) → byte < 48 → ((n : ℕ) → Fits n → n < 2 ^ 64)
-    → Lacks byte word → word ++ byte ∷ rest ≡ line → Reads Fits decimal word None
+    → Lacks byte word → word ++ byte ∷ rest ≡ line → ReadsAs Fits decimal word None
     → ReadsFront Fits (λ n. decimal n ++ byte ∷ []) line None
 front-none Fits byte line word rest low bound lacks cut none = λ n more fits same.
     let line_is : decimal n ++ byte ∷ more ≡ word ++ byte ∷ rest = sym (append_assoc (decimal n) (byte ∷ []) more) ∙ same ∙ sym cut in

@@ -5,7 +5,7 @@ use Rattle.memc_table.specs.declared.reply.Reply.{Reply}
 use Rattle.memc_table.specs.declared.reply.Reply.TheVariants.{Value, Miss, Stored, NotStored, Exists, NotFound, Deleted, Touched, Number, NotNumber, TooLarge}
 use Rattle.scenario_text.specs.Texts.{reply_text, value_text}
 use Rattle.transcript_text.specs.Forms.{FitsReply, is_word}
-use Rattle.transcript_text.specs.Parts.{FitsFront, IsItemReply, IsLowerDigit, IsNumberReply, IsWordReply, item_text}
+use Rattle.transcript_text.specs.Parts.{FitsFront, IsItemReply, IsLowerDigit, IsNumberReply, IsWordReply, item_words}
 use Rattle.transcript_text.specs.Texts.{IsReplyText, IsValueText}
 use Rattle.transcript_text.proofs.Fronts.{item_same}
 use Rattle.transcript_text.proofs.Values.{AreDigits, value-digits, value-form}
@@ -64,13 +64,13 @@ last_of text a b c no_word word no_number number item = (
 
 -- an item is told by its front and its value
 pub item-of : (text word : List ℕ) (b : Bool)
-    → ((flags : ℕ) × (cas : ℕ) × FitsFront flags cas × (item_text flags cas word ≡ text))
+    → ((flags : ℕ) × (cas : ℕ) × FitsFront flags cas × (item_words flags cas word ≡ text))
     → (IsTrue b ↔ IsValueText word) → IsTrue b ↔ IsItemReply text
 item-of text word b (flags, cas, fits, same) value = (
   λ told. let v = value.0 told in (
     record { flags = flags; cas = cas; value = v.0 },
     (fits.0, fits.1, v.1),
-    ap (λ (t : List ℕ). item_text flags cas t) v.2 ∙ same,
+    ap (λ (t : List ℕ). item_words flags cas t) v.2 ∙ same,
   ),
   λ (item, within, is).
       let words = item_same item.flags item.cas (value_text item.value) flags cas word (within.0, within.1) fits (is ∙ sym same) in

@@ -8,7 +8,7 @@ use Rattle.std.proofs.Math.ListN.{set}
 use Rattle.std.specs.Fmt.{decimal}
 use Rattle.scenario_text.specs.Texts.{behind_commas, stamp_text}
 use Rattle.transcript_text.specs.Parts.{IsStamp}
-use Rattle.transcript_text.specs.Reading.{Lacks, Reads, ReadsFront}
+use Rattle.transcript_text.specs.Reading.{Lacks, ReadsAs, ReadsFront}
 use Rattle.transcript_text.specs.Texts.{FitsNumber, ShowsNone}
 use Rattle.transcript_text.proofs.Cuts.{cut_same}
 use Rattle.transcript_text.proofs.Numbers.{Lacks-decimal}
@@ -108,7 +108,7 @@ none_here text stamp rest place last below before none other long fits same =
     first-none FitsNumber 44 rest none (slice_index other place) (stamp_text (drop (suc place) other)) (fits place 0 (omega (arith, below, long, here))) left
 
 pub none_last : (text stamp rest : List ℕ) (place last : ℕ) → place ≡ last → Begun text stamp rest place (last + 1)
-    → Reads FitsNumber decimal rest None → IsStamp text stamp false
+    → ReadsAs FitsNumber decimal rest None → IsStamp text stamp false
 none_last text stamp rest place last end begun none other long fits same =
     let before = rw end at begun in
     let here = before.long in

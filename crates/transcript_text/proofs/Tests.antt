@@ -10,7 +10,7 @@ use Rattle.group_types.specs.declared.process.Partition.{Partition}
 use Rattle.group_calls.specs.declared.event.Cause.TheVariants.{Pending}
 use Rattle.scenario_text.specs.Texts.{cause_text}
 use Rattle.transcript_text.specs.Forms.{FitsCause}
-use Rattle.transcript_text.specs.Reading.{Reads, ReadsFront}
+use Rattle.transcript_text.specs.Reading.{ReadsAs, ReadsFront}
 use Rattle.transcript_text.specs.Texts.{FitsNumber, TellsReply}
 use Rattle.transcript_text.proofs.Fronts.{first-none, first-same}
 
@@ -19,7 +19,7 @@ abbrev pub TellsNumber : (ℕ → Type 0) → List ℕ → List ℕ → Type 0
 TellsNumber Fits front line = (n : ℕ) × Fits n × (front ++ decimal n ≡ line)
 
 pub tells-number : (Fits : ℕ → Type 0) (front line word : List ℕ) (o : Option ℕ) → line ≡ front ++ word
-    → Reads Fits decimal word o → IsTrue (is_some o) ↔ TellsNumber Fits front line
+    → ReadsAs Fits decimal word o → IsTrue (is_some o) ↔ TellsNumber Fits front line
 tells-number Fits front line word (Some n) is (fits, same) = (λ yes. (n, fits, ap (λ (t : List ℕ). front ++ t) same ∙ sym is), λ told. refl)
 tells-number Fits front line word None is none = (
   λ yes. absurd (cc yes),
@@ -61,7 +61,7 @@ pending-numbers line numbers partition number is same = let all : codes "retry p
     ++ (decimal partition.0 ++ 32 ∷ decimal number) ≡ codes "retry pending " ++ numbers = same ∙ is in cc all
 
 pub tells-pending : (line numbers : List ℕ) (d : ℕ) (word : List ℕ) (o : Option ℕ) → line ≡ codes "retry pending " ++ numbers → d < 2 ^ 32
-    → (decimal d ++ 32 ∷ []) ++ word ≡ numbers → Reads FitsNumber decimal word o → IsTrue (is_some o) ↔ TellsPending line
+    → (decimal d ++ 32 ∷ []) ++ word ≡ numbers → ReadsAs FitsNumber decimal word o → IsTrue (is_some o) ↔ TellsPending line
 tells-pending line numbers d word (Some n) is below first (fits, same) = (
   λ holds. (
     record { 0 = d },

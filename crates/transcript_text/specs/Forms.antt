@@ -47,13 +47,13 @@ kind_of_act (Touch _ _) = kind.Alter
 kind_of_act _ = kind.Store
 
 -- the kind of an event
-abbrev pub kind_of : Event → Kind
-kind_of (event.Ask _ op _) = kind_of_act op.act
-kind_of (event.Collect _ _ _) = kind.Collect
-kind_of (event.Deliver _ _) = kind.Deliver
-kind_of (event.Fail _ _) = kind.Fail
-kind_of (event.Flush _) = kind.Flush
-kind_of (event.Trace _ _ _ _) = kind.Trace
+abbrev pub kind_of_event : Event → Kind
+kind_of_event (event.Ask _ op _) = kind_of_act op.act
+kind_of_event (event.Collect _ _ _) = kind.Collect
+kind_of_event (event.Deliver _ _) = kind.Deliver
+kind_of_event (event.Fail _ _) = kind.Fail
+kind_of_event (event.Flush _) = kind.Flush
+kind_of_event (event.Trace _ _ _ _) = kind.Trace
 
 -- the form of an answer
 abbrev pub form_of : Answer → Form

@@ -33,13 +33,13 @@ abbrev pub FitsFront : ℕ → ℕ → Type 0
 FitsFront flags cas = (flags < 2 ^ 32) × (cas < 2 ^ 64)
 
 -- the text of an item whose value has this word
-abbrev pub item_text : ℕ → ℕ → List ℕ → List ℕ
-item_text flags cas word = codes "value" ++ next_number flags ++ next_number cas ++ codes " " ++ word
+abbrev pub item_words : ℕ → ℕ → List ℕ → List ℕ
+item_words flags cas word = codes "value" ++ next_number flags ++ next_number cas ++ codes " " ++ word
 
 -- a text is read as that of an item, with the word of its value
 abbrev pub IsItemFront : List ℕ → Option (Bor (List ℕ)) → Type 0
-IsItemFront text (Some word) = (flags : ℕ) × (cas : ℕ) × FitsFront flags cas × (item_text flags cas word.now ≡ text)
-IsItemFront text None = (flags cas : ℕ) (word : List ℕ) → FitsFront flags cas → item_text flags cas word ≢ text
+IsItemFront text (Some word) = (flags : ℕ) × (cas : ℕ) × FitsFront flags cas × (item_words flags cas word.now ≡ text)
+IsItemFront text None = (flags cas : ℕ) (word : List ℕ) → FitsFront flags cas → item_words flags cas word ≢ text
 
 -- a line is the text of an answer of this form
 abbrev pub HasForm : List ℕ → Form → Type 0

@@ -3,9 +3,9 @@ use Rattle.std.specs.Borrow.{Bor}
 use Rattle.std.specs.Prelude.{ℕ, ◌≡◌, ◌≢◌, ◌++◌, ◌∷◌, List, All, Option, Some, None}
 
 -- a word is read as x, which is within its limits and has this text; nothing is read where no such x has it
-abbrev pub Reads : {X : Type 0} → (X → Type 0) → (X → List ℕ) → List ℕ → Option X → Type 0
-Reads Fits text word (Some x) = Fits x × (text x ≡ word)
-Reads Fits text word None = (x : _) → Fits x → text x ≢ word
+abbrev pub ReadsAs : {X : Type 0} → (X → Type 0) → (X → List ℕ) → List ℕ → Option X → Type 0
+ReadsAs Fits text word (Some x) = Fits x × (text x ≡ word)
+ReadsAs Fits text word None = (x : _) → Fits x → text x ≢ word
 
 -- the same of the front of a line, with what is behind it
 abbrev pub ReadsFront : {X : Type 0} → (X → Type 0) → (X → List ℕ) → List ℕ → Option (X × Bor (List ℕ)) → Type 0
@@ -22,6 +22,6 @@ abbrev pub Lacks : ℕ → List ℕ → Type 0
 Lacks byte text = All (λ b. b ≢ byte) text
 
 -- a text is cut at the first such byte
-abbrev pub IsCut : ℕ → List ℕ → Option (Bor (List ℕ) × Bor (List ℕ)) → Type 0
-IsCut byte text (Some (front, rest)) = Lacks byte front.now × (front.now ++ byte ∷ rest.now ≡ text)
-IsCut byte text None = Lacks byte text
+abbrev pub IsSplitAt : ℕ → List ℕ → Option (Bor (List ℕ) × Bor (List ℕ)) → Type 0
+IsSplitAt byte text (Some (front, rest)) = Lacks byte front.now × (front.now ++ byte ∷ rest.now ≡ text)
+IsSplitAt byte text None = Lacks byte text

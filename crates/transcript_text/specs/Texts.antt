@@ -60,9 +60,9 @@ abbrev pub text_of_place : Place → List ℕ
 text_of_place place = place_text place.partition place.number place.run
 
 -- a line shows a stamp, and then the word of a value
-abbrev pub Shows : List ℕ → List ℕ → List ℕ → Type 0
-Shows line stamp value = codes "shown " ++ stamp_text stamp ++ codes " " ++ value ≡ line
+abbrev pub ShowsValue : List ℕ → List ℕ → List ℕ → Type 0
+ShowsValue line stamp value = codes "shown " ++ stamp_text stamp ++ codes " " ++ value ≡ line
 
 -- a line shows no stamp of so many numbers
 abbrev pub ShowsNone : List ℕ → ℕ → Type 0
-ShowsNone line many = (stamp value : List ℕ) → length stamp ≡ many → All FitsNumber stamp → ¬ (Shows line stamp value)
+ShowsNone line many = (stamp value : List ℕ) → length stamp ≡ many → All FitsNumber stamp → ¬ (ShowsValue line stamp value)

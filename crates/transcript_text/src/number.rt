@@ -1,6 +1,6 @@
 ghost use Rattle.std.specs.Prelude.{◌≡◌, ◌↔◌, ◌++◌, ◌∷◌, ◌<◌, ◌^◌, [], length, slice_index, IsTrue};
 ghost use Rattle.std.specs.Fmt.{decimal};
-ghost use Rattle.transcript_text.specs.Reading.{Reads, ReadsFront};
+ghost use Rattle.transcript_text.specs.Reading.{ReadsAs, ReadsFront};
 ghost use Rattle.transcript_text.specs.Texts.{FitsNumber};
 
 use crate::word::cut;
@@ -8,7 +8,7 @@ use memc_table::numeral;
 
 /// The number that a word is as it is printed, with no leading zero.
 pub fn number(word: &[u8]) -> Option<u64>
-    ensures { Reads FitsNumber decimal word.now result }
+    ensures { ReadsAs FitsNumber decimal word.now result }
 {
     if has_leading_zero(word) {
         return None;
@@ -18,7 +18,7 @@ pub fn number(word: &[u8]) -> Option<u64>
 
 /// The same of a number below `limit`.
 pub fn number_below(word: &[u8], limit: u64) -> Option<u64>
-    ensures { Reads (λ n. n < limit) decimal word.now result }
+    ensures { ReadsAs (λ n. n < limit) decimal word.now result }
 {
     let number = number(word)?;
     if limit <= number {

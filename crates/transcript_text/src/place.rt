@@ -1,4 +1,4 @@
-ghost use Rattle.transcript_text.specs.Reading.{Reads};
+ghost use Rattle.transcript_text.specs.Reading.{ReadsAs};
 ghost use Rattle.transcript_text.specs.Texts.{FitsPlace, text_of_place};
 
 use crate::number::{number_below, number_below_up_to, number_up_to};
@@ -15,7 +15,7 @@ pub struct Place {
 
 /// The place that a line tells.
 pub fn read_place(line: &[u8]) -> Option<Place>
-    ensures { Reads FitsPlace text_of_place line.now result }
+    ensures { ReadsAs FitsPlace text_of_place line.now result }
 {
     let numbers = after(b"place ", line)?;
     let (partition, numbers) = number_below_up_to(b' ', numbers, 1 << 32)?;

@@ -1,13 +1,13 @@
 ghost use Rattle.std.specs.Prelude.{◌≡◌, IfSome, None, length};
 ghost use Rattle.transcript_text.specs.Parts.{IsStamp};
-ghost use Rattle.transcript_text.specs.Texts.{Shows, ShowsNone};
+ghost use Rattle.transcript_text.specs.Texts.{ShowsNone, ShowsValue};
 
 use crate::number::{number, number_up_to};
 use crate::word::{after, cut};
 
 /// Reads the stamp that a line shows, of as many numbers as there is room for, and gives the word of the value.
 pub fn shown<'a>(line: &'a [u8], stamp: &mut [u64]) -> Option<&'a [u8]>
-    ensures some { IfSome result (λ value. Shows line.now stamp.new value.now) }
+    ensures some { IfSome result (λ value. ShowsValue line.now stamp.new value.now) }
     ensures none { result ≡ None → ShowsNone line.now (length stamp.old) }
     ensures long { length stamp.new ≡ length stamp.old }
 {

@@ -1,5 +1,5 @@
 ghost use Rattle.std.specs.Prelude.{◌≡◌, ◌↔◌, IsTrue};
-ghost use Rattle.transcript_text.specs.Reading.{IsBehind, IsCut};
+ghost use Rattle.transcript_text.specs.Reading.{IsBehind, IsSplitAt};
 
 use memchr::memchr;
 
@@ -19,7 +19,7 @@ pub(crate) fn is_text(line: &[u8], text: &[u8]) -> bool
 
 /// What stands before the first such byte, and what is behind it.
 pub(crate) fn cut(byte: u8, text: &[u8]) -> Option<(&[u8], &[u8])>
-    ensures { IsCut byte text.now result }
+    ensures { IsSplitAt byte text.now result }
 {
     let at = memchr(byte, text)?;
     Some((&text[..at], &text[at + 1..]))

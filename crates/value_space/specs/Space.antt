@@ -1,8 +1,8 @@
 -- A data process's space as contracts see it.
 use Rattle.std.specs.Prelude.{ℕ, List}
 use Rattle.group_types.specs.Dimensions.{Dimensions}
-use Rattle.page_map.specs.Pages.{Contents, numbers_in}
-use Rattle.page_map.specs.Spaces.{bytes_of}
+use Rattle.page_map.specs.Pages.{PageContents, numbers_in}
+use Rattle.page_map.specs.Spaces.{page_bytes}
 
 -- its shape, its bytes, and the numbers of the blocks whose pages were made
 pub record Space : Type 0 where
@@ -11,5 +11,5 @@ pub record Space : Type 0 where
   pub made : List ℕ
 
 -- the space of this shape that these pages hold
-abbrev pub space_in : Dimensions → Contents → Space
-space_in shape pages = record { shape = shape; bytes = bytes_of pages; made = numbers_in pages }
+abbrev pub space_in : Dimensions → PageContents → Space
+space_in shape pages = record { shape = shape; bytes = page_bytes pages; made = numbers_in pages }

@@ -4,7 +4,7 @@ ghost use Rattle.group_types.specs.Dimensions.{space_of};
 ghost use Rattle.erasure_code.specs.Spaces.{added_at, bytes_at};
 ghost use Rattle.field_byte.specs.Vectors.{add_bytes};
 ghost use Rattle.page_map.specs.Pages.{HasPages, SameDimensions, numbers_in};
-ghost use Rattle.page_map.specs.Spaces.{AllMade, LiesIn, MakesOnly, bytes_of};
+ghost use Rattle.page_map.specs.Spaces.{AllMade, LiesIn, MakesOnly, page_bytes};
 
 use group_types::{ByteList, Payload, Run, Shape};
 use lane_kernel::xor_into;
@@ -100,7 +100,7 @@ impl ValueSpace {
 fn add(pages: &mut Pages, at: u32, bytes: &[u8])
     requires within { at + length bytes.now ≤ pages.old.blocks * pages.old.block }
     requires there { HasPages pages.old at (length bytes.now) }
-    ensures bytes { bytes_of pages.new ≡ added_at at bytes.now (bytes_of pages.old) }
+    ensures bytes { page_bytes pages.new ≡ added_at at bytes.now (page_bytes pages.old) }
     ensures made { numbers_in pages.new ≡ numbers_in pages.old }
     ensures dimensions { SameDimensions pages.old pages.new }
     ensures room { pages.new.room ≡ pages.old.room }

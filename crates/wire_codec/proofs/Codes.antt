@@ -10,7 +10,7 @@ use Rattle.std.proofs.lemmas.List.Concat.{flat_map-cons}
 use Rattle.std.proofs.lemmas.Nat.{be_bytes_2, be_bytes_4, be_bytes_8, from_be_bytes-to_be_bytes_2, from_be_bytes-to_be_bytes_4, from_be_bytes-to_be_bytes_8}
 use Rattle.wire_codec.specs.Frame.{one, two, four, eight}
 use Rattle.wire_codec.specs.Fits.{IsOne, IsTwo, IsFour, IsEight}
-use Rattle.wire_codec.specs.Reading.{◌>>=◌, Read, one_at, number_at, bytes_at, made_at, of_two, of_three, of_four}
+use Rattle.wire_codec.specs.Reading.{◌>>=◌, Read, one_at, decode_number, decode_bytes, made_at, of_two, of_three, of_four}
 use Rattle.wire_codec.specs.Reading.{of_five, tested_at, counted_at, many_at, list_at, picked, tagged_at}
 
 abbrev pub IsBytes : List ℕ → Type 0
@@ -113,7 +113,7 @@ wide64 = record {
 }
 
 number_takes : (w : Width) (limit : ℕ) (wide : IsWide w limit) (bytes : List ℕ) (n : ℕ) (rest : List ℕ) → IsBytes bytes
-    → number_at w bytes ≡ Some (n, rest) → Took (to_be_bytes w) (λ n. n < limit) bytes n rest
+    → decode_number w bytes ≡ Some (n, rest) → Took (to_be_bytes w) (λ n. n < limit) bytes n rest
 number_takes w limit wide bytes n rest fits e =
     let g = guard_some (ltb (length bytes) (byte_len w)) (from_be_bytes w (take (byte_len w) bytes), drop (byte_len w) bytes) (n, rest) e in
     let long : byte_len w ≤ length bytes = ltb-false _ _ g.0 in
@@ -128,22 +128,22 @@ number_takes w limit wide bytes n rest fits e =
       behind = rw (← rest-is) (IsBytes-drop (byte_len w) bytes fits);
     }
 
-number_again : (w : Width) (limit : ℕ) (wide : IsWide w limit) (n : ℕ) (rest : List ℕ) → n < limit → number_at w (to_be_bytes w n ++ rest) ≡ Some (n, rest)
+number_again : (w : Width) (limit : ℕ) (wide : IsWide w limit) (n : ℕ) (rest : List ℕ) → n < limit → decode_number w (to_be_bytes w n ++ rest) ≡ Some (n, rest)
 number_again w limit wide n rest lt =
     let len = wide.len n in
     let long : ltb (length (to_be_bytes w n ++ rest)) (byte_len w) ≡ false = le-ltb _ _ (omega (arith, length-append (to_be_bytes w n) rest)) in
     rw (long, take_at (to_be_bytes w n) rest (byte_len w) len, drop_at (to_be_bytes w n) rest (byte_len w) len, wide.again n lt) refl
 
-codes_number : (w : Width) (limit : ℕ) (wide : IsWide w limit) → Codes (to_be_bytes w) (λ n. n < limit) (number_at w)
+codes_number : (w : Width) (limit : ℕ) (wide : IsWide w limit) → Codes (to_be_bytes w) (λ n. n < limit) (decode_number w)
 codes_number w limit wide = record { takes = λ bytes n rest. number_takes w limit wide bytes n rest; again = λ n rest. number_again w limit wide n rest }
 
-pub codes_two : Codes two IsTwo (number_at w16)
+pub codes_two : Codes two IsTwo (decode_number w16)
 codes_two = codes_number w16 (2 ^ 16) wide16
 
-pub codes_four : Codes four IsFour (number_at w32)
+pub codes_four : Codes four IsFour (decode_number w32)
 codes_four = codes_number w32 (2 ^ 32) wide32
 
-pub codes_eight : Codes eight IsEight (number_at w64)
+pub codes_eight : Codes eight IsEight (decode_number w64)
 codes_eight = codes_number w64 (2 ^ 64) wide64
 
 one_takes : (bytes : List ℕ) (n : ℕ) (rest : List ℕ) → IsBytes bytes → one_at bytes ≡ Some (n, rest) → Took one IsOne bytes n rest
@@ -162,7 +162,7 @@ codes_counted spell Fits read codes = record { takes = takes; again = again }
     takes : (bytes text rest : List ℕ) → IsBytes bytes → counted_at read bytes ≡ Some (text, rest)
         → Took (λ text. spell (length text) ++ text) (λ text. Fits (length text)) bytes text rest
     takes bytes text rest is e =
-        let n = step codes (λ n. bytes_at n.0 n.1) bytes (text, rest) is e in
+        let n = step codes (λ n. decode_bytes n.0 n.1) bytes (text, rest) is e in
         let g = guard_some (ltb (length n.0.1) n.0.0) (take n.0.0 n.0.1, drop n.0.0 n.0.1) (text, rest) n.2 in
         let long : n.0.0 ≤ length n.0.1 = ltb-false _ _ g.0 in
         let len : length (take n.0.0 n.0.1) ≡ n.0.0 = omega (arith, length-take n.0.0 n.0.1) in

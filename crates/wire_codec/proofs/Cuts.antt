@@ -6,37 +6,38 @@ use Rattle.std.proofs.lemmas.Bool.{cases_lt}
 use Rattle.std.proofs.lemmas.List.{take_at, drop_at, take-append-drop, take-append-le, length-append, length-take, length-drop}
 use Rattle.std.proofs.Math.Seq.{drop-append-add}
 use Rattle.group_message.specs.declared.message.Message.{Message}
-use Rattle.wire_codec.specs.Frame.{four, text_of, frame_of}
+use Rattle.wire_codec.specs.Frame.{four, frame_body, frame_of}
 use Rattle.wire_codec.specs.Fits.{HasFrame, IsFrame, most}
-use Rattle.wire_codec.specs.Reading.{message_of}
+use Rattle.wire_codec.specs.Reading.{message_in}
 use Rattle.wire_codec.specs.Stream.{announced, IsLength, HasNone, IsPartial, IsBad}
 use Rattle.wire_codec.proofs.Codes.{IsBytes, IsBytes-drop, IsBytes-take, IsBytes-append, wide32}
 use Rattle.wire_codec.proofs.Messages.{text_takes, text_again, text_length}
 
-pub length-frame : (m : Message) → length (frame_of m) ≡ 4 + length (text_of m)
-length-frame m = length-append (four (length (text_of m))) (text_of m)
+pub length-frame : (m : Message) → length (frame_of m) ≡ 4 + length (frame_body m)
+length-frame m = length-append (four (length (frame_body m))) (frame_body m)
 
-pub announced-frame : (m : Message) (more : List ℕ) → HasFrame m → announced (frame_of m ++ more) ≡ length (text_of m)
+pub announced-frame : (m : Message) (more : List ℕ) → HasFrame m → announced (frame_of m ++ more) ≡ length (frame_body m)
 announced-frame m more has =
-    let regrouped : frame_of m ++ more ≡ four (length (text_of m)) ++ (text_of m ++ more) = append_assoc (four (length (text_of m))) (text_of m) more in
-    let front : take 4 (frame_of m ++ more) ≡ four (length (text_of m)) = ap (λ (t : List ℕ). take 4 t) regrouped
-    ∙ take_at (four (length (text_of m))) (text_of m ++ more) 4 refl in
-    ap (λ (t : List ℕ). from_be_bytes w32 t) front ∙ wide32.again (length (text_of m)) (text_length m has)
+    let regrouped : frame_of m ++ more ≡ four (length (frame_body m)) ++ (frame_body m ++ more) =
+    append_assoc (four (length (frame_body m))) (frame_body m) more in
+    let front : take 4 (frame_of m ++ more) ≡ four (length (frame_body m)) = ap (λ (t : List ℕ). take 4 t) regrouped
+    ∙ take_at (four (length (frame_body m))) (frame_body m ++ more) 4 refl in
+    ap (λ (t : List ℕ). from_be_bytes w32 t) front ∙ wide32.again (length (frame_body m)) (text_length m has)
 
 -- what bytes say of the frame at their front
 pub record Fronts (bytes : List ℕ) (m : Message) : Type 0 where
   pub header : 4 ≤ length bytes
-  pub says : announced bytes ≡ length (text_of m)
+  pub says : announced bytes ≡ length (frame_body m)
   pub there : 4 + announced bytes ≤ length bytes
   pub in_range : IsLength (announced bytes)
 
 pub fronts : (bytes more : List ℕ) (m : Message) → HasFrame m → bytes ≡ frame_of m ++ more → Fronts bytes m
 fronts bytes more m has e =
-    let says : announced bytes ≡ length (text_of m) = ap announced e ∙ announced-frame m more has in
-    let len : length bytes ≡ 4 + length (text_of m) + length more = ap length e ∙ length-append (frame_of m) more
+    let says : announced bytes ≡ length (frame_body m) = ap announced e ∙ announced-frame m more has in
+    let len : length bytes ≡ 4 + length (frame_body m) + length more = ap length e ∙ length-append (frame_of m) more
     ∙ ap (λ (n : ℕ). n + length more) (length-frame m) in
     let short = has.short in
-    let some : 1 ≤ length (text_of m) = omega arith in
+    let some : 1 ≤ length (frame_body m) = omega arith in
     record {
       header = omega (arith, len);
       says = says;
@@ -56,28 +57,28 @@ pub announced-more : (xs ys : List ℕ) → 4 ≤ length xs → announced (xs ++
 announced-more xs ys le = ap (λ (t : List ℕ). from_be_bytes w32 t) (take-append-le 4 xs ys le)
 
 pub spelled : (text : List ℕ) (m : Message) → IsBytes text → length text ≡ 4 + announced text → announced text ≤ most
-    → message_of (drop 4 text) ≡ Some m → IsFrame text m
+    → message_in (drop 4 text) ≡ Some m → IsFrame text m
 spelled text m is len short e =
     let t = text_takes (drop 4 text) m (IsBytes-drop 4 text is) e in
     let four_long : length (take 4 text) ≡ 4 = omega (arith, length-take 4 text, len) in
-    let said : announced text ≡ length (text_of m) = omega (arith, length-drop 4 text, ap length t.0, len) in
+    let said : announced text ≡ length (frame_body m) = omega (arith, length-drop 4 text, ap length t.0, len) in
     let front : four (announced text) ≡ take 4 text = wide32.back (take 4 text) four_long (IsBytes-take 4 text is) in
-    let begins : take 4 text ≡ four (length (text_of m)) = sym front ∙ ap four said in
+    let begins : take 4 text ≡ four (length (frame_body m)) = sym front ∙ ap four said in
     record {
       has_frame = record { fit = t.1; short = omega (arith, said, short) };
-      spelled = sym (take-append-drop 4 text) ∙ ap (λ (s : List ℕ). s ++ drop 4 text) begins ∙ ap (λ (s : List ℕ). four (length (text_of m)) ++ s) t.0;
+      spelled = sym (take-append-drop 4 text) ∙ ap (λ (s : List ℕ). s ++ drop 4 text) begins ∙ ap (λ (s : List ℕ). four (length (frame_body m)) ++ s) t.0;
     }
 
-pub unspelled : (text more : List ℕ) → length text ≡ 4 + announced (text ++ more) → message_of (drop 4 text) ≡ None → HasNone (text ++ more)
+pub unspelled : (text more : List ℕ) → length text ≡ 4 + announced (text ++ more) → message_in (drop 4 text) ≡ None → HasNone (text ++ more)
 unspelled text more len none m behind has e =
     let f = fronts (text ++ more) behind m has e in
     let says = f.says in
     let long : length (frame_of m) ≡ length text = omega (arith, length-frame m, len, says) in
     let is : text ≡ frame_of m = sym (take_at text more (length text) refl) ∙ ap (λ (t : List ℕ). take (length text) t)
     e ∙ take_at (frame_of m) behind (length text) long in
-    let read : message_of (drop 4 text) ≡ Some m = ap (λ (t : List ℕ). message_of (drop 4 t)) is
-    ∙ ap message_of (drop_at (four (length (text_of m))) (text_of m) 4 refl) ∙ text_again m has.fit in
-    absurd (some_none (message_of (drop 4 text)) m read none)
+    let read : message_in (drop 4 text) ≡ Some m = ap (λ (t : List ℕ). message_in (drop 4 t)) is
+    ∙ ap message_in (drop_at (four (length (frame_body m))) (frame_body m) 4 refl) ∙ text_again m has.fit in
+    absurd (some_none (message_in (drop 4 text)) m read none)
   where
     some_none : (r : Option Message) (m : Message) → r ≡ Some m → r ≡ None → ⊥
     some_none r m p q = cc
@@ -109,7 +110,7 @@ joined front piece len partial said there =
 
 pub cut-whole : (front piece : List ℕ) (len : ℕ) (m : Message) → IsBytes front → IsBytes piece → IsPartial front
     → len ≡ announced (front ++ piece) → len ≤ most → 4 + len ≤ length front + length piece
-    → message_of (drop 4 (front ++ take (4 + len - length front) piece)) ≡ Some m → IsFrame (front ++ take (4 + len - length front) piece) m
+    → message_in (drop 4 (front ++ take (4 + len - length front) piece)) ≡ Some m → IsFrame (front ++ take (4 + len - length front) piece) m
 cut-whole front piece len m is_front is_piece partial said short there e =
     let j = joined front piece len partial said there in
     let long = j.long in
@@ -119,7 +120,7 @@ cut-whole front piece len m is_front is_piece partial said short there e =
     (omega (arith, long, says)) (omega (arith, says, short)) e
 
 pub cut-bad : (front piece : List ℕ) (len : ℕ) → IsPartial front → len ≡ announced (front ++ piece) → 4 + len ≤ length front + length piece
-    → message_of (drop 4 (front ++ take (4 + len - length front) piece)) ≡ None → IsBad (front ++ piece)
+    → message_in (drop 4 (front ++ take (4 + len - length front) piece)) ≡ None → IsBad (front ++ piece)
 cut-bad front piece len partial said there e =
     let j = joined front piece len partial said there in
     let t = 4 + len - length front in

@@ -5,7 +5,7 @@ use Rattle.std.proofs.lemmas.Grind.{common_steps}
 use Rattle.std.proofs.lemmas.List.Sums.{list_all-from_AllPass, AllPass-from_list_all}
 use Rattle.std.specs.List.{list_all}
 use Rattle.group_types.specs.Key.{IsKey, IsKeyByte}
-use Rattle.wire_codec.specs.Reading.{one_at, bytes_at, key_at, passes_key}
+use Rattle.wire_codec.specs.Reading.{one_at, decode_bytes, key_at, passes_key}
 
 key_byte_passes : (b : ℕ) → IsKeyByte b → (nat_lt 32 b && not (b == 127)) ≡ true
 key_byte_passes b (low, plain) = grind (arith, nat_tests, common_steps)
@@ -46,11 +46,11 @@ fails-key : (word : List ℕ) → (¬ (IsKey word)) → passes_key word ≡ fals
 fails-key word none = fails-key_by (passes_key word) word refl none
 
 pub key-read : (bytes behind rest key : List ℕ) (n : ℕ) → one_at bytes ≡ Some (n, behind)
-    → bytes_at n behind ≡ Some (key, rest) → IsKey key → key_at bytes ≡ Some (key, rest)
+    → decode_bytes n behind ≡ Some (key, rest) → IsKey key → key_at bytes ≡ Some (key, rest)
 unfolding key_at
 key-read bytes behind rest key n count front is = rw (count, front, key-passes key is) refl
 
 pub key-none : (bytes behind rest key : List ℕ) (n : ℕ) → one_at bytes ≡ Some (n, behind)
-    → bytes_at n behind ≡ Some (key, rest) → (¬ (IsKey key)) → key_at bytes ≡ None
+    → decode_bytes n behind ≡ Some (key, rest) → (¬ (IsKey key)) → key_at bytes ≡ None
 unfolding key_at
 key-none bytes behind rest key n count front none = rw (count, front, fails-key key none) refl

@@ -8,25 +8,26 @@ use Rattle.group_message.specs.declared.message.Message.{Message}
 use Rattle.group_message.specs.declared.message.Message.TheVariants as tells
 use Rattle.group_message.specs.declared.message.Session.{Session}
 use Rattle.group_message.specs.declared.update.Update.{Update}
-use Rattle.wire_codec.specs.Frame.{one, two, four, eight, session, long, update, fields, text_of, frame_of}
+use Rattle.wire_codec.specs.Frame.{one, two, four, eight, session, long, update, fields, frame_body, frame_of}
 use Rattle.wire_codec.specs.Fits.{IsFour, FitFields, HasFrame}
-use Rattle.wire_codec.specs.Reading.{Read, one_at, number_at, of_three, of_four, picked, session_at, update_message_at}
+use Rattle.wire_codec.specs.Reading.{Read, one_at, decode_number, of_three, of_four, picked, session_at, update_message_at}
 use Rattle.wire_codec.specs.Reading.{ack_at, stable_at, updates_at, adopt_at, long_at, read_block_at, block_at, mark_at}
-use Rattle.wire_codec.specs.Reading.{stamp_at, row_at, cease_at, notice_at, kinds, message_at, ended, message_of}
+use Rattle.wire_codec.specs.Reading.{stamp_at, row_at, cease_at, notice_at, kinds, message_at, ended, message_in}
 use Rattle.wire_codec.proofs.Codes.{IsBytes, Took, TakesAs, codes_one, codes_four, codes_eight, takes_made, takes_three}
 use Rattle.wire_codec.proofs.Codes.{takes_four, takes_five, tagged_takes, again_three, again_four, again_five}
 use Rattle.wire_codec.proofs.Codes.{bind_some, some_is}
 use Rattle.wire_codec.proofs.Spelled.{codes_process, codes_session, codes_long, codes_update, codes_updates, codes_stamp, codes_rows}
 
 abbrev spelled_by : ℕ × Read Message → Type 0
-spelled_by entry = TakesAs text_of FitFields entry
+spelled_by entry = TakesAs frame_body FitFields entry
 
 abbrev update_by : ℕ → ℕ → Update → ℕ → Message
 update_by r d u stable = tells.Update (record { 0 = r }) (record { 0 = d }) u stable
 
 takes_update : spelled_by (1, update_message_at)
 unfolding update_message_at
-takes_update = takes_four text_of FitFields (1 ∷ []) update_by codes_one codes_one codes_update codes_eight (λ a b c d. refl) (λ a b c d p q r s. (p, q, r, s))
+takes_update = takes_four frame_body FitFields (1 ∷ []) update_by codes_one codes_one codes_update codes_eight (λ a b c d. refl)
+    (λ a b c d p q r s. (p, q, r, s))
 
 again_update : (r d : ℕ) (u : Update) (stable : ℕ) (rest : List ℕ) → FitFields (update_by r d u stable)
     → update_message_at (fields (update_by r d u stable) ++ rest) ≡ Some (update_by r d u stable, rest)
@@ -38,7 +39,7 @@ ack_by r d number = tells.Ack (record { 0 = r }) (record { 0 = d }) number
 
 takes_ack : spelled_by (2, ack_at)
 unfolding ack_at
-takes_ack = takes_three text_of FitFields (2 ∷ []) ack_by codes_one codes_one codes_eight (λ a b c. refl) (λ a b c p q r. (p, q, r))
+takes_ack = takes_three frame_body FitFields (2 ∷ []) ack_by codes_one codes_one codes_eight (λ a b c. refl) (λ a b c p q r. (p, q, r))
 
 again_ack : (r d number : ℕ) (rest : List ℕ) → FitFields (ack_by r d number) → ack_at (fields (ack_by r d number) ++ rest) ≡ Some (ack_by r d number, rest)
 unfolding ack_at
@@ -49,7 +50,7 @@ stable_by r d number = tells.Stable (record { 0 = r }) (record { 0 = d }) number
 
 takes_stable : spelled_by (3, stable_at)
 unfolding stable_at
-takes_stable = takes_three text_of FitFields (3 ∷ []) stable_by codes_one codes_one codes_eight (λ a b c. refl) (λ a b c p q r. (p, q, r))
+takes_stable = takes_three frame_body FitFields (3 ∷ []) stable_by codes_one codes_one codes_eight (λ a b c. refl) (λ a b c p q r. (p, q, r))
 
 again_stable : (r d number : ℕ) (rest : List ℕ) → FitFields (stable_by r d number)
     → stable_at (fields (stable_by r d number) ++ rest) ≡ Some (stable_by r d number, rest)
@@ -64,19 +65,19 @@ same_adopt r d base list = append_assoc (one r ++ one d ++ eight base) (two (len
 
 takes_adopt : spelled_by (4, adopt_at)
 unfolding adopt_at
-takes_adopt = takes_four text_of FitFields (4 ∷ []) adopt_by codes_one codes_one codes_eight codes_updates
+takes_adopt = takes_four frame_body FitFields (4 ∷ []) adopt_by codes_one codes_one codes_eight codes_updates
     (λ a b c d. ap (λ (t : List ℕ). 4 ∷ t) (same_adopt a b c d)) (λ a b c d p q r s. (p, q, r, s.0, s.1))
 
 again_adopt : (r d base : ℕ) (list : List Update) (rest : List ℕ) → FitFields (adopt_by r d base list)
     → adopt_at (fields (adopt_by r d base list) ++ rest) ≡ Some (adopt_by r d base list, rest)
 unfolding adopt_at
 again_adopt r d base list rest fits =
-    ap (λ (t : List ℕ). of_four adopt_by one_at one_at (number_at w64) updates_at (t ++ rest)) (same_adopt r d base list)
+    ap (λ (t : List ℕ). of_four adopt_by one_at one_at (decode_number w64) updates_at (t ++ rest)) (same_adopt r d base list)
     ∙ again_four adopt_by codes_one codes_one codes_eight codes_updates r d base list rest fits.0 fits.1 fits.2 (fits.3, fits.4)
 
 takes_read_block : spelled_by (5, read_block_at)
 unfolding read_block_at
-takes_read_block = takes_three text_of FitFields (5 ∷ []) (λ s block rows. tells.ReadBlock s block rows) codes_session
+takes_read_block = takes_three frame_body FitFields (5 ∷ []) (λ s block rows. tells.ReadBlock s block rows) codes_session
     codes_four codes_rows (λ a b c. refl) (λ a b c p q r. (p, q, r.0, r.1))
 
 again_read_block : (s : Session) (block : ℕ) (rows rest : List ℕ) → FitFields (tells.ReadBlock s block rows)
@@ -87,7 +88,7 @@ again_read_block s block rows rest fits = again_three (λ s block rows. tells.Re
 
 takes_block : spelled_by (6, block_at)
 unfolding block_at
-takes_block = takes_three text_of FitFields (6 ∷ []) (λ s bytes number. tells.Block s bytes number) codes_session
+takes_block = takes_three frame_body FitFields (6 ∷ []) (λ s bytes number. tells.Block s bytes number) codes_session
     codes_long codes_eight (λ a b c. refl) (λ a b c p q r. (p, q, r))
 
 again_block : (s : Session) (bytes : List ℕ) (number : ℕ) (rest : List ℕ) → FitFields (tells.Block s bytes number)
@@ -101,7 +102,7 @@ mark_by s r block d number = tells.Mark s (record { 0 = r }) block (record { 0 =
 
 takes_mark : spelled_by (7, mark_at)
 unfolding mark_at
-takes_mark = takes_five text_of FitFields (7 ∷ []) mark_by codes_session codes_one codes_four codes_one codes_eight
+takes_mark = takes_five frame_body FitFields (7 ∷ []) mark_by codes_session codes_one codes_four codes_one codes_eight
     (λ a b c d e. refl) (λ a b c d e p q r s t. (p, q, r, s, t))
 
 again_mark : (s : Session) (r block d number : ℕ) (rest : List ℕ) → FitFields (mark_by s r block d number)
@@ -118,7 +119,7 @@ same_row s bytes stamp = append_assoc (session s ++ long bytes) (one (length sta
 
 takes_row : spelled_by (8, row_at)
 unfolding row_at
-takes_row = takes_three text_of FitFields (8 ∷ []) row_by codes_session codes_long codes_stamp
+takes_row = takes_three frame_body FitFields (8 ∷ []) row_by codes_session codes_long codes_stamp
     (λ a b c. ap (λ (t : List ℕ). 8 ∷ t) (same_row a b c)) (λ a b c p q r. (p, q, r.0, r.1))
 
 again_row : (s : Session) (bytes stamp rest : List ℕ) → FitFields (row_by s bytes stamp)
@@ -130,7 +131,7 @@ again_row s bytes stamp rest fits =
 
 takes_cease : spelled_by (9, cease_at)
 unfolding cease_at
-takes_cease = takes_made text_of FitFields (9 ∷ []) (λ upto. tells.Cease upto) codes_eight (λ a. refl) (λ a fits. fits)
+takes_cease = takes_made frame_body FitFields (9 ∷ []) (λ upto. tells.Cease upto) codes_eight (λ a. refl) (λ a fits. fits)
 
 again_cease : (upto : ℕ) (rest : List ℕ) → FitFields (tells.Cease upto) → cease_at (fields (tells.Cease upto) ++ rest) ≡ Some (tells.Cease upto, rest)
 unfolding cease_at
@@ -138,7 +139,7 @@ again_cease upto rest fits = rw (codes_eight.again upto rest fits) refl
 
 takes_notice : spelled_by (10, notice_at)
 unfolding notice_at
-takes_notice = takes_made text_of FitFields (10 ∷ []) (λ dead. tells.Notice dead) codes_process (λ a. refl) (λ a fits. fits)
+takes_notice = takes_made frame_body FitFields (10 ∷ []) (λ dead. tells.Notice dead) codes_process (λ a. refl) (λ a fits. fits)
 
 again_notice : (dead : ProcessId) (rest : List ℕ) → FitFields (tells.Notice dead)
     → notice_at (fields (tells.Notice dead) ++ rest) ≡ Some (tells.Notice dead, rest)
@@ -157,15 +158,15 @@ all_kinds = (
   ),
 )
 
-message_takes : (bytes : List ℕ) (m : Message) (rest : List ℕ) → IsBytes bytes → message_at bytes ≡ Some (m, rest) → Took text_of FitFields bytes m rest
+message_takes : (bytes : List ℕ) (m : Message) (rest : List ℕ) → IsBytes bytes → message_at bytes ≡ Some (m, rest) → Took frame_body FitFields bytes m rest
 unfolding message_at
-message_takes bytes m rest is e = tagged_takes text_of FitFields kinds all_kinds bytes m rest is e
+message_takes bytes m rest is e = tagged_takes frame_body FitFields kinds all_kinds bytes m rest is e
 
 at_kind : (k : ℕ) (text : List ℕ) → message_at (k ∷ text) ≡ picked kinds k text
 unfolding message_at
 at_kind k text = refl
 
-pub message_again : (m : Message) (rest : List ℕ) → FitFields m → message_at (text_of m ++ rest) ≡ Some (m, rest)
+pub message_again : (m : Message) (rest : List ℕ) → FitFields m → message_at (frame_body m ++ rest) ≡ Some (m, rest)
 message_again (tells.Update r d u stable) rest fits = at_kind 1 (fields (tells.Update r d u stable) ++ rest) ∙ again_update r.0 d.0 u stable rest fits
 message_again (tells.Ack r d number) rest fits = at_kind 2 (fields (tells.Ack r d number) ++ rest) ∙ again_ack r.0 d.0 number rest fits
 message_again (tells.Stable r d number) rest fits = at_kind 3 (fields (tells.Stable r d number) ++ rest) ∙ again_stable r.0 d.0 number rest fits
@@ -183,23 +184,23 @@ ended_some : (x : Message × List ℕ) (m : Message) → ended x ≡ Some m → 
 ended_some (n, []) m e = (some_is n m e, refl)
 ended_some (n, b ∷ rest) m e = absurd cc
 
-pub text_takes : (text : List ℕ) (m : Message) → IsBytes text → message_of text ≡ Some m → (text ≡ text_of m) × FitFields m
-unfolding message_of
+pub text_takes : (text : List ℕ) (m : Message) → IsBytes text → message_in text ≡ Some m → (text ≡ frame_body m) × FitFields m
+unfolding message_in
 text_takes text m is e =
     let b = bind_some (message_at text) ended m e in
     let t = message_takes text b.0.0 b.0.1 is b.1 in
     let last = ended_some b.0 m b.2 in
-    subst (λ (n : Message). (text ≡ text_of n) × FitFields n) last.0
-    (t.parts ∙ ap (λ (rest : List ℕ). text_of b.0.0 ++ rest) last.1 ∙ append-nil (text_of b.0.0), t.fits)
+    subst (λ (n : Message). (text ≡ frame_body n) × FitFields n) last.0
+    (t.parts ∙ ap (λ (rest : List ℕ). frame_body b.0.0 ++ rest) last.1 ∙ append-nil (frame_body b.0.0), t.fits)
 
-pub text_again : (m : Message) → FitFields m → message_of (text_of m) ≡ Some m
-unfolding message_of
+pub text_again : (m : Message) → FitFields m → message_in (frame_body m) ≡ Some m
+unfolding message_in
 text_again m fits =
-    let again : message_at (text_of m) ≡ Some (m, []) = ap message_at (sym (append-nil (text_of m))) ∙ message_again m [] fits in
+    let again : message_at (frame_body m) ≡ Some (m, []) = ap message_at (sym (append-nil (frame_body m))) ∙ message_again m [] fits in
     rw again refl
 
 -- no frame is the front of another
-pub text_length : (m : Message) → HasFrame m → IsFour (length (text_of m))
+pub text_length : (m : Message) → HasFrame m → IsFour (length (frame_body m))
 text_length m has = let short = has.short in omega (arith, short)
 
 both_some : (m n : Message) (x y : List ℕ) (r : Option (Message × List ℕ)) → r ≡ Some (m, x) → r ≡ Some (n, y) → (m ≡ n) × (x ≡ y)
@@ -209,11 +210,11 @@ both_some m n x y r p q =
 
 pub frame_once : (m n : Message) (x y : List ℕ) → HasFrame m → HasFrame n → frame_of m ++ x ≡ frame_of n ++ y → (m ≡ n) × (x ≡ y)
 frame_once m n x y has other e =
-    let one = codes_four.again (length (text_of m)) (text_of m ++ x) (text_length m has) in
-    let two = codes_four.again (length (text_of n)) (text_of n ++ y) (text_length n other) in
-    let same : four (length (text_of m)) ++ (text_of m ++ x) ≡ four (length (text_of n)) ++ (text_of n ++ y) =
-    sym (append_assoc (four (length (text_of m))) (text_of m) x) ∙ e ∙ append_assoc (four (length (text_of n)))
-    (text_of n) y in
-    let pair = some_is (length (text_of m), text_of m ++ x) (length (text_of n), text_of n ++ y) (sym one ∙ ap (number_at w32) same ∙ two) in
-    let texts : text_of m ++ x ≡ text_of n ++ y = ap (λ (p : ℕ × List ℕ). p.1) pair in
-    both_some m n x y (message_at (text_of m ++ x)) (message_again m x has.fit) (ap message_at texts ∙ message_again n y other.fit)
+    let one = codes_four.again (length (frame_body m)) (frame_body m ++ x) (text_length m has) in
+    let two = codes_four.again (length (frame_body n)) (frame_body n ++ y) (text_length n other) in
+    let same : four (length (frame_body m)) ++ (frame_body m ++ x) ≡ four (length (frame_body n)) ++ (frame_body n ++ y) =
+    sym (append_assoc (four (length (frame_body m))) (frame_body m) x) ∙ e ∙ append_assoc (four (length (frame_body n)))
+    (frame_body n) y in
+    let pair = some_is (length (frame_body m), frame_body m ++ x) (length (frame_body n), frame_body n ++ y) (sym one ∙ ap (decode_number w32) same ∙ two) in
+    let texts : frame_body m ++ x ≡ frame_body n ++ y = ap (λ (p : ℕ × List ℕ). p.1) pair in
+    both_some m n x y (message_at (frame_body m ++ x)) (message_again m x has.fit) (ap message_at texts ∙ message_again n y other.fit)

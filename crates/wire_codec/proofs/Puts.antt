@@ -13,7 +13,7 @@ use Rattle.group_message.specs.declared.message.Session.{Session}
 use Rattle.group_message.specs.declared.update.Body.{Body}
 use Rattle.group_message.specs.declared.update.Body.TheVariants.{Put, Remove, Touch}
 use Rattle.group_message.specs.declared.update.Update.{Update}
-use Rattle.wire_codec.specs.Frame.{one, four, eight, process, session, short, long, maybe, run, body, outcome, update, text_of}
+use Rattle.wire_codec.specs.Frame.{one, four, eight, process, session, short, long, maybe, run, body, outcome, update, frame_body}
 use Rattle.wire_codec.specs.Parts.{delta_of, value_of, body_before, update_before, text_before, text_behind}
 
 pub joins_two : (out x y a b : List ℕ) → x ≡ out ++ a → y ≡ x ++ b → y ≡ out ++ (a ++ b)
@@ -49,7 +49,7 @@ refl_parts : (text : List ℕ) → text ++ [] ++ [] ≡ text
 refl_parts text = append-nil (text ++ []) ∙ append-nil text
 
 -- so is a text
-pub text_parts : (m : Message) → text_before m ++ value_of m ++ text_behind m ≡ text_of m
+pub text_parts : (m : Message) → text_before m ++ value_of m ++ text_behind m ≡ frame_body m
 text_parts (tells.Update r d u stable) =
     let behind : update_before u ++ delta_of u.body ++ (maybe run u.frees ++ outcome u.outcome ++ eight stable) ≡ update u ++ eight stable =
     sym (append_assoc (update_before u ++ delta_of u.body) (maybe run u.frees ++ outcome u.outcome) (eight stable))
@@ -62,13 +62,13 @@ text_parts (tells.Row s bytes stamp) =
     (append_assoc (session s) (four (length bytes)) bytes)
     ∙ ap (λ (t : List ℕ). 8 ∷ t)
     (sym (append_assoc (session s ++ long bytes) (one (length stamp)) (flat_map eight stamp)))
-text_parts (tells.Ack r d number) = refl_parts (text_of (tells.Ack r d number))
-text_parts (tells.Stable r d number) = refl_parts (text_of (tells.Stable r d number))
-text_parts (tells.Adopt r d base list) = refl_parts (text_of (tells.Adopt r d base list))
-text_parts (tells.ReadBlock s block rows) = refl_parts (text_of (tells.ReadBlock s block rows))
-text_parts (tells.Mark s r block d number) = refl_parts (text_of (tells.Mark s r block d number))
-text_parts (tells.Cease upto) = refl_parts (text_of (tells.Cease upto))
-text_parts (tells.Notice dead) = refl_parts (text_of (tells.Notice dead))
+text_parts (tells.Ack r d number) = refl_parts (frame_body (tells.Ack r d number))
+text_parts (tells.Stable r d number) = refl_parts (frame_body (tells.Stable r d number))
+text_parts (tells.Adopt r d base list) = refl_parts (frame_body (tells.Adopt r d base list))
+text_parts (tells.ReadBlock s block rows) = refl_parts (frame_body (tells.ReadBlock s block rows))
+text_parts (tells.Mark s r block d number) = refl_parts (frame_body (tells.Mark s r block d number))
+text_parts (tells.Cease upto) = refl_parts (frame_body (tells.Cease upto))
+text_parts (tells.Notice dead) = refl_parts (frame_body (tells.Notice dead))
 
 -- lengths
 pub length-process : (p : ProcessId) → length (process p) ≡ 2
@@ -92,7 +92,7 @@ one_more {A = A} f out now next xs i x lt was is =
     ∙ append-nil (f (get_or xs i x))) in
     joins_two out now next (flat_map f (take i xs)) (f (get_or xs i x)) was is ∙ ap (λ (t : List ℕ). out ++ t) (sym last)
 
-pub length_row : (s : Session) (bytes stamp : List ℕ) → length (text_of (tells.Row s bytes stamp)) ≡ 16 + length bytes + 8 * length stamp
+pub length_row : (s : Session) (bytes stamp : List ℕ) → length (frame_body (tells.Row s bytes stamp)) ≡ 16 + length bytes + 8 * length stamp
 length_row s bytes stamp =
     omega (
       arith,

@@ -16,8 +16,8 @@ use Rattle.group_message.specs.declared.update.Update.{Update}
 use Rattle.wire_codec.specs.Frame.{one, two, four, eight, process, session, short, long, maybe, run, body, outcome, update}
 use Rattle.wire_codec.specs.Fits.{IsOne, IsTwo, IsFour, IsEight, IsShort, IsLong, FitsProcess, FitsSession, FitsMaybe}
 use Rattle.wire_codec.specs.Fits.{FitsRun, FitsBody, FitsOutcome, FitsUpdate}
-use Rattle.wire_codec.specs.Reading.{Read, one_at, number_at, of_two, of_four, counted_at, options, maybe_at, processes}
-use Rattle.wire_codec.specs.Reading.{process_at, session_at, run_at, until_at, frees_at, passes_key, key_at, long_at}
+use Rattle.wire_codec.specs.Reading.{Read, one_at, decode_number, of_two, of_four, counted_at, options, maybe_at, processes}
+use Rattle.wire_codec.specs.Reading.{decode_process, session_at, decode_run, until_at, frees_at, passes_key, key_at, long_at}
 use Rattle.wire_codec.specs.Reading.{change_at, put_at, bodies, body_at, outcomes, outcome_at, name_at, effect_at}
 use Rattle.wire_codec.specs.Reading.{update_by, update_at, updates_at, rows_at, stamp_at}
 use Rattle.wire_codec.proofs.Codes.{IsBytes, IsBytes-rest, IsBytes-front, Took, Codes, codes_one, codes_two, codes_four}
@@ -41,13 +41,13 @@ codes_maybe spell Fits read codes = record {
   again = again_maybe spell Fits read codes;
 }
 
-again_process : (p : ProcessId) (rest : List ℕ) → FitsProcess p → process_at (process p ++ rest) ≡ Some (p, rest)
-unfolding process_at
+again_process : (p : ProcessId) (rest : List ℕ) → FitsProcess p → decode_process (process p ++ rest) ≡ Some (p, rest)
+unfolding decode_process
 again_process (DataNode d) rest fits = refl
 again_process (ParityNode i) rest fits = refl
 
-pub codes_process : Codes process FitsProcess process_at
-unfolding process_at
+pub codes_process : Codes process FitsProcess decode_process
+unfolding decode_process
 codes_process = record {
   takes = tagged_takes process FitsProcess processes (
     takes_made process FitsProcess (0 ∷ []) DataNode codes_one (λ a. refl) (λ a fits. fits),
@@ -69,8 +69,8 @@ codes_session = record {
 abbrev run_by : ℕ → ℕ → Run
 run_by at len = record { at = at; len = len }
 
-codes_run : Codes run FitsRun run_at
-unfolding run_at
+codes_run : Codes run FitsRun decode_run
+unfolding decode_run
 codes_run = record {
   takes = takes_two run FitsRun [] run_by codes_four codes_four (λ a b. refl) (λ a b p q. (p, q));
   again = λ r rest fits. again_two run_by codes_four codes_four r.at r.len rest fits.0 fits.1;
@@ -78,11 +78,11 @@ codes_run = record {
 
 codes_until : Codes (maybe eight) (FitsMaybe IsEight) until_at
 unfolding until_at
-codes_until = codes_maybe eight IsEight (number_at w64) codes_eight
+codes_until = codes_maybe eight IsEight (decode_number w64) codes_eight
 
 codes_frees : Codes (maybe run) (FitsMaybe FitsRun) frees_at
 unfolding frees_at
-codes_frees = codes_maybe run FitsRun run_at codes_run
+codes_frees = codes_maybe run FitsRun decode_run codes_run
 
 pub codes_key : Codes short IsKey key_at
 unfolding key_at
@@ -92,7 +92,7 @@ codes_key = codes_tested short IsShort IsKey (counted_at one_at) passes_key (cod
 
 pub codes_long : Codes long IsLong long_at
 unfolding long_at
-codes_long = codes_counted four IsFour (number_at w32) codes_four
+codes_long = codes_counted four IsFour (decode_number w32) codes_four
 
 abbrev change : Run × List ℕ → List ℕ
 change x = run x.0 ++ long x.1
@@ -106,7 +106,7 @@ FitsChange x = FitsRun x.0 × IsLong x.1 × (length x.1 ≡ x.0.len)
 abbrev pair : Run → List ℕ → Run × List ℕ
 pair r delta = (r, delta)
 
-codes_pair : Codes change FitsBoth (of_two pair run_at long_at)
+codes_pair : Codes change FitsBoth (of_two pair decode_run long_at)
 codes_pair = record {
   takes = takes_two change FitsBoth [] pair codes_run codes_long (λ a b. refl) (λ a b p q. (p, q));
   again = λ x rest fits. again_two pair codes_run codes_long x.0 x.1 rest fits.0 fits.1;
@@ -114,7 +114,7 @@ codes_pair = record {
 
 codes_change : Codes change FitsChange change_at
 unfolding change_at
-codes_change = codes_tested change FitsBoth FitsChange (of_two pair run_at long_at) (λ x. eqb (length x.1) x.0.len) codes_pair
+codes_change = codes_tested change FitsBoth FitsChange (of_two pair decode_run long_at) (λ x. eqb (length x.1) x.0.len) codes_pair
     (λ x fits passes. (fits.0, fits.1, eqb-true _ _ passes)) (λ x fits. (fits.0, fits.1)) (λ x fits. eq-eqb _ _ fits.2)
 
 again_outcome : (o : Outcome) (rest : List ℕ) → FitsOutcome o → outcome_at (outcome o ++ rest) ≡ Some (o, rest)
@@ -234,11 +234,11 @@ codes_update = record {
 
 pub codes_updates : Codes (λ list. two (length list) ++ flat_map update list) (λ list. IsTwo (length list) × AllByRecursion FitsUpdate list) updates_at
 unfolding updates_at
-codes_updates = codes_list two IsTwo (number_at w16) update FitsUpdate update_at codes_two codes_update
+codes_updates = codes_list two IsTwo (decode_number w16) update FitsUpdate update_at codes_two codes_update
 
 pub codes_stamp : Codes (λ stamp. one (length stamp) ++ flat_map eight stamp) (λ stamp. IsOne (length stamp) × AllByRecursion IsEight stamp) stamp_at
 unfolding stamp_at
-codes_stamp = codes_list one IsOne one_at eight IsEight (number_at w64) codes_one codes_eight
+codes_stamp = codes_list one IsOne one_at eight IsEight (decode_number w64) codes_one codes_eight
 
 small_from : (bytes : List ℕ) → IsBytes bytes → AllByRecursion IsOne bytes
 small_from [] is = tt

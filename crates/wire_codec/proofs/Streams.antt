@@ -7,10 +7,10 @@ use Rattle.std.proofs.lemmas.Grind.{flat_map-append}
 use Rattle.std.proofs.lemmas.List.Concat.{flat_map-cons}
 use Rattle.std.proofs.lemmas.List.{length-append, length-take, append-nil, take_at, take-append-le, take-append-drop}
 use Rattle.group_message.specs.declared.message.Message.{Message}
-use Rattle.wire_codec.specs.Frame.{four, frame_of, text_of}
+use Rattle.wire_codec.specs.Frame.{four, frame_body, frame_of}
 use Rattle.wire_codec.specs.Fits.{HasFrame, IsFrame}
-use Rattle.wire_codec.specs.Stream.{stream_of, announced, IsLength, HasNone, IsPartial, IsBad, Reads, Kept, ReadsFrom, HasRead, Feeds}
-use Rattle.wire_codec.specs.Cutting.{ReadsOn}
+use Rattle.wire_codec.specs.Stream.{stream_of, announced, IsLength, HasNone, IsPartial, IsBad, ReadsFrames, DecoderState, DecodesFrom, HasDecoded, Feeds}
+use Rattle.wire_codec.specs.Cutting.{DecodesOn}
 use Rattle.wire_codec.proofs.Messages.{frame_once}
 use Rattle.wire_codec.proofs.Cuts.{fronts, partial-none, announced-more}
 
@@ -33,7 +33,7 @@ few-partial rest partial = by (nat_le 4 (length rest)) refl where
   by false is = grind (arith, nat_tests)
 
 -- what is kept is the end of what was fed, and less than a frame
-pub kept-few : (kept : Kept) (input : List ℕ) (messages : List Message) → HasRead kept input messages → kept.bad ≡ false
+pub kept-few : (kept : DecoderState) (input : List ℕ) (messages : List Message) → HasDecoded kept input messages → kept.bad ≡ false
     → (length kept.front ≤ length input) × (length kept.front < 134217732)
 kept-few kept input messages h good =
     let stood : (h.rest ≡ kept.front) × IsPartial h.rest = open_stands (IsBad h.rest) ((h.rest ≡ kept.front) × IsPartial h.rest) kept.bad good h.stands in
@@ -43,15 +43,15 @@ kept-few kept input messages h good =
     )
 
 -- nothing was read of what is less than a frame, and of what is no spelling
-pub reads-partial : (at : ℕ) (text : List ℕ) → IsPartial text → ReadsFrom at (record { begun = at; bad = false; front = text }) text []
+pub reads-partial : (at : ℕ) (text : List ℕ) → IsPartial text → DecodesFrom at (record { begun = at; bad = false; front = text }) text []
 reads-partial at text partial = record { rest = text; reads = record { whole = refl; each = tt }; stands = (refl, partial); place = refl }
 
-pub reads-bad : (at : ℕ) (text : List ℕ) → IsBad text → ReadsFrom at (record { begun = at; bad = true; front = [] }) text []
+pub reads-bad : (at : ℕ) (text : List ℕ) → IsBad text → DecodesFrom at (record { begun = at; bad = true; front = [] }) text []
 reads-bad at text bad = record { rest = text; reads = record { whole = refl; each = tt }; stands = bad; place = refl }
 
 -- a message before those that were read of what is behind its frame
-pub reads-cons : (at : ℕ) (kept : Kept) (text after : List ℕ) (m : Message) (given : List Message) → IsFrame text m
-    → ReadsFrom (at + length text) kept after given → ReadsFrom at kept (text ++ after) (m ∷ given)
+pub reads-cons : (at : ℕ) (kept : DecoderState) (text after : List ℕ) (m : Message) (given : List Message) → IsFrame text m
+    → DecodesFrom (at + length text) kept after given → DecodesFrom at kept (text ++ after) (m ∷ given)
 reads-cons at kept text after m given is read = record {
   rest = read.rest;
   reads = record {
@@ -65,9 +65,9 @@ reads-cons at kept text after m given is read = record {
 }
 
 -- messages that were read before a piece came, and those that were read of what was kept and the piece
-pub reads-append : (old kept : Kept) (input piece : List ℕ) (before given : List Message) → old.bad ≡ false
-    → HasRead old input before → ReadsFrom old.begun kept (old.front ++ piece) given
-    → HasRead kept (input ++ piece) (before ++ given)
+pub reads-append : (old kept : DecoderState) (input piece : List ℕ) (before given : List Message) → old.bad ≡ false
+    → HasDecoded old input before → DecodesFrom old.begun kept (old.front ++ piece) given
+    → HasDecoded kept (input ++ piece) (before ++ given)
 reads-append old kept input piece before given goes h read =
     let stood : (h.rest ≡ old.front) × IsPartial h.rest = open_stands (IsBad h.rest) ((h.rest ≡ old.front) × IsPartial h.rest) old.bad goes h.stands in
     let first : input ++ piece ≡ stream_of before ++ (old.front ++ piece) =
@@ -85,15 +85,15 @@ reads-append old kept input piece before given goes h read =
       place = omega (arith, now, was, ap length stood.0, length-append old.front piece, length-append input piece);
     }
 
-pub feeds-by : (old kept : Kept) (piece : List ℕ) (given : List Message) → old.bad ≡ false
-    → (IsPartial old.front → ReadsFrom old.begun kept (old.front ++ piece) given) → Feeds old kept piece given
+pub feeds-by : (old kept : DecoderState) (piece : List ℕ) (given : List Message) → old.bad ≡ false
+    → (IsPartial old.front → DecodesFrom old.begun kept (old.front ++ piece) given) → Feeds old kept piece given
 feeds-by old kept piece given goes read = λ input before h.
     let stood : (h.rest ≡ old.front) × IsPartial h.rest = open_stands (IsBad h.rest) ((h.rest ≡ old.front) × IsPartial h.rest) old.bad goes h.stands in
     reads-append old kept input piece before given goes h (read (subst IsPartial stood.0 stood.1))
 
 -- an input is read in one way
-pub reads-once : (messages others : List Message) (input rest left : List ℕ) → Reads input messages rest → HasNone rest
-    → Reads input others left → HasNone left → (messages ≡ others) × (rest ≡ left)
+pub reads-once : (messages others : List Message) (input rest left : List ℕ) → ReadsFrames input messages rest → HasNone rest
+    → ReadsFrames input others left → HasNone left → (messages ≡ others) × (rest ≡ left)
 reads-once [] [] input rest left one none other last = (refl, sym one.whole ∙ other.whole)
 reads-once [] (n ∷ others) input rest left one none other last =
     absurd (none n (stream_of others ++ left) other.each.0 (sym one.whole ∙ other.whole
@@ -119,36 +119,36 @@ reads-once (m ∷ messages) (n ∷ others) input rest left one none other last =
     same first rest = cc
 
 -- what is kept at the end of a text
-pub ends-partial : (at : ℕ) (kept : Kept) (front text : List ℕ)
+pub ends-partial : (at : ℕ) (kept : DecoderState) (front text : List ℕ)
     → kept ≡ record { begun = at; bad = false; front = front } → front ≡ text → IsPartial text
-    → ReadsFrom at kept text []
-ends-partial at kept front text is same partial = subst (λ (k : Kept). ReadsFrom at k text [])
+    → DecodesFrom at kept text []
+ends-partial at kept front text is same partial = subst (λ (k : DecoderState). DecodesFrom at k text [])
     (sym (is ∙ ap (λ (f : List ℕ). waits at f) same)) (reads-partial at text partial)
   where
-    waits : ℕ → List ℕ → Kept
+    waits : ℕ → List ℕ → DecoderState
     waits at front = record { begun = at; bad = false; front = front }
 
-pub ends-bad : (at : ℕ) (kept : Kept) (text : List ℕ) → kept ≡ record { begun = at; bad = true; front = [] } → IsBad text → ReadsFrom at kept text []
-ends-bad at kept text is bad = subst (λ (k : Kept). ReadsFrom at k text []) (sym is) (reads-bad at text bad)
+pub ends-bad : (at : ℕ) (kept : DecoderState) (text : List ℕ) → kept ≡ record { begun = at; bad = true; front = [] } → IsBad text → DecodesFrom at kept text []
+ends-bad at kept text is bad = subst (λ (k : DecoderState). DecodesFrom at k text []) (sym is) (reads-bad at text bad)
 
 -- a frame became whole, and the text behind it was read
-pub feeds-whole : (old kept : Kept) (piece behind : List ℕ) (m : Message) (taken at : ℕ) (messages given : List Message)
+pub feeds-whole : (old kept : DecoderState) (piece behind : List ℕ) (m : Message) (taken at : ℕ) (messages given : List Message)
     → old.bad ≡ false → taken ≤ length piece
     → (IsPartial old.front → IsFrame (old.front ++ take taken piece) m) → at ≡ old.begun + (length old.front + taken)
-    → behind ≡ drop taken piece → ReadsOn at kept behind (m ∷ []) messages → given ≡ messages
+    → behind ≡ drop taken piece → DecodesOn at kept behind (m ∷ []) messages → given ≡ messages
     → Feeds old kept piece given
 feeds-whole old kept piece behind m taken at messages given goes within frame place rest on same = feeds-by old kept piece given goes (λ partial.
     let text = old.front ++ take taken piece in
     let len : length text ≡ length old.front + taken = omega (arith, length-append old.front (take taken piece), length-take taken piece, within) in
     let from : at ≡ old.begun + length text = place ∙ ap (λ (n : ℕ). old.begun + n) (sym len) in
-    let read : ReadsFrom (old.begun + length text) kept (drop taken piece) on.given =
-    subst (λ (b : List ℕ). ReadsFrom (old.begun + length text) kept b on.given) rest
-    (subst (λ (n : ℕ). ReadsFrom n kept behind on.given) from on.has_read) in
+    let read : DecodesFrom (old.begun + length text) kept (drop taken piece) on.given =
+    subst (λ (b : List ℕ). DecodesFrom (old.begun + length text) kept b on.given) rest
+    (subst (λ (n : ℕ). DecodesFrom n kept behind on.given) from on.has_read) in
     let whole : text ++ drop taken piece ≡ old.front ++ piece = append_assoc old.front (take taken piece)
     (drop taken piece) ∙ ap (λ (t : List ℕ). old.front ++ t) (take-append-drop taken piece) in
     let all : given ≡ m ∷ on.given = same ∙ on.behind in
-    subst (λ (t : List ℕ). ReadsFrom old.begun kept t given) whole
-    (subst (λ (g : List Message). ReadsFrom old.begun kept (text ++ drop taken piece) g) (sym all)
+    subst (λ (t : List ℕ). DecodesFrom old.begun kept t given) whole
+    (subst (λ (g : List Message). DecodesFrom old.begun kept (text ++ drop taken piece) g) (sym all)
     (reads-cons old.begun kept text (drop taken piece) m on.given (frame partial) read)))
 
 pub bad-none : (rest piece : List ℕ) (m : Message) (more : List ℕ) → IsBad rest → HasFrame m → rest ++ piece ≡ frame_of m ++ more → ⊥
@@ -157,7 +157,7 @@ bad-none rest piece m more bad has e =
     let same : announced (rest ++ piece) ≡ announced rest = announced-more rest piece bad.header in
     let due = bad.due (subst IsLength same f.in_range) in
     let says = f.says in
-    let le : length (frame_of m) ≤ length rest = omega (arith, length-append (four (length (text_of m))) (text_of m), due, same, says) in
+    let le : length (frame_of m) ≤ length rest = omega (arith, length-append (four (length (frame_body m))) (frame_body m), due, same, says) in
     let front : take (length (frame_of m)) (rest ++ piece) ≡ frame_of m =
     ap (λ (t : List ℕ). take (length (frame_of m)) t) e ∙ take_at (frame_of m) more (length (frame_of m)) refl in
     let is : rest ≡ frame_of m ++ drop (length (frame_of m)) rest =
@@ -185,7 +185,7 @@ stands_bad P Q true is given = given
 stands_bad P Q false is given = cc
 
 -- nothing is read behind it
-pub feeds-bad : (old : Kept) (piece : List ℕ) → old.bad ≡ true → Feeds old old piece []
+pub feeds-bad : (old : DecoderState) (piece : List ℕ) → old.bad ≡ true → Feeds old old piece []
 feeds-bad old piece is = λ input messages h.
     let bad : IsBad h.rest = bad_stands (IsBad h.rest) ((h.rest ≡ old.front) × IsPartial h.rest) old.bad is h.stands in
     let place = h.place in
@@ -202,16 +202,16 @@ feeds-bad old piece is = λ input messages h.
 
 -- a link that is cut hands out a front of what was sent, and no frame of it is bad
 pub cut-front : (sent given : List Message) (input more rest : List ℕ) → AllByRecursion HasFrame sent
-    → stream_of sent ≡ input ++ more → Reads input given rest → (later : List Message) × (sent ≡ given ++ later)
+    → stream_of sent ≡ input ++ more → ReadsFrames input given rest → (later : List Message) × (sent ≡ given ++ later)
     × (stream_of later ≡ rest ++ more)
 cut-front sent [] input more rest each e reads = (sent, refl, e ∙ ap (λ (t : List ℕ). t ++ more) reads.whole)
 cut-front [] (g ∷ given) input more rest each e reads =
     let long : length input ≡ length (frame_of g) + length (stream_of given ++ rest) =
     ap length (reads.whole ∙ ap (λ (t : List ℕ). t ++ rest) (flat_map-cons frame_of g given)
     ∙ append_assoc (frame_of g) (stream_of given) rest) ∙ length-append (frame_of g) (stream_of given ++ rest) in
-    absurd (none_long input more (length (text_of g)) (length (stream_of given ++ rest))
+    absurd (none_long input more (length (frame_body g)) (length (stream_of given ++ rest))
     (long ∙ ap (λ (n : ℕ). n + length (stream_of given ++ rest))
-    (length-append (four (length (text_of g))) (text_of g))) e)
+    (length-append (four (length (frame_body g))) (frame_body g))) e)
   where
     none_long : (input more : List ℕ) (n k : ℕ) → length input ≡ 4 + n + k → [] ≡ input ++ more → ⊥
     none_long input more n k long e = omega (arith, long, length-append input more, ap length e)

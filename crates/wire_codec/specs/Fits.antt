@@ -13,7 +13,7 @@ use Rattle.group_message.specs.declared.update.Body.TheVariants.{Put, Remove, To
 use Rattle.group_message.specs.declared.update.Outcome.{Outcome}
 use Rattle.group_message.specs.declared.update.Outcome.TheVariants as ends
 use Rattle.group_message.specs.declared.update.Update.{Update}
-use Rattle.wire_codec.specs.Frame.{frame_of, text_of}
+use Rattle.wire_codec.specs.Frame.{frame_body, frame_of}
 
 -- a number of one byte, and of two, four and eight
 abbrev pub IsOne : ℕ → Type 0
@@ -82,7 +82,7 @@ most = 134217728
 -- a message has a frame
 pub record HasFrame (m : Message) : Type 0 where
   pub fit : FitFields m
-  pub short : length (text_of m) ≤ most
+  pub short : length (frame_body m) ≤ most
 
 -- these bytes are the frame of this message
 pub record IsFrame (bytes : List ℕ) (m : Message) : Type 0 where

@@ -92,9 +92,9 @@ fields (tells.Cease upto) = eight upto
 fields (tells.Notice dead) = process dead
 
 -- what stands behind a frame's length
-abbrev pub text_of : Message → List ℕ
-text_of m = kind_of m ∷ fields m
+abbrev pub frame_body : Message → List ℕ
+frame_body m = kind_of m ∷ fields m
 
 -- the frame of a message
 abbrev pub frame_of : Message → List ℕ
-frame_of m = four (length (text_of m)) ++ text_of m
+frame_of m = four (length (frame_body m)) ++ frame_body m

@@ -6,7 +6,7 @@ use Rattle.group_message.specs.declared.message.Message.TheVariants as tells
 use Rattle.group_message.specs.declared.update.Body.{Body}
 use Rattle.group_message.specs.declared.update.Body.TheVariants.{Put, Remove, Touch}
 use Rattle.group_message.specs.declared.update.Update.{Update}
-use Rattle.wire_codec.specs.Frame.{one, four, eight, session, short, maybe, run, outcome, text_of}
+use Rattle.wire_codec.specs.Frame.{one, four, eight, session, short, maybe, run, outcome, frame_body}
 
 -- the value that an update carries
 abbrev pub delta_of : Body → List ℕ
@@ -34,7 +34,7 @@ abbrev pub text_before : Message → List ℕ
 text_before (tells.Update r d u stable) = 1 ∷ one r.0 ++ one d.0 ++ update_before u
 text_before (tells.Block s bytes number) = 6 ∷ session s ++ four (length bytes)
 text_before (tells.Row s bytes stamp) = 8 ∷ session s ++ four (length bytes)
-text_before m = text_of m
+text_before m = frame_body m
 
 -- what stands behind it
 abbrev pub text_behind : Message → List ℕ

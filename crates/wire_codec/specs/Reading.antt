@@ -44,11 +44,11 @@ abbrev pub one_at : Read ℕ
 one_at [] = None
 one_at (b ∷ rest) = Some (b, rest)
 
-abbrev pub number_at : Width → Read ℕ
-number_at w bytes = if nat_lt (length bytes) (byte_len w) then None else Some (from_be_bytes w (take (byte_len w) bytes), drop (byte_len w) bytes)
+abbrev pub decode_number : Width → Read ℕ
+decode_number w bytes = if nat_lt (length bytes) (byte_len w) then None else Some (from_be_bytes w (take (byte_len w) bytes), drop (byte_len w) bytes)
 
-abbrev pub bytes_at : ℕ → Read (List ℕ)
-bytes_at n bytes = if nat_lt (length bytes) n then None else Some (take n bytes, drop n bytes)
+abbrev pub decode_bytes : ℕ → Read (List ℕ)
+decode_bytes n bytes = if nat_lt (length bytes) n then None else Some (take n bytes, drop n bytes)
 
 -- what is made of what is read
 abbrev pub made_at : {A B : Type 0} → (A → B) → Read A → Read B
@@ -73,7 +73,7 @@ tested_at test read bytes = read bytes >>= λ x. if test x.0 then Some x else No
 
 -- as many bytes as a number before them says
 abbrev pub counted_at : Read ℕ → Read (List ℕ)
-counted_at read bytes = read bytes >>= λ n. bytes_at n.0 n.1
+counted_at read bytes = read bytes >>= λ n. decode_bytes n.0 n.1
 
 -- so many things
 unfoldable pub many_at : {A : Type 0} → Read A → ℕ → Read (List A)
@@ -102,20 +102,20 @@ maybe_at read = tagged_at (options read)
 abbrev pub processes : List (ℕ × Read ProcessId)
 processes = (0, made_at DataNode one_at) ∷ (1, made_at ParityNode one_at) ∷ []
 
-unfoldable pub process_at : Read ProcessId
-process_at = tagged_at processes
+unfoldable pub decode_process : Read ProcessId
+decode_process = tagged_at processes
 
 unfoldable pub session_at : Read Session
-session_at = of_two (λ leader number. record { leader = leader; number = number }) process_at (number_at w64)
+session_at = of_two (λ leader number. record { leader = leader; number = number }) decode_process (decode_number w64)
 
-unfoldable pub run_at : Read Run
-run_at = of_two (λ at len. record { at = at; len = len }) (number_at w32) (number_at w32)
+unfoldable pub decode_run : Read Run
+decode_run = of_two (λ at len. record { at = at; len = len }) (decode_number w32) (decode_number w32)
 
 unfoldable pub until_at : Read (Option ℕ)
-until_at = maybe_at (number_at w64)
+until_at = maybe_at (decode_number w64)
 
 unfoldable pub frees_at : Read (Option Run)
-frees_at = maybe_at run_at
+frees_at = maybe_at decode_run
 
 -- whether bytes are within memcached's limits of a key
 abbrev pub passes_key : List ℕ → Bool
@@ -125,14 +125,14 @@ unfoldable pub key_at : Read (List ℕ)
 key_at = tested_at passes_key (counted_at one_at)
 
 unfoldable pub long_at : Read (List ℕ)
-long_at = counted_at (number_at w32)
+long_at = counted_at (decode_number w32)
 
 -- a run, and a difference of its length
 unfoldable pub change_at : Read (Run × List ℕ)
-change_at = tested_at (λ x. length x.1 == x.0.len) (of_two (λ r delta. (r, delta)) run_at long_at)
+change_at = tested_at (λ x. length x.1 == x.0.len) (of_two (λ r delta. (r, delta)) decode_run long_at)
 
 unfoldable pub put_at : Read Body
-put_at = of_three (λ flags until change. Put flags until change.0 change.1) (number_at w32) until_at change_at
+put_at = of_three (λ flags until change. Put flags until change.0 change.1) (decode_number w32) until_at change_at
 
 abbrev pub bodies : List (ℕ × Read Body)
 bodies = (0, put_at) ∷ (1, given Remove) ∷ (2, made_at Touch until_at) ∷ []
@@ -141,14 +141,14 @@ unfoldable pub body_at : Read Body
 body_at = tagged_at bodies
 
 abbrev pub outcomes : List (ℕ × Read Outcome)
-outcomes = (0, given ends.Stored) ∷ (1, given ends.Deleted) ∷ (2, given ends.Touched) ∷ (3, made_at ends.Number (number_at w64)) ∷ []
+outcomes = (0, given ends.Stored) ∷ (1, given ends.Deleted) ∷ (2, given ends.Touched) ∷ (3, made_at ends.Number (decode_number w64)) ∷ []
 
 unfoldable pub outcome_at : Read Outcome
 outcome_at = tagged_at outcomes
 
 -- an update's number, caller and call, and what it frees and is answered
 unfoldable pub name_at : Read (ℕ × ℕ × ℕ)
-name_at = of_three (λ number caller call. (number, caller, call)) (number_at w64) one_at (number_at w64)
+name_at = of_three (λ number caller call. (number, caller, call)) (decode_number w64) one_at (decode_number w64)
 
 unfoldable pub effect_at : Read (Option Run × Outcome)
 effect_at = of_two (λ frees outcome. (frees, outcome)) frees_at outcome_at
@@ -160,43 +160,43 @@ unfoldable pub update_at : Read Update
 update_at = of_four update_by name_at key_at body_at effect_at
 
 unfoldable pub update_message_at : Read Message
-update_message_at = of_four (λ r d u stable. tells.Update (record { 0 = r }) (record { 0 = d }) u stable) one_at one_at update_at (number_at w64)
+update_message_at = of_four (λ r d u stable. tells.Update (record { 0 = r }) (record { 0 = d }) u stable) one_at one_at update_at (decode_number w64)
 
 unfoldable pub ack_at : Read Message
-ack_at = of_three (λ r d number. tells.Ack (record { 0 = r }) (record { 0 = d }) number) one_at one_at (number_at w64)
+ack_at = of_three (λ r d number. tells.Ack (record { 0 = r }) (record { 0 = d }) number) one_at one_at (decode_number w64)
 
 unfoldable pub stable_at : Read Message
-stable_at = of_three (λ r d number. tells.Stable (record { 0 = r }) (record { 0 = d }) number) one_at one_at (number_at w64)
+stable_at = of_three (λ r d number. tells.Stable (record { 0 = r }) (record { 0 = d }) number) one_at one_at (decode_number w64)
 
 unfoldable pub updates_at : Read (List Update)
-updates_at = list_at (number_at w16) update_at
+updates_at = list_at (decode_number w16) update_at
 
 unfoldable pub adopt_at : Read Message
-adopt_at = of_four (λ r d base list. tells.Adopt (record { 0 = r }) (record { 0 = d }) base list) one_at one_at (number_at w64) updates_at
+adopt_at = of_four (λ r d base list. tells.Adopt (record { 0 = r }) (record { 0 = d }) base list) one_at one_at (decode_number w64) updates_at
 
 unfoldable pub rows_at : Read (List ℕ)
 rows_at = counted_at one_at
 
 unfoldable pub read_block_at : Read Message
-read_block_at = of_three tells.ReadBlock session_at (number_at w32) rows_at
+read_block_at = of_three tells.ReadBlock session_at (decode_number w32) rows_at
 
 unfoldable pub block_at : Read Message
-block_at = of_three tells.Block session_at long_at (number_at w64)
+block_at = of_three tells.Block session_at long_at (decode_number w64)
 
 unfoldable pub mark_at : Read Message
-mark_at = of_five (λ s r block d number. tells.Mark s (record { 0 = r }) block (record { 0 = d }) number) session_at one_at (number_at w32) one_at (number_at w64)
+mark_at = of_five (λ s r block d number. tells.Mark s (record { 0 = r }) block (record { 0 = d }) number) session_at one_at (decode_number w32) one_at (decode_number w64)
 
 unfoldable pub stamp_at : Read (List ℕ)
-stamp_at = list_at one_at (number_at w64)
+stamp_at = list_at one_at (decode_number w64)
 
 unfoldable pub row_at : Read Message
 row_at = of_three tells.Row session_at long_at stamp_at
 
 unfoldable pub cease_at : Read Message
-cease_at = made_at tells.Cease (number_at w64)
+cease_at = made_at tells.Cease (decode_number w64)
 
 unfoldable pub notice_at : Read Message
-notice_at = made_at tells.Notice process_at
+notice_at = made_at tells.Notice decode_process
 
 -- the kinds of messages, and how the fields of each are read
 abbrev pub kinds : List (ℕ × Read Message)
@@ -210,5 +210,5 @@ abbrev pub ended : Message × List ℕ → Option Message
 ended (m, []) = Some m
 ended (m, b ∷ rest) = None
 
-unfoldable pub message_of : List ℕ → Option Message
-message_of text = message_at text >>= ended
+unfoldable pub message_in : List ℕ → Option Message
+message_in text = message_at text >>= ended

@@ -33,36 +33,36 @@ pub record IsBad (rest : List ℕ) : Type 0 where
   pub none : HasNone rest
 
 -- an input is the frames of these messages, and then this rest
-pub record Reads (input : List ℕ) (messages : List Message) (rest : List ℕ) : Type 0 where
+pub record ReadsFrames (input : List ℕ) (messages : List Message) (rest : List ℕ) : Type 0 where
   pub whole : input ≡ stream_of messages ++ rest
   pub each : AllByRecursion HasFrame messages
 
 -- what a decoder keeps: the place in the stream of the first frame that it hasn't read, whether that is no spelling, and
 -- else its bytes so far
-pub record Kept : Type 0 where
+pub record DecoderState : Type 0 where
   pub begun : ℕ
   pub bad : Bool
   pub front : List ℕ
 
 -- what is kept of the rest of an input
-abbrev pub StandsFor : Kept → List ℕ → Type 0
-StandsFor kept rest = MatchBool kept.bad (IsBad rest) ((rest ≡ kept.front) × IsPartial rest)
+abbrev pub KeepsRest : DecoderState → List ℕ → Type 0
+KeepsRest kept rest = MatchBool kept.bad (IsBad rest) ((rest ≡ kept.front) × IsPartial rest)
 
 -- a decoder that keeps this has read these messages of an input that begins at this place of the stream
-pub record ReadsFrom (at : ℕ) (kept : Kept) (input : List ℕ) (messages : List Message) : Type 0 where
+pub record DecodesFrom (at : ℕ) (kept : DecoderState) (input : List ℕ) (messages : List Message) : Type 0 where
   pub rest : List ℕ
-  pub reads : Reads input messages rest
-  pub stands : StandsFor kept rest
+  pub reads : ReadsFrames input messages rest
+  pub stands : KeepsRest kept rest
   pub place : kept.begun + length rest ≡ at + length input
 
 -- a decoder that keeps this was fed this input, and gave these messages
-abbrev pub HasRead : Kept → List ℕ → List Message → Type 0
-HasRead kept input messages = ReadsFrom 0 kept input messages
+abbrev pub HasDecoded : DecoderState → List ℕ → List Message → Type 0
+HasDecoded kept input messages = DecodesFrom 0 kept input messages
 
 -- whatever was fed before, with a piece more these messages more are given
-abbrev pub Feeds : Kept → Kept → List ℕ → List Message → Type 0
-Feeds before after piece given = (input : List ℕ) (messages : List Message) → HasRead before input messages → HasRead after (input ++ piece) (messages ++ given)
+abbrev pub Feeds : DecoderState → DecoderState → List ℕ → List Message → Type 0
+Feeds before after piece given = (input : List ℕ) (messages : List Message) → HasDecoded before input messages → HasDecoded after (input ++ piece) (messages ++ given)
 
 -- a decoder may be fed so many bytes more: with them the stream has at most 2^62, or it has met a frame that is no spelling
-abbrev pub IsTaken : Kept → ℕ → Type 0
-IsTaken kept len = kept.bad ≡ false → kept.begun + length kept.front + len ≤ 2 ^ 62
+abbrev pub CanBeFed : DecoderState → ℕ → Type 0
+CanBeFed kept len = kept.bad ≡ false → kept.begun + length kept.front + len ≤ 2 ^ 62

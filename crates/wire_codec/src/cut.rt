@@ -1,6 +1,6 @@
 ghost use Rattle.std.specs.Prelude.{◌≡◌, ◌≤◌, ◌<◌, ◌+◌, ◌++◌, length, drop, slice_index, IfOk, IfSome, IfNone};
-ghost use Rattle.wire_codec.specs.Cutting.{IsCut, IsWithin};
-ghost use Rattle.wire_codec.specs.Reading.{Gives, message_of};
+ghost use Rattle.wire_codec.specs.Cutting.{IsCutWithin, IsFrameCut};
+ghost use Rattle.wire_codec.specs.Reading.{Gives, message_in};
 ghost use Rattle.wire_codec.specs.Stream.{IsPartial, announced};
 
 use crate::fault::ReadFault;
@@ -22,8 +22,8 @@ pub(crate) enum Cut {
 
 /// The first frame of what is kept, which is less than a frame, and of a piece behind it.
 pub(crate) fn first_frame(alloc: Global, front: &[u8], piece: &[u8]) -> Result<Cut, AllocError>
-    ensures within { IfOk result (λ cut. IsWithin piece.now cut) }
-    ensures is { IfOk result (λ cut. IsPartial front.now → IsCut front.now piece.now cut) }
+    ensures within { IfOk result (λ cut. IsCutWithin piece.now cut) }
+    ensures is { IfOk result (λ cut. IsPartial front.now → IsFrameCut front.now piece.now cut) }
 {
     let Some(len) = announced_len(front, piece) else {
         return Ok(Cut::Partial);
@@ -74,7 +74,7 @@ fn byte_at(front: &[u8], piece: &[u8], i: usize) -> u8
 /// The message behind the first four bytes, whose text ends with the piece.
 fn joined_message(alloc: Global, front: &[u8], piece: &[u8]) -> Result<Message, ReadFault>
     requires { 4 ≤ length front.now + length piece.now }
-    ensures { Gives (λ m. m) result (message_of (drop 4 (front.now ++ piece.now))) }
+    ensures { Gives (λ m. m) result (message_in (drop 4 (front.now ++ piece.now))) }
 {
     if front.len() <= 4 {
         return read_message(alloc, piece.split_at(4 - front.len()).1);

@@ -1,6 +1,6 @@
 ghost use Rattle.std.specs.Prelude.{◌≡◌, ◌↔◌, ◌≤◌, ◌+◌, ◌^◌, ℕ, [], ◌∷◌, length, true, false, IfOk, IsTrue};
-ghost use Rattle.wire_codec.specs.Cutting.{ReadsOn};
-ghost use Rattle.wire_codec.specs.Stream.{HasRead, Feeds, IsTaken};
+ghost use Rattle.wire_codec.specs.Cutting.{DecodesOn};
+ghost use Rattle.wire_codec.specs.Stream.{CanBeFed, Feeds, HasDecoded};
 
 use crate::cut::{Cut, first_frame};
 use crate::message_list::MessageList;
@@ -36,9 +36,9 @@ pub struct Decoder {
 }
 
 impl Model for Decoder {
-    ghost use Rattle.wire_codec.specs.Stream.{Kept};
+    ghost use Rattle.wire_codec.specs.Stream.{DecoderState};
 
-    ghost Value = { Kept };
+    ghost Value = { DecoderState };
 
     ghost view = { λ d. record { begun = d.begun; bad = d.bad; front = d.front.items } };
 }
@@ -49,7 +49,7 @@ impl Decoder {
 
     /// A decoder to which no byte was fed.
     pub fn new(alloc: Global) -> Decoder
-        ensures read { HasRead result [] [] }
+        ensures read { HasDecoded result [] [] }
         ensures fresh { result ≡ record { begun = 0; bad = false; front = [] } }
     {
         waiting(0, Vec::new(alloc), alloc)
@@ -58,7 +58,7 @@ impl Decoder {
     /// Takes the next piece of the stream, and gives the messages that are whole with it. Where a frame is no spelling the
     /// messages before it are given first; then, and at each later call, that is the answer.
     pub fn feed(&mut self, piece: &[u8]) -> Result<MessageList, DecodeFault>
-        requires { IsTaken self.old (length piece.now) }
+        requires { CanBeFed self.old (length piece.now) }
         ensures messages { IfOk result (λ given. Feeds self.old self.new piece.now given) }
         ensures bad_frame { (at : ℕ) → result ≡ Err (BadFrame at)
             → (self.new.bad ≡ true) × (self.new.begun ≡ at) × Feeds self.old self.new piece.now [] }
@@ -95,7 +95,7 @@ impl Decoder {
 
     /// Whether a piece of so many bytes may be fed: with it a stream has at most 2^62.
     pub fn takes(&self, len: usize) -> bool
-        ensures { IsTrue result ↔ IsTaken self.now len }
+        ensures { IsTrue result ↔ CanBeFed self.now len }
     {
         let fed = self.begun.saturating_add(self.front.len() as u64);
         self.bad || fed.saturating_add(len as u64) <= 1 << 62
@@ -148,7 +148,7 @@ fn read_behind(
     text: &[u8],
 ) -> Result<(Vec<Message>, Decoder), AllocError>
     requires { at + length text.now ≤ 2 ^ 62 }
-    ensures read { IfOk result (λ read. ReadsOn at read.1 text.now (first ∷ []) read.0.items) }
+    ensures read { IfOk result (λ read. DecodesOn at read.1 text.now (first ∷ []) read.0.items) }
     ensures emptied { IfOk result (λ read. read.1.bad ≡ true → read.1.front ≡ []) }
 {
     let mut messages = Vec::with_capacity(alloc, 8)?;
@@ -165,7 +165,7 @@ fn read_on(
     text: &[u8],
 ) -> Result<(Vec<Message>, Decoder), AllocError>
     requires { at + length text.now ≤ 2 ^ 62 }
-    ensures read { IfOk result (λ read. ReadsOn at read.1 text.now found.items read.0.items) }
+    ensures read { IfOk result (λ read. DecodesOn at read.1 text.now found.items read.0.items) }
     ensures emptied { IfOk result (λ read. read.1.bad ≡ true → read.1.front ≡ []) }
 {
     let mut messages = found;

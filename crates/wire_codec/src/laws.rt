@@ -3,7 +3,7 @@ ghost use Rattle.std.specs.Prelude.{◌≡◌, ℕ, ◌+◌, ◌<◌, ◌≤◌,
 ghost use Rattle.std.specs.List.{AllByRecursion};
 ghost use Rattle.group_message.specs.declared.message.Message.{Message};
 ghost use Rattle.wire_codec.specs.Fits.{HasFrame, IsFrame, most};
-ghost use Rattle.wire_codec.specs.Stream.{stream_of, HasNone, HasRead, IsPartial, IsBad, Kept, Reads};
+ghost use Rattle.wire_codec.specs.Stream.{stream_of, HasNone, HasDecoded, IsPartial, IsBad, DecoderState, ReadsFrames};
 
 /// No frame is the front of another, and no bytes are the frames of two messages.
 pub fn no_frame_begins_another()
@@ -15,8 +15,8 @@ pub fn no_frame_begins_another()
 /// A stream is read as one list of messages with one rest, and no other: bytes at whose front no frame stands, as are less than
 /// a frame and a frame that is no spelling.
 pub fn stream_reads_once()
-    ensures once { (input rest left : List ℕ) (messages others : List Message) → Reads input messages rest
-        → HasNone rest → Reads input others left → HasNone left
+    ensures once { (input rest left : List ℕ) (messages others : List Message) → ReadsFrames input messages rest
+        → HasNone rest → ReadsFrames input others left → HasNone left
         → (messages ≡ others) × (rest ≡ left) }
     ensures partial { (rest : List ℕ) → IsPartial rest → HasNone rest }
     ensures bad { (rest : List ℕ) → IsBad rest → HasNone rest }
@@ -25,12 +25,12 @@ pub fn stream_reads_once()
 /// Of messages that are sent as a stream, which is cut at any byte, a front comes out, and no frame is bad.
 pub fn cut_stream_gives_front()
     ensures { (sent given : List Message) (input more rest : List ℕ) → AllByRecursion HasFrame sent
-        → stream_of sent ≡ input ++ more → Reads input given rest
+        → stream_of sent ≡ input ++ more → ReadsFrames input given rest
         → (later : List Message) × (sent ≡ given ++ later) × (stream_of later ≡ rest ++ more) × (¬ (IsBad rest)) }
 {}
 
 /// A decoder that has met no bad frame keeps less than the longest frame, and no more than was fed.
 pub fn little_is_kept()
-    ensures { (kept : Kept) (input : List ℕ) (messages : List Message) → HasRead kept input messages → kept.bad ≡ false
+    ensures { (kept : DecoderState) (input : List ℕ) (messages : List Message) → HasDecoded kept input messages → kept.bad ≡ false
         → (length kept.front ≤ length input) × (length kept.front < 4 + most) }
 {}

@@ -2,7 +2,7 @@ ghost use Rattle.std.specs.Prelude.{◌≡◌, ◌≤◌, ◌<◌, ◌+◌, ◌*
 ghost use Rattle.std.specs.List.{flat_map};
 ghost use Rattle.wire_codec.specs.Fits.{most};
 ghost use Rattle.wire_codec.specs.Frame as spec;
-ghost use Rattle.wire_codec.specs.Frame.{eight, maybe, run, text_of, update};
+ghost use Rattle.wire_codec.specs.Frame.{eight, frame_body, maybe, run, update};
 
 use crate::cut::MOST;
 use group_message::{Body, Message, Outcome, Update};
@@ -11,8 +11,8 @@ use group_types::Run;
 /// How many bytes stand behind the length in a message's frame, if they are no more than a frame may have.
 #[tactic(auto, using(crate::proofs::Puts::length_row))]
 pub(crate) fn text_length(message: &Message) -> Option<u32>
-    ensures some { IfSome result (λ n. (n ≡ length (text_of message.now)) × (n ≤ most)) }
-    ensures none { IfNone result (most < length (text_of message.now)) }
+    ensures some { IfSome result (λ n. (n ≡ length (frame_body message.now)) × (n ≤ most)) }
+    ensures none { IfNone result (most < length (frame_body message.now)) }
 {
     match message {
         Message::Update { update, .. } => bounded(3, update_length(update)? as usize, 8),

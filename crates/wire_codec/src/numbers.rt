@@ -1,12 +1,12 @@
 ghost use Rattle.std.specs.Prelude.{◌≡◌};
 ghost use Rattle.std.specs.Int.{w16, w32, w64};
-ghost use Rattle.wire_codec.specs.Reading.{Gives, one_at, number_at, bytes_at};
+ghost use Rattle.wire_codec.specs.Reading.{Gives, decode_bytes, decode_number, one_at};
 
 use crate::fault::ReadFault;
 
 /// The first bytes, as many as are asked, and those behind them.
 pub fn take(bytes: &[u8], n: usize) -> Result<(&[u8], &[u8]), ReadFault>
-    ensures { Gives (λ x. (x.0.now, x.1.now)) result (bytes_at n bytes.now) }
+    ensures { Gives (λ x. (x.0.now, x.1.now)) result (decode_bytes n bytes.now) }
 {
     if bytes.len() < n {
         return Err(ReadFault::NoSpelling);
@@ -26,7 +26,7 @@ pub fn take_one(bytes: &[u8]) -> Result<(u32, &[u8]), ReadFault>
 
 /// A number of two bytes.
 pub fn take_two(bytes: &[u8]) -> Result<(u16, &[u8]), ReadFault>
-    ensures { Gives (λ x. (x.0, x.1.now)) result (number_at w16 bytes.now) }
+    ensures { Gives (λ x. (x.0, x.1.now)) result (decode_number w16 bytes.now) }
 {
     if bytes.len() < 2 {
         return Err(ReadFault::NoSpelling);
@@ -37,7 +37,7 @@ pub fn take_two(bytes: &[u8]) -> Result<(u16, &[u8]), ReadFault>
 
 /// A number of four bytes.
 pub fn take_four(bytes: &[u8]) -> Result<(u32, &[u8]), ReadFault>
-    ensures { Gives (λ x. (x.0, x.1.now)) result (number_at w32 bytes.now) }
+    ensures { Gives (λ x. (x.0, x.1.now)) result (decode_number w32 bytes.now) }
 {
     if bytes.len() < 4 {
         return Err(ReadFault::NoSpelling);
@@ -49,7 +49,7 @@ pub fn take_four(bytes: &[u8]) -> Result<(u32, &[u8]), ReadFault>
 
 /// A number of eight bytes.
 pub fn take_eight(bytes: &[u8]) -> Result<(u64, &[u8]), ReadFault>
-    ensures { Gives (λ x. (x.0, x.1.now)) result (number_at w64 bytes.now) }
+    ensures { Gives (λ x. (x.0, x.1.now)) result (decode_number w64 bytes.now) }
 {
     if bytes.len() < 8 {
         return Err(ReadFault::NoSpelling);

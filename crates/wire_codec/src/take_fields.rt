@@ -1,6 +1,6 @@
 ghost use Rattle.std.specs.Prelude.{◌≡◌, Some};
 ghost use Rattle.std.specs.Int.{w64};
-ghost use Rattle.wire_codec.specs.Reading.{Gives, process_at, session_at, rows_at, stamp_at, updates_at, update_at, many_at, number_at};
+ghost use Rattle.wire_codec.specs.Reading.{Gives, decode_process, session_at, rows_at, stamp_at, updates_at, update_at, many_at, decode_number};
 
 use crate::fault::ReadFault;
 use crate::numbers::{take, take_eight, take_one, take_two};
@@ -13,7 +13,7 @@ use vector_stamp::Stamp;
 /// A process.
 #[tactic(auto, unfolding(crate::specs::Reading::process_at))]
 pub fn take_process(bytes: &[u8]) -> Result<(ProcessId, &[u8]), ReadFault>
-    ensures { Gives (λ x. (x.0, x.1.now)) result (process_at bytes.now) }
+    ensures { Gives (λ x. (x.0, x.1.now)) result (decode_process bytes.now) }
 {
     let (tag, rest) = take_one(bytes)?;
     match tag {
@@ -72,7 +72,7 @@ pub(crate) fn take_stamp(alloc: Global, bytes: &[u8]) -> Result<(Stamp, &[u8]), 
 }
 
 fn take_numbers(alloc: Global, count: u32, bytes: &[u8]) -> Result<(Vec<u64>, &[u8]), ReadFault>
-    ensures { Gives (λ x. (x.0.items, x.1.now)) result (many_at (number_at w64) count bytes.now) }
+    ensures { Gives (λ x. (x.0.items, x.1.now)) result (many_at (decode_number w64) count bytes.now) }
 {
     let mut numbers = Vec::new(alloc);
     let mut rest = bytes;

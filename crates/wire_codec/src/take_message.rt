@@ -1,4 +1,4 @@
-ghost use Rattle.wire_codec.specs.Reading.{Gives, message_at, message_of, update_message_at, ack_at, stable_at, adopt_at, read_block_at, block_at, mark_at, row_at, cease_at, notice_at};
+ghost use Rattle.wire_codec.specs.Reading.{Gives, message_at, message_in, update_message_at, ack_at, stable_at, adopt_at, read_block_at, block_at, mark_at, row_at, cease_at, notice_at};
 
 use crate::fault::ReadFault;
 use crate::numbers::{take_eight, take_four, take_one};
@@ -11,7 +11,7 @@ use std::alloc::Global;
 /// The message that a text is, if it is the whole of it.
 #[tactic(auto, unfolding(crate::specs::Reading::message_of))]
 pub fn read_message(alloc: Global, text: &[u8]) -> Result<Message, ReadFault>
-    ensures { Gives (λ m. m) result (message_of text.now) }
+    ensures { Gives (λ m. m) result (message_in text.now) }
 {
     let (message, rest) = take_message(alloc, text)?;
     match rest {

@@ -1,6 +1,6 @@
 ghost use Rattle.std.specs.Prelude.{◌≡◌};
 ghost use Rattle.group_message.specs.declared.update.Body.TheVariants.{Touch};
-ghost use Rattle.wire_codec.specs.Reading.{Gives, made_at, long_at, key_at, run_at, until_at, frees_at, change_at, put_at, body_at, outcome_at, name_at, effect_at, update_at};
+ghost use Rattle.wire_codec.specs.Reading.{Gives, made_at, long_at, key_at, decode_run, until_at, frees_at, change_at, put_at, body_at, outcome_at, name_at, effect_at, update_at};
 
 use crate::fault::ReadFault;
 use crate::numbers::{take, take_eight, take_four, take_one};
@@ -123,7 +123,7 @@ pub fn take_long(bytes: &[u8]) -> Result<(&[u8], &[u8]), ReadFault>
 
 #[tactic(auto, unfolding(crate::specs::Reading::run_at))]
 fn take_run(bytes: &[u8]) -> Result<(Run, &[u8]), ReadFault>
-    ensures { Gives (λ x. (x.0, x.1.now)) result (run_at bytes.now) }
+    ensures { Gives (λ x. (x.0, x.1.now)) result (decode_run bytes.now) }
 {
     let (at, rest) = take_four(bytes)?;
     let (len, rest) = take_four(rest)?;

@@ -1,6 +1,6 @@
 ghost use Rattle.std.specs.Prelude.{◌≡◌, ◌++◌, length, IfOk, OnOk};
 ghost use Rattle.wire_codec.specs.Fits.{HasFrame};
-ghost use Rattle.wire_codec.specs.Frame.{four, frame_of, text_of};
+ghost use Rattle.wire_codec.specs.Frame.{four, frame_body, frame_of};
 ghost use Rattle.wire_codec.specs.Parts as parts;
 ghost use Rattle.wire_codec.specs.Parts.{text_before};
 
@@ -69,8 +69,8 @@ pub fn value_of(message: &Message) -> &[u8]
 
 fn put_before(out: &mut Vec<u8>, len: u32, message: &Message) -> Result<(), AllocError>
     requires frame { HasFrame message.now }
-    requires len { len ≡ length (text_of message.now) }
-    ensures { OnOk result (out.new.items ≡ out.old.items ++ (four (length (text_of message.now))
+    requires len { len ≡ length (frame_body message.now) }
+    ensures { OnOk result (out.new.items ≡ out.old.items ++ (four (length (frame_body message.now))
         ++ text_before message.now)) }
 {
     put_four(out, len)?;
@@ -81,7 +81,7 @@ fn put_before(out: &mut Vec<u8>, len: u32, message: &Message) -> Result<(), Allo
 /// How many bytes stand behind the length in the frame of a message, which has one.
 pub fn spelled_length(message: &Message) -> u32
     requires { HasFrame message.now }
-    ensures { result ≡ length (text_of message.now) }
+    ensures { result ≡ length (frame_body message.now) }
 {
     match text_length(message) {
         Some(len) => len,

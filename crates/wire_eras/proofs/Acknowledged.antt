@@ -4,14 +4,14 @@ use Rattle.std.specs.Prelude.{Contains}
 use Rattle.std.proofs.lemmas.List.Elements.{Contains-append_left}
 use Rattle.group_types.specs.Dimensions.{Dimensions}
 use Rattle.memc_table.specs.declared.holding.Holding.{Holding}
-use Rattle.group_calls.specs.Turns.{entry_of}
+use Rattle.group_calls.specs.Turns.{call_entry}
 use Rattle.group_calls.specs.declared.entry.Entry.{Entry}
 use Rattle.law_log.proofs.Turnings.{get-contained}
 use Rattle.group_wire.specs.Actions.{Action, Show}
 use Rattle.group_wire.specs.Composed.{AreActions}
 use Rattle.group_wire.proofs.Showing.{shown_is_logged}
 use Rattle.wire_eras.specs.Acknowledged.{AcknowledgedAreCarried, AcknowledgedKeep, IsAcknowledged}
-use Rattle.wire_eras.specs.Carry.{HasEnded, HasKey, SetsHeld}
+use Rattle.wire_eras.specs.Carry.{HasExpired, HasKey, SetsHeld}
 use Rattle.wire_eras.specs.Laws.{log_made}
 use Rattle.wire_eras.specs.Told.{table_left}
 use Rattle.wire_eras.proofs.Carrying.{carries_keep}
@@ -25,12 +25,12 @@ acknowledged s actions key run a =
     let whole : AreActions s (a.before ++ Show a.caller a.ping ∷ a.after) = subst (AreActions s) a.is run in
     let logged = shown_is_logged s a.before a.caller a.ping a.call a.told a.reply (front s a.before (Show a.caller a.ping ∷ a.after) whole) a.apart
     (behind s a.before (Show a.caller a.ping ∷ a.after) whole).0 a.shows a.answer in
-    let entry : Entry = entry_of (record { caller = a.caller; call = a.call.position }) a.call.op a.reply in
+    let entry : Entry = call_entry (record { caller = a.caller; call = a.call.position }) a.call.op a.reply in
     let split = log-split s a.before (Show a.caller a.ping ∷ a.after) in
-    let early : Contains (log_made s a.before) (entry_of (record { caller = a.caller; call = a.call.position })
+    let early : Contains (log_made s a.before) (call_entry (record { caller = a.caller; call = a.call.position })
     a.call.op a.reply) = get-contained (log_made s a.before) logged.place entry logged.entry in (
       entry,
-      subst (λ (log : List Entry). Contains log (entry_of (record { caller = a.caller; call = a.call.position })
+      subst (λ (log : List Entry). Contains log (call_entry (record { caller = a.caller; call = a.call.position })
           a.call.op a.reply)) (sym (ap (log_made s) a.is ∙ split.1))
           (Contains-append_left (log_made s a.before) split.0 entry early),
       a.key_is,
@@ -48,8 +48,8 @@ acknowledged_are_carried t s actions more carries =
       all = λ key h was. by key h run (carries.all key h was);
     }
   where
-    by : (key : List ℕ) (h : Holding) → AreActions s actions → IsAcknowledged s actions key ⊎ HasEnded (log_made s (actions ++ more)) key h
-        → HasKey (log_made s actions) key ⊎ HasEnded (log_made s (actions ++ more)) key h
+    by : (key : List ℕ) (h : Holding) → AreActions s actions → IsAcknowledged s actions key ⊎ HasExpired (log_made s (actions ++ more)) key h
+        → HasKey (log_made s actions) key ⊎ HasExpired (log_made s (actions ++ more)) key h
     by key h run (inl a) = inl (acknowledged s actions key run a)
     by key h run (inr ended) = inr ended
 

@@ -8,11 +8,11 @@ use Rattle.memc_table.specs.Asked.{Asked}
 use Rattle.memc_table.specs.Contents.{Contents, empty_table, reply_of, table_after}
 use Rattle.memc_table.specs.declared.reply.Reply.{Reply}
 use Rattle.group_calls.specs.Log.{IsLegalFrom, table_of}
-use Rattle.group_calls.specs.Turns.{CallName, entry_of}
+use Rattle.group_calls.specs.Turns.{CallName, call_entry}
 use Rattle.group_calls.specs.declared.entry.Entry.{Entry}
 use Rattle.law_log.proofs.Tables.{table-append}
 use Rattle.law_moves.proofs.Reading.{some-same}
-use Rattle.group_eras.specs.Told.{Bases, op_in, told_reply}
+use Rattle.group_eras.specs.Told.{Bases, op_for_era, told_reply}
 use Rattle.group_wire.specs.Actions.{Action}
 use Rattle.group_wire.specs.Composed.{composed}
 use Rattle.group_wire.specs.Shown.{IsLoggedSinceBegun}
@@ -54,18 +54,18 @@ swap bases k (x ∷ xs) (z ∷ zs) (suc i) e y are is told_as =
 -- a reply that is logged since its call began is that of the one table
 pub of-table : (earlier told : List Entry) (s : Dimensions) (actions : List Action) (caller : ℕ) (o : OpenCall)
     (shown : Reply) (asked : Asked) → GoesOnFrom earlier s actions → IsTold earlier s actions told
-    → IsLoggedSinceBegun (composed s actions) caller o shown → o.op ≡ op_in (bases_of s.k earlier) s.k asked
+    → IsLoggedSinceBegun (composed s actions) caller o shown → o.op ≡ op_for_era (bases_of s.k earlier) s.k asked
     → IsOfTable earlier told s.k (composed s actions) caller o shown asked (told_reply (bases_of s.k earlier) (home_of (key_of asked.act) s.k) shown)
 of-table earlier told s actions caller o shown asked goes are logged came =
     let bases : Bases = bases_of s.k earlier in
     let name : CallName = record { caller = caller; call = o.position } in
     let given : Reply = told_reply bases (home_of (key_of asked.act) s.k) shown in
-    let now = swap bases s.k (log_made s actions) told logged.place (entry_of name o.op shown)
-    (entry_of name asked given) are logged.entry (record { name = refl; op = came; reply = refl }) in
+    let now = swap bases s.k (log_made s actions) told logged.place (call_entry name o.op shown)
+    (call_entry name asked given) are logged.entry (record { name = refl; op = came; reply = refl }) in
     record {
       logged = logged;
       table =
-          reply-at (table_left s.k earlier) now.0 logged.place (entry_of name asked given) (goes-on earlier now.0 s actions goes now.1.are) now.1.there
+          reply-at (table_left s.k earlier) now.0 logged.place (call_entry name asked given) (goes-on earlier now.0 s actions goes now.1.are) now.1.there
           ∙ ap (λ (us : List Entry). reply_of (table_of (table_left s.k earlier) us) asked) now.1.before
           ∙ sym (ap (λ (u : Contents). reply_of u asked) (table-append (empty_table s.k) earlier (take logged.place told)));
     }

@@ -26,7 +26,7 @@ use Rattle.group_wire.specs.Composed.{request_made, stands_if}
 use Rattle.group_wire.specs.Sending.{parked_at, sent_on, treating}
 use Rattle.group_wire.specs.Serving.{call_learned, gateways_after, handed_to, if_open, learned_first, read_first}
 use Rattle.group_wire.specs.Serving.{request_treated, sends_by, stage_given_up, staged, tell, told_of}
-use Rattle.group_wire.specs.Sets.{Processes, changed, changed_at, one_or, without}
+use Rattle.group_wire.specs.Sets.{Processes, changed, changed_at, one_or, without_nth}
 use Rattle.group_wire.specs.State.{Request, AskFor, TraceOf, Told, Stage, Unasked, AskedOf, Unknown, TracedAt, Answered, OpenCall, Gateways, Group, gateway_of}
 use Rattle.group_wire.proofs.Changes.{changed-each, changed-pairs, changed_at-each, one_or-is}
 use Rattle.group_wire.proofs.Requests.{each-entry, each-without}
@@ -123,10 +123,10 @@ module _ (P : Asked → Type 0) where
   treats : (g : Group) (p : ProcessId) (place : ℕ) (r : Option Request) → OnlyOpen P g.gateways → OnlyOpen P (request_treated g p place r)
   treats g p place None h = h
   treats g p place (Some r) h = tells g p (told_of r (treating g.shape r (g.works.process p)).answer)
-      (record g.gateways { parked = changed g.gateways.parked p (without (g.gateways.parked p) place) }) (record {
+      (record g.gateways { parked = changed g.gateways.parked p (without_nth (g.gateways.parked p) place) }) (record {
         calls = h.calls;
         requests = h.requests;
-        parked = changed-each (λ q rs. Each (AsksOnly P) rs) g.gateways.parked p (without (g.gateways.parked p) place)
+        parked = changed-each (λ q rs. Each (AsksOnly P) rs) g.gateways.parked p (without_nth (g.gateways.parked p) place)
             (each-without (AsksOnly P) (g.gateways.parked p) place (h.parked p)) (λ q _. h.parked q);
       })
 

@@ -20,12 +20,12 @@ use Rattle.group_calls.specs.declared.entry.Entry.{Entry}
 use Rattle.law_log.proofs.Tables.{table-append}
 use Rattle.law_moves.proofs.Reading.{some-same}
 use Rattle.law_updates.proofs.Keys.{key-eq, key-refl}
-use Rattle.group_eras.specs.Promise.{IsKept}
+use Rattle.group_eras.specs.Promise.{IsItemKept}
 use Rattle.group_eras.specs.Told.{Bases, with_cas, without_base}
 use Rattle.group_eras.proofs.Joins.{Joined, Meets, SetsFree, key-cas}
 use Rattle.group_eras.proofs.Shifts.{Alike, Gone, IsSet, shift, shifted}
 use Rattle.wire_eras.specs.Carry.{ExptimesKeep, HasKey, SetsHeld}
-use Rattle.wire_eras.specs.Laws.{CarriesKeep}
+use Rattle.wire_eras.specs.Laws.{SetsKeepItems}
 use Rattle.wire_eras.specs.Told.{AreToldAs, IsToldAs, bases_of, table_left}
 use Rattle.wire_eras.proofs.Joining.{Anywhere, index-at, joined-start, legal-on, many-left}
 
@@ -151,7 +151,7 @@ module _ (k : ℕ) (some : 1 ≤ k) (earlier sets told : List Entry) (legal : Is
   there key has = appears (table_left k earlier) (empty_table k) sets key only has
 
   kept : (key : List ℕ) (h : Holding) → (table_left k earlier).items key ≡ Some h → HasKey sets key
-      → IsKept (table_left k earlier) key h (table_of (table_left k earlier) told)
+      → IsItemKept (table_left k earlier) key h (table_of (table_left k earlier) told)
   kept key h was has = by (settled key) where
     shown : (g : Holding) → (table_left k sets).items key ≡ Some g → Meets (bases_of k earlier) k some Anywhere key
         ((table_of (table_left k earlier) told).items key) ((table_left k sets).items key)
@@ -161,7 +161,7 @@ module _ (k : ℕ) (some : 1 ≤ k) (earlier sets told : List Entry) (legal : Is
     shown g own (inr free) = absurd (cc (free.1, own))
 
     by : Settled (table_left k earlier) key ((table_of (table_left k earlier) told).items key)
-        ((table_left k sets).items key) → IsKept (table_left k earlier) key h (table_of (table_left k earlier) told)
+        ((table_left k sets).items key) → IsItemKept (table_left k earlier) key h (table_of (table_left k earlier) told)
     by (Untouched none is) = absurd (cc (ap is_some none, there key has))
     by (OfHeld x g in-table own flags value until cas) =
         let same : x ≡ h = some-same x h (sym in-table ∙ was) in
@@ -179,10 +179,10 @@ module _ (k : ℕ) (some : 1 ≤ k) (earlier sets told : List Entry) (legal : Is
         }
 
   pub kept-left : (key : List ℕ) (h : Holding) → (table_left k earlier).items key ≡ Some h → HasKey sets key
-      → IsKept (table_left k earlier) key h (table_left k (earlier ++ told))
-  kept-left key h was has = subst (IsKept (table_left k earlier) key h) (sym (table-append (empty_table k) earlier told)) (kept key h was has)
+      → IsItemKept (table_left k earlier) key h (table_left k (earlier ++ told))
+  kept-left key h was has = subst (IsItemKept (table_left k earlier) key h) (sym (table-append (empty_table k) earlier told)) (kept key h was has)
 
-pub carries_keep : CarriesKeep
+pub carries_keep : SetsKeepItems
 carries_keep k earlier sets told some legal own only are key h was has = kept-left k some earlier sets told own only are key h was has
 
 pub exptimes_keep : ExptimesKeep

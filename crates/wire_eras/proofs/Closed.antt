@@ -34,7 +34,7 @@ use Rattle.group_wire.specs.Sets.{one_or}
 use Rattle.group_wire.proofs.Compositions.{runs_compose}
 use Rattle.group_wire.proofs.Honest as honest
 use Rattle.wire_progress.proofs.Draining as draining
-use Rattle.wire_eras.specs.Closed.{ClosedLogsNoChange, Gets, IsAtRest, IsClosed, LogsNoChange}
+use Rattle.wire_eras.specs.Closed.{AreMembersAtRest, ClosedLogsNoChange, Gets, IsClosed, LogsNoChange}
 use Rattle.wire_eras.specs.Laws.{log_made}
 use Rattle.wire_eras.specs.Told.{table_left}
 use Rattle.wire_eras.proofs.Begun.{EventAsks, MadeOnly, only-from}
@@ -109,7 +109,7 @@ module _ (k : ℕ) (some : 1 ≤ k) where
         here = same (home_of (key_of e.op.act) k) below
 
 -- nothing is on its way in the machine of a group at rest
-module _ (s : Dimensions) (actions : List Action) (run : AreActions s actions) (rest : IsAtRest (composed s actions).group) where
+module _ (s : Dimensions) (actions : List Action) (run : AreActions s actions) (rest : AreMembersAtRest (composed s actions).group) where
   shape : (composed s actions).group.shape ≡ s
   shape = honest.shape-from (opening_composed s) actions
 

@@ -25,8 +25,8 @@ use Rattle.group_wire.specs.Actions.{Action}
 use Rattle.group_wire.specs.Composed.{opening_composed}
 use Rattle.group_wire.proofs.Compositions.{runs_compose}
 use Rattle.group_wire.proofs.Honest as honest
-use Rattle.wire_eras.specs.Carry.{HasEnded, HasKey, SetsHeld}
-use Rattle.wire_eras.specs.Laws.{FirstLogIsLegal, GoesOnFrom, IsRaised, IsTold, LogsAreOne, TablesGoOn, log_made, raised}
+use Rattle.wire_eras.specs.Carry.{HasExpired, HasKey, SetsHeld}
+use Rattle.wire_eras.specs.Laws.{FirstLogIsLegal, GoesOnFrom, IsRaised, IsTold, LogsAreOne, TablesGoOn, log_made, with_raised_cas}
 use Rattle.wire_eras.specs.Told.{AreToldAs, bases_of, table_left}
 use Rattle.wire_eras.proofs.Carrying.{OfHeld, Settled, Untouched, behind, settled, there, told-key}
 use Rattle.wire_eras.proofs.Joining.{Anywhere, index-at, legal-on}
@@ -61,7 +61,7 @@ told-both bases k (x ∷ xs) ys (y ∷ told) are =
 -- an item over all, and without those that weren't carried
 pub data StaleAt (log : List Entry) (key : List ℕ) (x y : Option Holding) : Type 0 where
   AsIs : x ≡ y → StaleAt log key x y
-  Ended : (h : Holding) → x ≡ Some h → y ≡ None → HasEnded log key h → StaleAt log key x y
+  Ended : (h : Holding) → x ≡ Some h → y ≡ None → HasExpired log key h → StaleAt log key x y
 
 pub record Stale (log : List Entry) (all clean : Contents) : Type 0 where
   pub counts : all.counts ≡ clean.counts
@@ -121,7 +121,7 @@ no-free bases k some (y ∷ ys) = ((λ free. absurd free), no-free bases k some 
 
 -- an item has ended by the moments that are told
 ended-told : (bases : Bases) (k : ℕ) (key : List ℕ) (h : Holding) (entries told : List Entry)
-    → AreToldAs bases k entries told → HasEnded entries key h → HasEnded told key h
+    → AreToldAs bases k entries told → HasExpired entries key h → HasExpired told key h
 ended-told bases k key h [] [] are ended = tt
 ended-told bases k key h [] (y ∷ ys) are ended = absurd are
 ended-told bases k key h (x ∷ xs) [] are ended = absurd are
@@ -134,7 +134,7 @@ ended-told bases k key h (x ∷ xs) (y ∷ ys) are ended = (
 module _ (k : ℕ) (some : 1 ≤ k) (earlier sets later front rest : List Entry) (legal : IsLegalFrom (empty_table k) (sets ++ later))
     (only : Each (λ e. SetsHeld (table_left k earlier) e.op) sets) (first : AreToldAs (bases_of k earlier) k sets front)
     (second : AreToldAs (bases_of k earlier) k later rest)
-    (all : (key : List ℕ) (h : Holding) → (table_left k earlier).items key ≡ Some h → HasKey sets key ⊎ HasEnded (sets ++ later) key h) where
+    (all : (key : List ℕ) (h : Holding) → (table_left k earlier).items key ≡ Some h → HasKey sets key ⊎ HasExpired (sets ++ later) key h) where
   -- the table over all, without the items that weren't carried
   abbrev clean : Contents
   clean = record {
@@ -180,7 +180,7 @@ module _ (k : ℕ) (some : 1 ≤ k) (earlier sets later front rest : List Entry)
         items = λ key. item key ((table_left k sets).items key) refl
             (settled k some earlier sets front set-legal only first key);
       } where
-        gone : (key : List ℕ) (h : Holding) → (table_left k sets).items key ≡ None → HasKey sets key ⊎ HasEnded (sets ++ later) key h → HasEnded rest key h
+        gone : (key : List ℕ) (h : Holding) → (table_left k sets).items key ≡ None → HasKey sets key ⊎ HasExpired (sets ++ later) key h → HasExpired rest key h
         gone key h none (inl has) = absurd (cc (ap is_some none, there k some earlier sets front set-legal only first key has))
         gone key h none (inr ended) = ended-told (bases_of k earlier) k key h later rest second
             (each-right (λ e. key_of e.op.act ≡ key → is_live e.op.moment h.until ≡ false) sets later ended)
@@ -227,7 +227,7 @@ module _ (k : ℕ) (some : 1 ≤ k) (earlier sets later front rest : List Entry)
     item : (key : List ℕ) (h : Holding) → (table_of (table_left k sets) later).items key ≡ Some h
         → StaleAt [] key ((table_of (table_of (table_left k earlier) front) rest).items key) ((table_of clean rest).items key)
         → Meets (bases_of k earlier) k some NoKey key ((table_of clean rest).items key) ((table_of (table_left k sets) later).items key)
-        → (table_of (table_of (table_left k earlier) front) rest).items key ≡ Some (raised (bases_of k earlier) (home_of key k) h)
+        → (table_of (table_of (table_left k earlier) front) rest).items key ≡ Some (with_raised_cas (bases_of k earlier) (home_of key k) h)
     item key h own (AsIs same) (inl (Alike is has)) = same ∙ is ∙ ap (shift (bases_of k earlier) (home_of key k)) own
     item key h own (Ended x is none ended) (inl (Alike same has)) = absurd (cc (sym none ∙ same ∙ ap (shift (bases_of k earlier) (home_of key k)) own))
     item key h own was (inl (Gone x is ends none)) = absurd (cc (none, own))
@@ -243,8 +243,8 @@ module _ (earlier told : List Entry) (s : Dimensions) (actions : List Action) (g
   own-legal = subst (IsLegalFrom (empty_table s.k)) goes.carried.is (first_log_is_legal s actions goes.run)
 
   each-item : (key : List ℕ) (h : Holding) → (table_left s.k earlier).items key ≡ Some h → HasKey goes.carried.sets key
-      ⊎ HasEnded (goes.carried.sets ++ goes.carried.later) key h
-  each-item key h was = subst (λ (log : List Entry). HasKey goes.carried.sets key ⊎ HasEnded log key h) goes.carried.is (goes.carried.all key h was)
+      ⊎ HasExpired (goes.carried.sets ++ goes.carried.later) key h
+  each-item key h was = subst (λ (log : List Entry). HasKey goes.carried.sets key ⊎ HasExpired log key h) goes.carried.is (goes.carried.all key h was)
 
   pub goes-on : IsLegalFrom (table_left s.k earlier) told
   goes-on = subst (IsLegalFrom (table_left s.k earlier)) (sym split.is)

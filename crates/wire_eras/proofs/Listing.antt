@@ -35,16 +35,17 @@ use Rattle.group_wire.specs.Composition.{HasNotFailed, machine}
 use Rattle.group_wire.proofs.Compositions.{runs_compose}
 use Rattle.group_wire.proofs.Honest as honest
 use Rattle.wire_progress.proofs.Finished.{shape-machine}
-use Rattle.wire_eras.specs.Closed.{IsAtRest}
+use Rattle.wire_eras.specs.Closed.{AreMembersAtRest}
 use Rattle.wire_eras.specs.Laws.{log_made}
-use Rattle.wire_eras.specs.Reading.{HeadsListItems, ListsItems, TellsItem, head_replica}
+use Rattle.wire_eras.specs.Reading.{HeadListsItems, HeadsListItems, TellsItem, head_replica}
 use Rattle.wire_eras.specs.Told.{bases_of, table_left}
 use Rattle.wire_eras.proofs.Closed.{rests}
 use Rattle.wire_eras.proofs.Joining.{index-at}
 use Rattle.wire_eras.proofs.Logged.{log-is}
 
 -- the head of a partition of a group at rest
-module _ (s : Dimensions) (actions : List Action) (run : AreActions s actions) (rest : IsAtRest (composed s actions).group) (d : ℕ) (below : d < s.k) where
+module _ (s : Dimensions) (actions : List Action) (run : AreActions s actions) (rest : AreMembersAtRest (composed s actions).group) (d : ℕ)
+    (below : d < s.k) where
   abbrev es : List Event
   es = events_of (composed s actions)
 
@@ -106,7 +107,7 @@ module _ (s : Dimensions) (actions : List Action) (run : AreActions s actions) (
       ap (λ (t : Contents). slice_index t.counts d) same-table in
       omega (arith, none, ties, shown, low, high, index, counts)
 
-  lists : ListsItems s actions d
+  lists : HeadListsItems s actions d
   lists = record {
     listed = λ key slot there. listed key slot (subst (λ (items : Items). Contains items (key, slot)) same-items there);
     all = λ key h home is. all key h home (ap (λ (t : Contents). t.items key) (sym same-table) ∙ is);

@@ -17,7 +17,7 @@ use Rattle.memc_table.specs.declared.reply.Reply.TheVariants as reply
 use Rattle.memc_table.specs.declared.ruling.Ruling.{Ruling}
 use Rattle.memc_table.specs.declared.ruling.Ruling.TheVariants.{Accepted, Refused}
 use Rattle.group_calls.specs.Log.{IsLegalFrom, table_of}
-use Rattle.group_calls.specs.Turns.{accepts, entry_of, log_of}
+use Rattle.group_calls.specs.Turns.{accepts, call_entry, log_of}
 use Rattle.group_calls.specs.declared.entry.Entry.{Entry}
 use Rattle.group_calls.specs.declared.event.Event.{Event}
 use Rattle.group_run.specs.World.{World, after, opening, step, turns_from, turns_of}
@@ -35,7 +35,7 @@ use Rattle.group_wire.proofs.Changes.{changed_at-here, one_or-is}
 use Rattle.group_wire.proofs.Honest as honest
 use Rattle.group_wire.proofs.Showing.{shown_is_logged}
 use Rattle.wire_eras.specs.Laws.{log_made}
-use Rattle.wire_eras.specs.Reading.{GetsTellTable, HoldsItem, MissesHaveEnded, ShowsBehind, ValuesAreHeld}
+use Rattle.wire_eras.specs.Reading.{GetsTellTable, MissesHaveEnded, ShowsBehind, TableHoldsItem, ValuesAreHeld}
 use Rattle.wire_eras.specs.Told.{table_left}
 use Rattle.wire_eras.proofs.Answering.{reply-at}
 use Rattle.wire_eras.proofs.Closed.{no-change}
@@ -47,14 +47,14 @@ module _ (t : Contents) (moment : ℕ) (key : List ℕ) where
   abbrev given : Option Holding → Reply
   given x = reply_in (ruling_of moment (count_of t key + 1) (Get key) x)
 
-  holds : (item : Item) (x : Option Holding) → t.items key ≡ x → given (live_at moment x) ≡ reply.Value item → HoldsItem t key item
+  holds : (item : Item) (x : Option Holding) → t.items key ≡ x → given (live_at moment x) ≡ reply.Value item → TableHoldsItem t key item
   holds item None there is = absurd (cc is)
   holds item (Some h) there is = by (is_live moment h.until) is where
     item_in : Reply → Item
     item_in (reply.Value i) = i
     item_in _ = item
 
-    by : (b : Bool) → given (if b then Some h else None) ≡ reply.Value item → HoldsItem t key item
+    by : (b : Bool) → given (if b then Some h else None) ≡ reply.Value item → TableHoldsItem t key item
     by true is = record { holding = h; held = there; same = ap item_in is }
     by false is = absurd (cc is)
 
@@ -192,7 +192,7 @@ module _ (s : Dimensions) (actions more : List Action) (caller : ℕ) (o : OpenC
       (subst (IsLegalFrom (empty_table s.k)) none.log legal) in
       let front = take-behind (log_made s actions) none.later logged.place low in
       reply-at (empty_table s.k) (log_made s (actions ++ more)) logged.place
-      (entry_of (record { caller = caller; call = o.position }) o.op shown) legal logged.entry
+      (call_entry (record { caller = caller; call = o.position }) o.op shown) legal logged.entry
       ∙ ap (λ (log : List Entry). reply_of (table_of (empty_table s.k) log) o.op) (ap (take logged.place) none.log ∙ front.1)
       ∙ ap (λ (t : Contents). reply_of t o.op) (table-append (empty_table s.k) (log_made s actions) (take front.0 none.later)
       ∙ refused-stays (table_left s.k (log_made s actions)) (take front.0 none.later)

@@ -18,7 +18,7 @@ use Rattle.group_run.specs.Asking.{collect_from}
 use Rattle.group_run.specs.Deciding.{is_get}
 use Rattle.group_run.specs.Headline.{IsRun, MayCome}
 use Rattle.group_run.specs.History.{History, history, prolonged}
-use Rattle.group_run.specs.World.{flush_process, next_name, node_of}
+use Rattle.group_run.specs.World.{flush_process, next_name, process_node}
 use Rattle.law_moves.specs.State.{State, state_of}
 use Rattle.law_moves.proofs.Events.{FramedHistory}
 use Rattle.law_moves.proofs.Keeping.{keeps}
@@ -72,38 +72,38 @@ module _ (limit : ℕ → List Update) where
       (get-keeps (Upto limit) h.world.shape (state_of h) p (next_name h.world caller) op (is-get op.act gets)) all
   one h (Deliver from to) framed shaped may gets all = upto-deliver limit h from to framed shaped may all
   one h (Trace caller call d p) framed shaped may gets all =
-      subst (AllUpto limit h.world.shape) (sym (trace-stays h framed caller call d.0 p may.3 (node_of h.world p).down (node_of h.world p).dead).1) all
+      subst (AllUpto limit h.world.shape) (sym (trace-stays h framed caller call d.0 p may.3 (process_node h.world p).down (process_node h.world p).dead).1) all
   one h (Collect caller call p) framed shaped may gets all =
       by (call-comes h.world.shape h.world.nodes h.settled framed p
-      (collect_from caller call (node_of h.world p).process (range_with_len 0 h.world.shape.k)) may.1
-      (node_of h.world p).down (node_of h.world p).dead refl refl) where
+      (collect_from caller call (process_node h.world p).process (range_with_len 0 h.world.shape.k)) may.1
+      (process_node h.world p).down (process_node h.world p).dead refl refl) where
         by : {w : State} {answer : Answer}
-            → Answers h.world.shape (state_of h) w p (collect_from caller call (node_of h.world p).process (range_with_len 0 h.world.shape.k)) answer
+            → Answers h.world.shape (state_of h) w p (collect_from caller call (process_node h.world p).process (range_with_len 0 h.world.shape.k)) answer
             → AllUpto limit h.world.shape w
         by (Idle same idle) = subst (AllUpto limit h.world.shape) (sym same) all
         by {w} (Acts up lives acts is) = left h.world.shape shaped (state_of h) w p
             (reaching.collects-both (Upto limit) laws h.world.shape shaped (state_of h) w p caller call may.1 up lives
             all.0 all.1 acts)
             ((keeps h.world.shape shaped).treats (state_of h) w p
-            (collect_from caller call (node_of h.world p).process (range_with_len 0 h.world.shape.k)).step may.1 up
+            (collect_from caller call (process_node h.world p).process (range_with_len 0 h.world.shape.k)).step may.1 up
             lives (Collects caller call) all.0 acts)
             may.1 (acts.dead p may.1 ∙ lives) all
   one h (Flush p) framed shaped may gets all =
       by (call-comes h.world.shape h.world.nodes h.settled framed p
-      (flush_process h.world.shape (node_of h.world p).process) may (node_of h.world p).down (node_of h.world p).dead
+      (flush_process h.world.shape (process_node h.world p).process) may (process_node h.world p).down (process_node h.world p).dead
       refl refl) where
         by : {w : State} {answer : Answer}
-            → Answers h.world.shape (state_of h) w p (flush_process h.world.shape (node_of h.world p).process) answer
+            → Answers h.world.shape (state_of h) w p (flush_process h.world.shape (process_node h.world p).process) answer
             → AllUpto limit h.world.shape w
         by (Idle same idle) = subst (AllUpto limit h.world.shape) (sym same) all
         by {w} (Acts up lives acts is) = left h.world.shape shaped (state_of h) w p
             (reaching.flushes-both (Upto limit) laws h.world.shape shaped (state_of h) w p may up lives all.0 all.1
             acts)
             ((keeps h.world.shape shaped).treats (state_of h) w p
-            (flush_process h.world.shape (node_of h.world p).process).step may up lives Flushes all.0 acts) may
+            (flush_process h.world.shape (process_node h.world p).process).step may up lives Flushes all.0 acts) may
             (acts.dead p may ∙ lives) all
   one h (Fail p keep) framed shaped may gets all =
-      by (failure-comes h.world.shape h.world.nodes h.settled framed p keep may (node_of h.world p).dead refl) where
+      by (failure-comes h.world.shape h.world.nodes h.settled framed p keep may (process_node h.world p).dead refl) where
         by : {w : State} → Fails h.world.shape (state_of h) w p keep → AllUpto limit h.world.shape w
         by (Was same) = subst (AllUpto limit h.world.shape) (sym same) all
         by {w} (Dies died) = (

@@ -9,14 +9,14 @@ use Rattle.memc_table.specs.declared.reply.Reply.{Reply}
 use Rattle.group_calls.specs.Log.{IsLegal}
 use Rattle.group_calls.specs.declared.entry.Entry.{Entry}
 use Rattle.group_calls.specs.declared.event.Answer.TheVariants as says
-use Rattle.group_eras.specs.Promise.{IsKept}
+use Rattle.group_eras.specs.Promise.{IsItemKept}
 use Rattle.group_wire.specs.Actions.{Action, Show}
 use Rattle.group_wire.specs.Composed.{AreActions, composed}
 use Rattle.group_wire.specs.Laws.{NoTwoHoldAll}
 use Rattle.group_wire.specs.Shown.{Shows}
 use Rattle.group_wire.specs.State.{OpenCall, Told}
 use Rattle.wire_eras.specs.Begun.{BeginsOnly}
-use Rattle.wire_eras.specs.Carry.{BeginsWithCarry, HasEnded, SetsHeld}
+use Rattle.wire_eras.specs.Carry.{BeginsWithCarry, HasExpired, SetsHeld}
 use Rattle.wire_eras.specs.Laws.{IsTold, log_made}
 use Rattle.wire_eras.specs.Told.{table_left}
 
@@ -39,7 +39,7 @@ pub record IsAcknowledged (s : Dimensions) (actions : List Action) (key : List �
 pub record CarriesByClients (t : Contents) (s : Dimensions) (actions more : List Action) : Type 0 where
   pub run : AreActions s (actions ++ more)
   pub sets : Each (BeginsOnly (SetsHeld t)) actions
-  pub all : (key : List ℕ) (h : Holding) → t.items key ≡ Some h → IsAcknowledged s actions key ⊎ HasEnded (log_made s (actions ++ more)) key h
+  pub all : (key : List ℕ) (h : Holding) → t.items key ≡ Some h → IsAcknowledged s actions key ⊎ HasExpired (log_made s (actions ++ more)) key h
 
 -- then the group's log begins with a carry, whatever is done behind
 abbrev pub AcknowledgedAreCarried : Type 0
@@ -50,4 +50,4 @@ abbrev pub AcknowledgedKeep : Type 0
 AcknowledgedKeep = (earlier told : List Entry) (s : Dimensions) (actions more : List Action) → IsLegal s.k earlier → CarriesByClients (table_left s.k earlier) s actions more
     → IsTold earlier s actions told
     → (key : List ℕ) (h : Holding) → (table_left s.k earlier).items key ≡ Some h → IsAcknowledged s actions key
-    → IsKept (table_left s.k earlier) key h (table_left s.k (earlier ++ told))
+    → IsItemKept (table_left s.k earlier) key h (table_left s.k (earlier ++ told))

@@ -23,8 +23,8 @@ abbrev pub HasKey : List Entry → List ℕ → Type 0
 HasKey log key = (e : Entry) × Contains log e × (key_of e.op.act ≡ key)
 
 -- an item has ended by the moment of each op on its key
-abbrev pub HasEnded : List Entry → List ℕ → Holding → Type 0
-HasEnded log key h = Each (λ e. key_of e.op.act ≡ key → is_live e.op.moment h.until ≡ false) log
+abbrev pub HasExpired : List Entry → List ℕ → Holding → Type 0
+HasExpired log key h = Each (λ e. key_of e.op.act ≡ key → is_live e.op.moment h.until ≡ false) log
 
 -- a log begins with sets of what a table holds; an item that isn't set has ended before it could be asked for
 pub record BeginsWithCarry (t : Contents) (log : List Entry) : Type 0 where
@@ -32,7 +32,7 @@ pub record BeginsWithCarry (t : Contents) (log : List Entry) : Type 0 where
   pub later : List Entry
   pub is : log ≡ sets ++ later
   pub only : Each (λ e. SetsHeld t e.op) sets
-  pub all : (key : List ℕ) (h : Holding) → t.items key ≡ Some h → HasKey sets key ⊎ HasEnded log key h
+  pub all : (key : List ℕ) (h : Holding) → t.items key ≡ Some h → HasKey sets key ⊎ HasExpired log key h
 
 -- an until that is no offset from the moment of a call
 abbrev pub IsLate : Option ℕ → Type 0

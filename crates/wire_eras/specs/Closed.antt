@@ -24,7 +24,7 @@ Gets op = is_get op.act ≡ true
 
 -- the group is at rest: of the members that aren't named each is here, has taken the deaths of all that are, and has received
 -- all that the others sent to it
-pub record IsAtRest (g : Group) : Type 0 where
+pub record AreMembersAtRest (g : Group) : Type 0 where
   pub named : Processes
   pub others : OthersAreHere g named
   pub taken : NamedAreTaken g named
@@ -36,7 +36,7 @@ pub record IsAtRest (g : Group) : Type 0 where
 -- no change is open, and none is begun behind
 pub record IsClosed (s : Dimensions) (actions more : List Action) : Type 0 where
   pub run : AreActions s (actions ++ more)
-  pub rest : IsAtRest (composed s actions).group
+  pub rest : AreMembersAtRest (composed s actions).group
   pub still : OnlyOpen Gets (composed s actions).group.gateways
   pub behind : Each (BeginsOnly Gets) more
 

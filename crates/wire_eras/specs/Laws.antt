@@ -12,8 +12,8 @@ use Rattle.memc_table.specs.declared.reply.Reply.{Reply}
 use Rattle.group_calls.specs.Log.{IsLegal}
 use Rattle.group_calls.specs.declared.entry.Entry.{Entry}
 use Rattle.group_calls.specs.declared.event.Answer.TheVariants as says
-use Rattle.group_eras.specs.Promise.{IsKept}
-use Rattle.group_eras.specs.Told.{Bases, op_in, told_reply, with_base}
+use Rattle.group_eras.specs.Promise.{IsItemKept}
+use Rattle.group_eras.specs.Told.{Bases, op_for_era, told_reply, with_base}
 use Rattle.group_wire.specs.Actions.{Action, Show}
 use Rattle.group_wire.specs.Composed.{AreActions, Composed, composed}
 use Rattle.group_wire.specs.Composition.{machine}
@@ -44,13 +44,13 @@ LogsAreOne = (earlier told : List Entry) (s : Dimensions) (actions : List Action
     → IsLegal s.k (earlier ++ told)
 
 -- an item as it is told: with the base of its partition added to its cas number
-abbrev pub raised : Bases → ℕ → Holding → Holding
-raised bases d h = record { item = record { flags = h.item.flags; cas = with_base bases d h.item.cas; value = h.item.value }; until = h.until }
+abbrev pub with_raised_cas : Bases → ℕ → Holding → Holding
+with_raised_cas bases d h = record { item = record { flags = h.item.flags; cas = with_base bases d h.item.cas; value = h.item.value }; until = h.until }
 
 -- a table is another, as it is told
 pub record IsRaised (bases : Bases) (k : ℕ) (own over : Contents) : Type 0 where
   pub counts : (d : ℕ) → d < k → at 0 over.counts d ≡ with_base bases d (at 0 own.counts d)
-  pub items : (key : List ℕ) (h : Holding) → own.items key ≡ Some h → over.items key ≡ Some (raised bases (home_of key k) h)
+  pub items : (key : List ℕ) (h : Holding) → own.items key ≡ Some h → over.items key ≡ Some (with_raised_cas bases (home_of key k) h)
 
 -- so is the table over both that of the later group: what is read there may be carried on, and the next bases are the sums
 abbrev pub TablesGoOn : Type 0
@@ -63,11 +63,11 @@ FirstLogIsLegal = (s : Dimensions) (actions : List Action) → AreActions s acti
 
 -- after sets of what a table holds each item that was set is what it was, with a cas number above all earlier ones of its
 -- partition
-abbrev pub CarriesKeep : Type 0
-CarriesKeep = (k : ℕ) (earlier sets told : List Entry) → 1 ≤ k → IsLegal k earlier → IsLegal k sets → Each (λ e. SetsHeld (table_left k earlier) e.op) sets
+abbrev pub SetsKeepItems : Type 0
+SetsKeepItems = (k : ℕ) (earlier sets told : List Entry) → 1 ≤ k → IsLegal k earlier → IsLegal k sets → Each (λ e. SetsHeld (table_left k earlier) e.op) sets
     → AreToldAs (bases_of k earlier) k sets told
     → (key : List ℕ) (h : Holding) → (table_left k earlier).items key ≡ Some h → HasKey sets key
-    → IsKept (table_left k earlier) key h (table_left k (earlier ++ told))
+    → IsItemKept (table_left k earlier) key h (table_left k (earlier ++ told))
 
 -- an answer is that of the one table for what was asked, at the place of the call in the log over both
 pub record IsOfTable (earlier told : List Entry) (k : ℕ) (c : Composed) (caller : ℕ) (o : OpenCall) (shown : Reply) (asked : Asked) (answer : Reply) : Type 0 where
@@ -79,5 +79,5 @@ abbrev pub ShownIsOfTable : Type 0
 ShownIsOfTable = (earlier told : List Entry) (s : Dimensions) (actions : List Action) (caller ping : ℕ) (o : OpenCall) (t : Told) (shown : Reply) (asked : Asked)
     → GoesOnFrom earlier s actions → IsTold earlier s actions told → NoTwoHoldAll (composed s actions).group
     → MayAct (composed s actions).group (Show caller ping) → Shows (composed s actions) caller o t → t.answer ≡ says.Reply shown
-    → o.op ≡ op_in (bases_of s.k earlier) s.k asked
+    → o.op ≡ op_for_era (bases_of s.k earlier) s.k asked
     → IsOfTable earlier told s.k (composed s actions) caller o shown asked (told_reply (bases_of s.k earlier) (home_of (key_of asked.act) s.k) shown)

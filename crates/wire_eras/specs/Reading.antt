@@ -23,7 +23,7 @@ use Rattle.group_wire.specs.Laws.{NoTwoHoldAll}
 use Rattle.group_wire.specs.May.{MayAct}
 use Rattle.group_wire.specs.Shown.{Shows}
 use Rattle.group_wire.specs.State.{OpenCall, Told}
-use Rattle.wire_eras.specs.Closed.{IsAtRest, IsClosed}
+use Rattle.wire_eras.specs.Closed.{AreMembersAtRest, IsClosed}
 use Rattle.wire_eras.specs.Laws.{log_made}
 use Rattle.wire_eras.specs.Told.{bases_of, table_left}
 
@@ -38,7 +38,7 @@ pub record TellsItem (slot : Slot) (h : Holding) : Type 0 where
   pub long : slot.len ≡ length h.item.value
 
 -- a head lists the items of its partition, and its settled number is the base
-pub record ListsItems (s : Dimensions) (actions : List Action) (d : ℕ) : Type 0 where
+pub record HeadListsItems (s : Dimensions) (actions : List Action) (d : ℕ) : Type 0 where
   pub listed : (key : List ℕ) (slot : Slot) → Contains (head_replica (composed s actions) d).items (key, slot)
       → (h : Holding) × ((table_left s.k (log_made s actions)).items key ≡ Some h) × TellsItem slot h
   pub all : (key : List ℕ) (h : Holding) → home_of key s.k ≡ d → (table_left s.k (log_made s actions)).items key ≡ Some h
@@ -46,7 +46,7 @@ pub record ListsItems (s : Dimensions) (actions : List Action) (d : ℕ) : Type 
   pub base : (head_replica (composed s actions) d).applied ≡ at 0 (bases_of s.k (log_made s actions)) d
 
 abbrev pub HeadsListItems : Type 0
-HeadsListItems = (s : Dimensions) (actions : List Action) (d : ℕ) → AreActions s actions → IsAtRest (composed s actions).group → d < s.k → ListsItems s actions d
+HeadsListItems = (s : Dimensions) (actions : List Action) (d : ℕ) → AreActions s actions → AreMembersAtRest (composed s actions).group → d < s.k → HeadListsItems s actions d
 
 -- a call that begins behind is shown a reply
 pub record ShowsBehind (s : Dimensions) (actions more : List Action) (caller : ℕ) (o : OpenCall) (shown : Reply) : Type 0 where
@@ -68,13 +68,13 @@ GetsTellTable = (s : Dimensions) (actions more : List Action) (caller : ℕ) (o 
     → shown ≡ reply_of (table_left s.k (log_made s actions)) o.op
 
 -- a table's reply to a get: the item that it holds, or a miss where what it holds has ended
-pub record HoldsItem (t : Contents) (key : List ℕ) (item : Item) : Type 0 where
+pub record TableHoldsItem (t : Contents) (key : List ℕ) (item : Item) : Type 0 where
   pub holding : Holding
   pub held : t.items key ≡ Some holding
   pub same : holding.item ≡ item
 
 abbrev pub ValuesAreHeld : Type 0
-ValuesAreHeld = (t : Contents) (moment : ℕ) (key : List ℕ) (item : Item) → reply_of t (record { moment = moment; act = Get key }) ≡ reply.Value item → HoldsItem t key item
+ValuesAreHeld = (t : Contents) (moment : ℕ) (key : List ℕ) (item : Item) → reply_of t (record { moment = moment; act = Get key }) ≡ reply.Value item → TableHoldsItem t key item
 
 abbrev pub MissesHaveEnded : Type 0
 MissesHaveEnded = (t : Contents) (moment : ℕ) (key : List ℕ) (h : Holding) → reply_of t (record { moment = moment; act = Get key }) ≡ reply.Miss → t.items key ≡ Some h

@@ -6,7 +6,7 @@ use Rattle.memc_table.specs.Contents.{Contents, empty_table}
 use Rattle.group_calls.specs.Log.{table_of}
 use Rattle.group_calls.specs.Turns.{name_of}
 use Rattle.group_calls.specs.declared.entry.Entry.{Entry}
-use Rattle.group_eras.specs.Told.{Bases, op_in, told_reply}
+use Rattle.group_eras.specs.Told.{Bases, op_for_era, told_reply}
 
 -- the table that a log leaves
 abbrev pub table_left : ℕ → List Entry → Contents
@@ -19,7 +19,7 @@ bases_of k log = (table_left k log).counts
 -- an entry as it is told: of the same call, with the op as its client asked it, and with the base added to its cas number
 pub record IsToldAs (bases : Bases) (k : ℕ) (entry told : Entry) : Type 0 where
   pub name : name_of told ≡ name_of entry
-  pub op : entry.op ≡ op_in bases k told.op
+  pub op : entry.op ≡ op_for_era bases k told.op
   pub reply : told.reply ≡ told_reply bases (home_of (key_of told.op.act) k) entry.reply
 
 -- entry by entry

@@ -1,7 +1,7 @@
 ghost use Rattle.wire_eras.specs.Acknowledged.{AcknowledgedAreCarried, AcknowledgedKeep};
 ghost use Rattle.wire_eras.specs.Carry.{ExptimesKeep};
 ghost use Rattle.wire_eras.specs.Closed.{ClosedLogsNoChange};
-ghost use Rattle.wire_eras.specs.Laws.{CarriesKeep, FirstLogIsLegal, LogsAreOne, ShownIsOfTable, TablesGoOn};
+ghost use Rattle.wire_eras.specs.Laws.{FirstLogIsLegal, LogsAreOne, SetsKeepItems, ShownIsOfTable, TablesGoOn};
 ghost use Rattle.wire_eras.specs.Reading.{GetsTellTable, HeadsListItems, MissesHaveEnded, ValuesAreHeld};
 
 /// The log of a group over machines is legal, so that another may go on from it.
@@ -28,7 +28,7 @@ pub fn tables_go_on()
 /// partition.
 #[tactic(auto, using(crate::proofs::Carrying::carries_keep))]
 pub fn carries_keep()
-    ensures { CarriesKeep }
+    ensures { SetsKeepItems }
 {}
 
 /// Each reply that a client of the later group is shown, as it is told, is that of the one table for what the client

@@ -8,8 +8,8 @@ use Rattle.edge_io.specs.Moving.{Appends, Input, IsEnded, Takes}
 use Rattle.edge_io.specs.Writing.{HasWritten}
 use Rattle.edge_io.proofs.Moving.{Appends-nil, Appends-trans, Takes-none, Takes-trans}
 use Rattle.group_message.specs.declared.message.Message.{Message}
-use Rattle.wire_codec.specs.Stream.{HasRead, IsBad, IsPartial, Kept, Reads}
-use Rattle.wire_frames.specs.Framed.{HasCome, HasFramed, HasHalted, HasListed, IsBadOnlyNow}
+use Rattle.wire_codec.specs.Stream.{DecoderState, HasDecoded, IsBad, IsPartial, ReadsFrames}
+use Rattle.wire_frames.specs.Framed.{HasFramed, HasHalted, HasListed, IsBadOnlyNow, PieceHasCome}
 use Rattle.wire_frames.specs.Line.{line_of, lines_of}
 use Rattle.wire_frames.specs.Pieces.{EndsAs, HasGiven, IsPieceListed, status_in}
 use Rattle.wire_frames.specs.declared.status.FramesStatus.{FramesStatus}
@@ -17,16 +17,16 @@ use Rattle.wire_frames.specs.declared.status.FramesStatus.TheVariants.{Done, Cut
 use Rattle.wire_frames.proofs.Stands.{place-is, rest-bad, rest-good}
 
 -- what was read was fed, and the lines of its messages are written
-pub record GoesOn (input input_now : Input) (held held_now : List ℕ) (kept : Kept) (count : ℕ) : Type 0 where
+pub record GoesOn (input input_now : Input) (held held_now : List ℕ) (kept : DecoderState) (count : ℕ) : Type 0 where
   pub read : List ℕ
   pub consumed : Takes input input_now read
   pub messages : List Message
-  pub has_read : HasRead kept read messages
+  pub has_read : HasDecoded kept read messages
   pub written : Appends held held_now (lines_of messages)
   pub good : kept.bad ≡ false
   pub counted : length read ≡ count
 
-pub goes-none : (input : Input) (held : List ℕ) (kept : Kept) → HasRead kept [] [] → kept.bad ≡ false → GoesOn input input held held kept 0
+pub goes-none : (input : Input) (held : List ℕ) (kept : DecoderState) → HasDecoded kept [] [] → kept.bad ≡ false → GoesOn input input held held kept 0
 goes-none input held kept h good = record {
   read = [];
   consumed = Takes-none input;
@@ -37,14 +37,14 @@ goes-none input held kept h good = record {
   counted = refl;
 }
 
-either : (kept : Kept) (read : List ℕ) (messages : List Message) (h : HasRead kept read messages) → IsPartial h.rest ⊎ IsBad h.rest
+either : (kept : DecoderState) (read : List ℕ) (messages : List Message) (h : HasDecoded kept read messages) → IsPartial h.rest ⊎ IsBad h.rest
 either kept read messages h = by kept.bad refl where
   by : (b : Bool) → kept.bad ≡ b → IsPartial h.rest ⊎ IsBad h.rest
   by true is = inr (rest-bad kept read messages h is)
   by false is = inl (rest-good kept read messages h is).1
 
 -- a frame is bad only with a piece more
-only-now : (kept : Kept) (read piece : List ℕ) (messages : List Message) (h : HasRead kept read messages)
+only-now : (kept : DecoderState) (read piece : List ℕ) (messages : List Message) (h : HasDecoded kept read messages)
     → kept.bad ≡ false → length piece ≤ 65536 → IsBadOnlyNow (read ++ piece)
 only-now kept read piece messages h good short = record {
   front = read;
@@ -60,7 +60,7 @@ only-now kept read piece messages h good short = record {
 lines-append : (messages given : List Message) → lines_of (messages ++ given) ≡ lines_of messages ++ lines_of given
 lines-append messages given = flat_map-append line_of messages given
 
-module _ (input middle input_now : Input) (held held_now : List ℕ) (old : Kept) (count : ℕ) (goes : GoesOn input middle held held_now old count) where
+module _ (input middle input_now : Input) (held held_now : List ℕ) (old : DecoderState) (count : ℕ) (goes : GoesOn input middle held held_now old count) where
   -- a read failed
   pub framed-read_fault : Takes middle input_now [] → HasFramed input input_now held held_now ReadFault
   framed-read_fault keeps = (
@@ -80,7 +80,7 @@ module _ (input middle input_now : Input) (held held_now : List ℕ) (old : Kept
     all : Takes input input_now (goes.read ++ [])
     all = Takes-trans input middle input_now goes.read [] goes.consumed keeps
 
-    abbrev listed : (rest : List ℕ) → Reads goes.read goes.messages rest → HasListed input input_now held held_now rest
+    abbrev listed : (rest : List ℕ) → ReadsFrames goes.read goes.messages rest → HasListed input input_now held held_now rest
     listed rest reads = record {
       read = goes.read;
       consumed = subst (Takes input input_now) (append-nil goes.read) all;
@@ -107,8 +107,8 @@ module _ (input middle input_now : Input) (held held_now : List ℕ) (old : Kept
     framed-end = by-end
 
   -- a piece came
-  module _ (new : Kept) (piece written_now : List ℕ) (short : length piece ≤ 65536) (takes : Takes middle input_now piece) where
-    abbrev come : HasCome input input_now
+  module _ (new : DecoderState) (piece written_now : List ℕ) (short : length piece ≤ 65536) (takes : Takes middle input_now piece) where
+    abbrev come : PieceHasCome input input_now
     come = record {
       read = goes.read;
       last = piece;
@@ -197,11 +197,11 @@ module _ (input middle input_now : Input) (held held_now : List ℕ) (old : Kept
         counted = let counted = goes.counted in omega (arith, counted, len, length-append goes.read piece);
       }
 
-      pub goes-more : (kept : Kept) (n : ℕ) → kept ≡ new → length piece ≡ n → new.bad ≡ false → GoesOn input input_now held written_now kept (count + n)
-      goes-more kept n same len good = subst (λ (k : Kept). GoesOn input input_now held written_now k (count + n)) (sym same) (goes-now n len good)
+      pub goes-more : (kept : DecoderState) (n : ℕ) → kept ≡ new → length piece ≡ n → new.bad ≡ false → GoesOn input input_now held written_now kept (count + n)
+      goes-more kept n same len good = subst (λ (k : DecoderState). GoesOn input input_now held written_now k (count + n)) (sym same) (goes-now n len good)
 
 -- as many bytes were read as a stream may have
-pub framed-worn : (input input_now : Input) (held held_now : List ℕ) (kept : Kept) (count : ℕ)
+pub framed-worn : (input input_now : Input) (held held_now : List ℕ) (kept : DecoderState) (count : ℕ)
     → GoesOn input input_now held held_now kept count → count ≡ 4611686018427387904
     → HasFramed input input_now held held_now Worn
 framed-worn input input_now held held_now kept count goes all = (
@@ -247,7 +247,7 @@ pub end-tells : (input : List ℕ) (messages : List Message) (result : Result (U
     → (result ≡ Err ReadFault → ⊥) × (result ≡ Err WriteFault → ⊥)
 end-tells input messages result ends = (λ is. subst (EndsAs input messages) is ends, λ is. subst (EndsAs input messages) is ends)
 
-pub piece-tells : (old new : Kept) (input : List ℕ) (messages : List Message) (piece held now : List ℕ)
+pub piece-tells : (old new : DecoderState) (input : List ℕ) (messages : List Message) (piece held now : List ℕ)
     (status : FramesStatus) (result : Result (Unit {0}) FramesStatus)
     → IsPieceListed old new input messages piece held now (Err status) → IsErrAnd result (λ s. s ≡ status)
     → result ≡ Err ReadFault → ⊥

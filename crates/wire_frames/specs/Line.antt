@@ -3,11 +3,11 @@ use Rattle.std.specs.Prelude.{ℕ, List, ◌++◌, codes, length}
 use Rattle.std.specs.Fmt.{decimal}
 use Rattle.std.specs.List.{flat_map}
 use Rattle.group_message.specs.declared.message.Message.{Message}
-use Rattle.wire_codec.specs.Frame.{kind_of, text_of}
+use Rattle.wire_codec.specs.Frame.{frame_body, kind_of}
 
 -- the kind of a message, and how many bytes stand behind the length in its frame
 abbrev pub line_of : Message → List ℕ
-line_of m = codes "frame " ++ decimal (kind_of m) ++ codes " " ++ decimal (length (text_of m)) ++ codes "\n"
+line_of m = codes "frame " ++ decimal (kind_of m) ++ codes " " ++ decimal (length (frame_body m)) ++ codes "\n"
 
 -- the lines of messages, in order
 abbrev pub lines_of : List Message → List ℕ

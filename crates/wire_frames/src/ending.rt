@@ -1,6 +1,6 @@
 ghost use Rattle.std.specs.Prelude.{◌≡◌, ℕ, List, false, true, OnOk, IfErr};
 ghost use Rattle.group_message.specs.declared.message.Message.{Message};
-ghost use Rattle.wire_codec.specs.Stream.{HasRead};
+ghost use Rattle.wire_codec.specs.Stream.{HasDecoded};
 ghost use Rattle.wire_frames.specs.Pieces.{EndsAs};
 
 use crate::status::FramesStatus;
@@ -9,7 +9,7 @@ use wire_codec::Decoder;
 /// The end of a stream whose input ended, and of which no frame is bad.
 pub(crate) fn end_stream(decoder: &Decoder) -> Result<(), FramesStatus>
     requires { decoder.now.bad ≡ false }
-    ensures { (input : List ℕ) (messages : List Message) → HasRead decoder.now input messages
+    ensures { (input : List ℕ) (messages : List Message) → HasDecoded decoder.now input messages
         → EndsAs input messages result }
 {
     if decoder.at_start() {

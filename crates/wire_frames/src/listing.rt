@@ -1,7 +1,7 @@
 ghost use Rattle.std.specs.Prelude.{◌≡◌, ◌≤◌, ℕ, false, List, [], length};
 ghost use Rattle.edge_io.specs.Faults.{HasCauseOf, Rose};
 ghost use Rattle.group_message.specs.declared.message.Message.{Message};
-ghost use Rattle.wire_codec.specs.Stream.{HasRead, IsTaken};
+ghost use Rattle.wire_codec.specs.Stream.{CanBeFed, HasDecoded};
 ghost use Rattle.wire_frames.specs.Framed.{HasFramed};
 ghost use Rattle.wire_frames.specs.Pieces.{IsPieceListed, WasFed, status_in};
 
@@ -57,7 +57,7 @@ fn list_pieces<S: Source, K: Sink>(
 ) -> Result<(), FramesStatus>
     requires room { length room.old ≡ PIECE }
     requires good { decoder.old.bad ≡ false }
-    requires read { HasRead decoder.old [] [] }
+    requires read { HasDecoded decoder.old [] [] }
     ensures framed { HasFramed (S.input source.old) (S.input source.new) (K.held sink.old) (K.held sink.new)
         (status_in result) }
     ensures read { HasCauseOf (S.faults source.old) (S.faults source.new) result FramesStatus.ReadFault }
@@ -85,9 +85,9 @@ fn list_piece<K: Sink>(
     decoder: &mut Decoder,
     piece: &[u8],
 ) -> Result<(), FramesStatus>
-    requires taken { IsTaken decoder.old (length piece.now) }
+    requires taken { CanBeFed decoder.old (length piece.now) }
     requires fed { WasFed decoder.old }
-    ensures listed { (input : List ℕ) (messages : List Message) → HasRead decoder.old input messages
+    ensures listed { (input : List ℕ) (messages : List Message) → HasDecoded decoder.old input messages
         → IsPieceListed decoder.old decoder.new input messages piece.now (K.held sink.old) (K.held sink.new) result }
     ensures cause { HasCauseOf (K.faults sink.old) (K.faults sink.new) result FramesStatus.WriteFault }
 {

@@ -15,7 +15,7 @@ use Rattle.law_causes.specs.Calls.{IsCollected}
 use Rattle.law_causes.proofs.Lasting.{held_last_always}
 use Rattle.group_run.specs.Process.{Held, Node}
 use Rattle.group_run.specs.Progress.{load_of}
-use Rattle.group_run.specs.World.{World, after, delivered, node_of, step}
+use Rattle.group_run.specs.World.{World, after, delivered, process_node, step}
 use Rattle.law_progress.specs.Ends.{HasDelivery}
 use Rattle.law_progress.proofs.Always.{deliveries_lower}
 use Rattle.law_progress.proofs.Drained.{deliveries_are_left}
@@ -23,7 +23,7 @@ use Rattle.group_wire.specs.Actions.{Action, Receive}
 use Rattle.group_wire.specs.Composed.{AreActions, Composed, Made, composed, composed_with, events_of, message_made, opening_composed, stands_if}
 use Rattle.group_wire.specs.Composition.{Carried, IsComposed, machine}
 use Rattle.group_wire.specs.GoingOn.{CanBe, NamedAreTaken, OthersAreHere}
-use Rattle.group_wire.specs.Sets.{IsWithin, Processes, one_or}
+use Rattle.group_wire.specs.Sets.{IsSubset, Processes, one_or}
 use Rattle.group_wire.proofs.Barrier.{Deposed}
 use Rattle.group_wire.proofs.Compositions.{runs_compose}
 use Rattle.group_wire.proofs.Extending.{after-made, events_in, shape-after}
@@ -74,7 +74,7 @@ module _ (s : Dimensions) (named : Processes) (one : ProcessId) (one_in : IsProc
     shape = shape-from (opening_composed s) actions
 
     -- those who have failed are the named
-    pub failed-named : IsWithin (composed s actions).failed named
+    pub failed-named : IsSubset (composed s actions).failed named
     failed-named x lost = by h.barred.deposed where
       by : ((x : ProcessId) → (composed s actions).failed x ≡ false) ⊎ Deposed (composed s actions).group.shape
           (composed s actions).group.words (composed s actions).failed → named x ≡ true
@@ -181,9 +181,9 @@ module _ (s : Dimensions) (named : Processes) (one : ProcessId) (one_in : IsProc
         → CanBe s actions (λ d. Stays named (composed s actions) d
         × (load_of (machine d) < load_of (machine (composed s actions))))
     delivers has =
-        by (done-means (node_of (machine (composed s actions)) has.to).down
-        (node_of (machine (composed s actions)) has.to).dead (machine (composed s actions)).shape has.from has.to
-        (node_of (machine (composed s actions)) has.from) (node_of (machine (composed s actions)) has.to)
+        by (done-means (process_node (machine (composed s actions)) has.to).down
+        (process_node (machine (composed s actions)) has.to).dead (machine (composed s actions)).shape has.from has.to
+        (process_node (machine (composed s actions)) has.from) (process_node (machine (composed s actions)) has.to)
         (link (machine (composed s actions)) has.from has.to) has.done)
       where
         xin : IsProcess (composed s actions).group.shape has.from

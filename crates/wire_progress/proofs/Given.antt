@@ -21,7 +21,7 @@ use Rattle.group_run.specs.Applying.{ProcessStep, head_at, replica_of}
 use Rattle.group_run.specs.Asking.{act_on, ask_head, found_at, issued, ticketed, update_of}
 use Rattle.group_run.specs.Deciding.{Found, Bytes, blind_reply, decide, decide_accepted, decide_blind, decide_found}
 use Rattle.group_run.specs.Deciding.{decide_left, decide_placed, decide_ruled, decide_waiting, decide_written, is_touch}
-use Rattle.group_run.specs.Deciding.{item_found, length_of, outcome_of, ruling_with, run_needed, unseen, waits_for}
+use Rattle.group_run.specs.Deciding.{item_found, outcome_of, ruling_with, run_needed, slot_length, unseen, waits_for}
 use Rattle.group_run.specs.Deciding.{window}
 use Rattle.group_run.specs.Free.{place_for}
 use Rattle.group_run.specs.Process.{Head, Process}
@@ -65,7 +65,7 @@ module _ (op : Asked) (space : ℕ) (r : Replica) (empty : r.log ≡ []) (read :
   decided inherited = subst (λ (o : Option ℕ). NeedsNothing (decide_waiting space r op read (slot_in r.items (key_of op.act)) o))
       (sym (ap (λ (log : List Update). waits_for inherited op.act (number_on log (key_of op.act))) empty))
       (blind (slot_in r.items (key_of op.act))
-      (blind_reply (length_of (slot_in r.items (key_of op.act)))
+      (blind_reply (slot_length (slot_in r.items (key_of op.act)))
       (ruling_with r op (slot_in r.items (key_of op.act)) (unseen (slot_in r.items (key_of op.act))))))
 
 module _ (s : Dimensions) (name : CallName) (op : Asked) (d : ℕ) (p : Process) where

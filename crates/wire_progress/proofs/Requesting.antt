@@ -14,7 +14,7 @@ use Rattle.group_wire.specs.Composed.{AreActions, Composed, Made, composed, comp
 use Rattle.group_wire.specs.Composition.{machine}
 use Rattle.group_wire.specs.GoingOn.{CanBe}
 use Rattle.group_wire.specs.Serving.{gateways_after, if_open, read_first, request_treated, sends_by, tell, told_of}
-use Rattle.group_wire.specs.Sets.{Processes, changed, entry_at, without}
+use Rattle.group_wire.specs.Sets.{Processes, changed, entry_at, without_nth}
 use Rattle.group_wire.specs.State.{Request, AskFor, TraceOf, Told, Stage, Unasked, AskedOf, Unknown, TracedAt, OpenCall, Gateways, gateway_of}
 use Rattle.group_wire.specs.Sending.{parked_at, sent_on, treating, works_treated}
 use Rattle.group_wire.proofs.AtOnce.{may-read, pair-here, sent-here}
@@ -161,7 +161,7 @@ module _ (s : Dimensions) (named : Processes) (caller : ℕ) (out : named (gatew
       abbrev left : Gateways
       left = record (composed s actions).group.gateways {
         parked = changed (composed s actions).group.gateways.parked x
-            (without ((composed s actions).group.gateways.parked x) 0);
+            (without_nth ((composed s actions).group.gateways.parked x) 0);
       }
 
       first : parked_at (composed s actions).group x 0 ≡ Some r
@@ -188,7 +188,7 @@ module _ (s : Dimensions) (named : Processes) (caller : ℕ) (out : named (gatew
             ap (λ (w : ProcessId → ProcessId → List Request). w (gateway_of s caller) x) (tell-requests (composed s actions).group x ts left) ∙ loaded.asked,
             ap (λ (w : ProcessId → List Request). w x) (tell-parked (composed s actions).group x ts left)
                 ∙ changed-here (composed s actions).group.gateways.parked x
-                (without ((composed s actions).group.gateways.parked x) 0) ∙ ap (λ (rs : List Request). without rs 0)
+                (without_nth ((composed s actions).group.gateways.parked x) 0) ∙ ap (λ (rs : List Request). without_nth rs 0)
                 loaded.kept,
             told,
           ))

@@ -8,7 +8,7 @@ use Rattle.memc_table.specs.Asked.{Asked}
 use Rattle.group_wire.specs.Actions.{Read, Treat, Learn}
 use Rattle.group_wire.specs.Composed.{Composed}
 use Rattle.group_wire.specs.May.{waits_for}
-use Rattle.group_wire.specs.Sets.{Processes, changed, entry_at, one_or, size_of, without}
+use Rattle.group_wire.specs.Sets.{Processes, changed, entry_at, one_or, size_of, without_nth}
 use Rattle.group_wire.specs.State.{Request, Told, Stage, OpenCall, Gateways, Group}
 use Rattle.group_wire.specs.Sending.{parked_at, treating}
 use Rattle.group_wire.specs.Serving.{call_learned, learned_first, read_first, request_treated, stage_learned, told_of}
@@ -49,12 +49,12 @@ read-call x p (r ∷ rest) gw = refl
 pub treated-call : (g : Group) (p : ProcessId) (place : ℕ) (r : Option Request) → (request_treated g p place r).call ≡ g.gateways.call
 treated-call g p place None = refl
 treated-call g p place (Some r) = tell-call g p (told_of r (treating g.shape r (g.works.process p)).answer)
-    (record g.gateways { parked = changed g.gateways.parked p (without (g.gateways.parked p) place) })
+    (record g.gateways { parked = changed g.gateways.parked p (without_nth (g.gateways.parked p) place) })
 
 treated-requests : (g : Group) (p : ProcessId) (place : ℕ) (r : Option Request) → (request_treated g p place r).requests ≡ g.gateways.requests
 treated-requests g p place None = refl
 treated-requests g p place (Some r) = tell-requests g p (told_of r (treating g.shape r (g.works.process p)).answer)
-    (record g.gateways { parked = changed g.gateways.parked p (without (g.gateways.parked p) place) })
+    (record g.gateways { parked = changed g.gateways.parked p (without_nth (g.gateways.parked p) place) })
 
 module _ (caller : ℕ) (op : Asked) (x : ProcessId) where
   -- calls that stay are open as before
@@ -165,10 +165,10 @@ module _ (s : Dimensions) (named : Processes) (few : size_of s named ≤ s.m) (c
           (tell-parked c.group x (told_of r (treating c.group.shape r (c.group.works.process x)).answer)
           (record c.group.gateways {
             parked = changed c.group.gateways.parked x
-                (without (c.group.gateways.parked x) 0);
+                (without_nth (c.group.gateways.parked x) 0);
           }))
-          ∙ changed-here c.group.gateways.parked x (without (c.group.gateways.parked x) 0)
-          ∙ ap (λ (rs : List Request). without rs 0) is)
+          ∙ changed-here c.group.gateways.parked x (without_nth (c.group.gateways.parked x) 0)
+          ∙ ap (λ (rs : List Request). without_nth rs 0) is)
 
   learns-all : (ts : List Told) (c : Composed) → Going s named c.group → c.group.gateways.answers x g ≡ ts → NoneKept c → Reaches K c NoAnswer
   learns-all [] c going is none = reaches-here K c NoAnswer (self c going) (is, none.0, none.1)

@@ -13,7 +13,7 @@ use Rattle.group_run.specs.Asking.{CallStep, collect_from}
 use Rattle.group_run.specs.Process.{Held, Process}
 use Rattle.law_causes.specs.Calls.{IsCollected}
 use Rattle.law_causes.proofs.Lasting.{KeptOr, has-ask, has-collect}
-use Rattle.group_wire.specs.Sets.{changed, entry_at, without}
+use Rattle.group_wire.specs.Sets.{changed, entry_at, without_nth}
 use Rattle.group_wire.specs.State.{Request, AskFor, TraceOf, Told, Gateways, Group, gateway_of}
 use Rattle.group_wire.specs.Sending.{parked_at, treating, works_treated}
 use Rattle.group_wire.specs.Serving.{handed_to, request_treated, tell, told_of}
@@ -28,7 +28,7 @@ module _ (g : Group) (p : ProcessId) (place : ℕ) (r : Request) (is : parked_at
   made = treating g.shape r (g.works.process p)
 
   abbrev left : Gateways
-  left = record g.gateways { parked = changed g.gateways.parked p (without (g.gateways.parked p) place) }
+  left = record g.gateways { parked = changed g.gateways.parked p (without_nth (g.gateways.parked p) place) }
 
   abbrev pub Treated : View
   Treated = record { cut = g.words.cut; process = changed g.works.process p made.step.process; gateways = tell g p (told_of r made.answer) left }
@@ -57,16 +57,16 @@ module _ (g : Group) (p : ProcessId) (place : ℕ) (r : Request) (is : parked_at
         (told-waits g p (changed g.works.process p made.step.process) left r made.answer)
 
   left-or : (q : Request) (x : ProcessId) → Holds q (g.gateways.parked x)
-      → Holds q (changed g.gateways.parked p (without (g.gateways.parked p) place) x) ⊎ ((x ≡ p) × (r ≡ q))
+      → Holds q (changed g.gateways.parked p (without_nth (g.gateways.parked p) place) x) ⊎ ((x ≡ p) × (r ≡ q))
   left-or q x there = changed-each (λ z rs. Holds q (g.gateways.parked z) → Holds q rs ⊎ ((z ≡ p) × (r ≡ q)))
-      g.gateways.parked p (without (g.gateways.parked p) place)
+      g.gateways.parked p (without_nth (g.gateways.parked p) place)
       (λ there. by (holds-without q (g.gateways.parked p) place there)) (λ z _ there. inl there) x there
     where
       some-same : {a b : Request} → Some a ≡ Some b → a ≡ b
       some-same {a} same = ap (λ (o : Option Request). elim o [ None ↦ a | Some y ↦ y ]) same
 
-      by : (entry_at (g.gateways.parked p) place ≡ Some q) ⊎ Holds q (without (g.gateways.parked p) place)
-          → Holds q (without (g.gateways.parked p) place) ⊎ ((p ≡ p) × (r ≡ q))
+      by : (entry_at (g.gateways.parked p) place ≡ Some q) ⊎ Holds q (without_nth (g.gateways.parked p) place)
+          → Holds q (without_nth (g.gateways.parked p) place) ⊎ ((p ≡ p) × (r ≡ q))
       by (inl same) = inr (refl, some-same (sym is ∙ same))
       by (inr there) = inl there
 
@@ -76,7 +76,7 @@ module _ (g : Group) (p : ProcessId) (place : ℕ) (r : Request) (is : parked_at
       Coming (subst (λ (w : ProcessId → ProcessId → List Request). Holds q (w (gateway_of g.shape (caller_of q)) x))
       (sym (tell-requests g p (told_of r made.answer) left)) there)
   treated-kept x q (Kept there) = by (left-or q x there) where
-    by : Holds q (changed g.gateways.parked p (without (g.gateways.parked p) place) x) ⊎ ((x ≡ p) × (r ≡ q)) → Waits g.shape Treated x q
+    by : Holds q (changed g.gateways.parked p (without_nth (g.gateways.parked p) place) x) ⊎ ((x ≡ p) × (r ≡ q)) → Waits g.shape Treated x q
     by (inl still) = Kept (subst (λ (w : ProcessId → List Request). Holds q (w x)) (sym (tell-parked g p (told_of r made.answer) left)) still)
     by (inr (here, same)) = subst (λ (y : ProcessId). Waits g.shape Treated y q) (sym here) (subst (Waits g.shape Treated p) same treated-waits)
   treated-kept x q (Holding held) = Holding (held-changed g.shape g.works.process p made.step.process more x q held)

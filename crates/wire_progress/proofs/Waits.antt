@@ -11,7 +11,7 @@ use Rattle.group_calls.specs.declared.event.Answer.{Answer}
 use Rattle.group_run.specs.Applying.{held_at}
 use Rattle.group_run.specs.Process.{Held, Process}
 use Rattle.group_wire.specs.GoingOn.{IsEnd}
-use Rattle.group_wire.specs.Sets.{Processes, changed, changed_at, entry_at, one_or, without}
+use Rattle.group_wire.specs.Sets.{Processes, changed, changed_at, entry_at, one_or, without_nth}
 use Rattle.group_wire.specs.State.{Request, AskFor, TraceOf, Told, Stage, Unasked, AskedOf, Unknown, TracedAt, Answered, OpenCall, Gateways, Group, gateway_of}
 use Rattle.group_wire.specs.Sending.{sent_on}
 use Rattle.group_wire.specs.Serving.{again, stage_given_up, stage_told}
@@ -32,13 +32,13 @@ holds-more x [] ys there = absurd there
 holds-more x (y ∷ xs) ys (inl same) = inl same
 holds-more x (y ∷ xs) ys (inr there) = inr (holds-more x xs ys there)
 
-pub holds-without : {X : Type 0} (x : X) (xs : List X) (place : ℕ) → Holds x xs → (entry_at xs place ≡ Some x) ⊎ Holds x (without xs place)
+pub holds-without : {X : Type 0} (x : X) (xs : List X) (place : ℕ) → Holds x xs → (entry_at xs place ≡ Some x) ⊎ Holds x (without_nth xs place)
 holds-without x [] place there = absurd there
 holds-without x (y ∷ xs) zero (inl same) = inl (ap Some (sym same))
 holds-without x (y ∷ xs) zero (inr there) = inr there
 holds-without x (y ∷ xs) (suc place) (inl same) = inr (inl same)
 holds-without x (y ∷ xs) (suc place) (inr there) = by (holds-without x xs place there) where
-  by : (entry_at xs place ≡ Some x) ⊎ Holds x (without xs place) → (entry_at xs place ≡ Some x) ⊎ ((x ≡ y) ⊎ Holds x (without xs place))
+  by : (entry_at xs place ≡ Some x) ⊎ Holds x (without_nth xs place) → (entry_at xs place ≡ Some x) ⊎ ((x ≡ y) ⊎ Holds x (without_nth xs place))
   by (inl is) = inl is
   by (inr left) = inr (inr left)
 

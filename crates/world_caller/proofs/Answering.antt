@@ -32,8 +32,8 @@ use Rattle.law_histories.proofs.Finished.{reached-and-told}
 use Rattle.law_answers.proofs.Answering.{answers_always}
 use Rattle.law_progress.proofs.Quiet.{quiet_always}
 use Rattle.law_progress.proofs.Steps.{shape-is, world-is}
-use Rattle.world_caller.specs.Calling.{Serves, asked_to, collected_to, due}
-use Rattle.world_caller.specs.Laws.{AsksAlways, AsksLeadOn, CollectsAlways, CollectsLeadOn, IsTicketed, LeadsOn}
+use Rattle.world_caller.specs.Calling.{Serves, due, next_of_ask, next_of_collect}
+use Rattle.world_caller.specs.Laws.{AsksLeadOn, AsksLeadOnAlways, CollectsLeadOn, CollectsLeadOnAlways, EventLeadsOn, IsTicketed}
 use Rattle.world_caller.proofs.Delivering.{due-none, framed}
 use Rattle.world_caller.proofs.Leading.{collect-leads, down-leads, home-below, numbered-below, one-head, ready-leads}
 use Rattle.world_caller.proofs.Standing.{ask-ticket, heads-stay, up-stays}
@@ -102,7 +102,7 @@ module _ (s : Dimensions) (es : List Event) (run : IsRun s es) where
       from = head-from s v d (reached-and-told s es run).0.0 low p hd (of-shape p pin) lives is
 
   asks-lead : (caller : ℕ) (op : Asked) (p : ProcessId) → due h.world ≡ None → MayCome h.world (Ask caller op p) → Serves h.world (home_in h.world op) p
-      → LeadsOn caller (step h.world (Ask caller op p)).world (asked_to (at 0 h.world.asked caller) p (step h.world (Ask caller op p)).turn.answer)
+      → EventLeadsOn caller (step h.world (Ask caller op p)).world (next_of_ask (at 0 h.world.asked caller) p (step h.world (Ask caller op p)).turn.answer)
   asks-lead caller op p none may serves = by (due-none h.world none) where
     why : AskCause h.world (step h.world (Ask caller op p)).world p op (step h.world (Ask caller op p)).turn.answer
     why = causes (Ask caller op p) may
@@ -123,12 +123,12 @@ module _ (s : Dimensions) (es : List Event) (run : IsRun s es) where
         }
 
     by : IsDown h.world ⊎ ((¬ (IsDown h.world)) × IsDrained h.world)
-        → LeadsOn caller (step h.world (Ask caller op p)).world (asked_to (at 0 h.world.asked caller) p (step h.world (Ask caller op p)).turn.answer)
+        → EventLeadsOn caller (step h.world (Ask caller op p)).world (next_of_ask (at 0 h.world.asked caller) p (step h.world (Ask caller op p)).turn.answer)
     by (inl down) = down-leads h.world (step h.world (Ask caller op p)).world caller (at 0 h.world.asked caller) op p
         (step h.world (Ask caller op p)).turn.answer down why
     by (inr (up, drained)) = headed ((quiet up drained).headed (home_in h.world op) (home-in op)) serves where
       headed : ((r : ℕ) × Heads h.world (home_in h.world op) r × HasTakenOver h.world (home_in h.world op) r) → Serves h.world (home_in h.world op) p
-          → LeadsOn caller (step h.world (Ask caller op p)).world (asked_to (at 0 h.world.asked caller) p (step h.world (Ask caller op p)).turn.answer)
+          → EventLeadsOn caller (step h.world (Ask caller op p)).world (next_of_ask (at 0 h.world.asked caller) p (step h.world (Ask caller op p)).turn.answer)
       headed (r, heads, over) (inr (without, is)) = absurd (without r heads)
       headed (r, heads, over) (inl (q, its, is)) =
           let name : p ≡ of_rank (home_in h.world op) r = is ∙ ap (of_rank (home_in h.world op)) (one-head h.world (home_in h.world op) q r its heads) in
@@ -138,14 +138,14 @@ module _ (s : Dimensions) (es : List Event) (run : IsRun s es) where
           (λ d n same. (quiet up drained).asked caller op p may (d, n, same)) (ticket up r heads name) why
 
   collects-lead : (caller call : ℕ) (p : ProcessId) → due h.world ≡ None → MayCome h.world (Collect caller call p) → IsTicketed h.world caller call p
-      → LeadsOn caller (step h.world (Collect caller call p)).world (collected_to (step h.world (Collect caller call p)).turn.answer)
+      → EventLeadsOn caller (step h.world (Collect caller call p)).world (next_of_collect (step h.world (Collect caller call p)).turn.answer)
   collects-lead caller call p none may t = by (due-none h.world none) where
     lives : is_dead h.world p ≡ false
     lives = ap (is_dead h.world) t.named ∙ t.heads.lives
 
     by : IsDown h.world ⊎ ((¬ (IsDown h.world)) × IsDrained h.world)
-        → LeadsOn caller (step h.world (Collect caller call p)).world
-        (collected_to (step h.world (Collect caller call p)).turn.answer)
+        → EventLeadsOn caller (step h.world (Collect caller call p)).world
+        (next_of_collect (step h.world (Collect caller call p)).turn.answer)
     by (inl down) = absurd (t.up down)
     by (inr (up, drained)) = collect-leads h.world (step h.world (Collect caller call p)).world caller call p
         (step h.world (Collect caller call p)).turn.answer t lives
@@ -153,8 +153,8 @@ module _ (s : Dimensions) (es : List Event) (run : IsRun s es) where
         (λ hd is. head-finished up drained p d hd may.1 lives holds.partition is))
         (causes (Collect caller call p) may)
 
-pub asks_always : AsksAlways
+pub asks_always : AsksLeadOnAlways
 asks_always s es run = subst AsksLeadOn (world-is s es run) (λ caller op p none may serves. asks-lead s es run caller op p none may serves)
 
-pub collects_always : CollectsAlways
+pub collects_always : CollectsLeadOnAlways
 collects_always s es run = subst CollectsLeadOn (world-is s es run) (λ caller call p none may t. collects-lead s es run caller call p none may t)

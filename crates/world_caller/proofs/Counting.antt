@@ -23,7 +23,7 @@ use Rattle.law_progress.proofs.Whole.{next-comes}
 use Rattle.law_answers.proofs.Answering.{answers_always}
 use Rattle.law_progress.proofs.Steps.{history-append, run-append, world-is}
 use Rattle.law_progress.proofs.Waits.{few_waits_always}
-use Rattle.world_caller.specs.Calling.{Brings, IsDone, IsEvent, Serves, asked_to, due}
+use Rattle.world_caller.specs.Calling.{EventsBring, IsEvent, IsFirstOrOwn, Serves, due, next_of_ask}
 use Rattle.world_caller.specs.Laws.{FewAlways}
 use Rattle.world_caller.specs.declared.stage.Next.{Next}
 use Rattle.world_caller.specs.declared.stage.Next.TheVariants.{Ends, Goes}
@@ -43,7 +43,7 @@ module _ (caller : ℕ) (op : Asked) (p : ProcessId) where
         → IsEvent caller op (after s before) stage e n
         → Counts caller op p (after s before) stage e n
     event-counts before run stage e n up fixed event = by (due (after s before)) refl event.done where
-      by : (o : Option Event) → due (after s before) ≡ o → IsDone o caller op (after s before) stage e n → Counts caller op p (after s before) stage e n
+      by : (o : Option Event) → due (after s before) ≡ o → IsFirstOrOwn o caller op (after s before) stage e n → Counts caller op p (after s before) stage e n
       by (Some d) first (is, same) =
           let comes = next-comes s before run up d (due-first (after s before) d first).1 in
           subst (λ (x : Next). Counts caller op p (after s before) stage e x) (sym same)
@@ -70,7 +70,7 @@ module _ (caller : ℕ) (op : Asked) (p : ProcessId) where
     }
 
     counted : (es before : List Event) → (run : IsRun s before) → (next last : Next) → ¬ (IsDown (after s before))
-        → Fixed caller op p (after s before) → Brings caller op (after s before) next es last
+        → Fixed caller op p (after s before) → EventsBring caller op (after s before) next es last
         → AreCounted (after s before) next es
     counted [] before run next last up fixed brings = record { drained = tt; few = omega arith }
     counted (e ∷ es) before run (Ends end) last up fixed brings = absurd brings
@@ -79,7 +79,7 @@ module _ (caller : ℕ) (op : Asked) (p : ProcessId) where
         (counted es (before ++ e ∷ []) (run.0, run-append (no_history s) before e run.1 may) n last
         (subst (λ (w : World). ¬ (IsDown w)) (sym longer) still-up)
         (subst (Fixed caller op p) (sym longer) still-fixed)
-        (subst (λ (w : World). Brings caller op w n es last) (sym longer) brings)))
+        (subst (λ (w : World). EventsBring caller op w n es last) (sym longer) brings)))
       where
         one : Counts caller op p (after s before) stage e n
         one = event-counts before run stage e n up fixed event
@@ -138,23 +138,23 @@ one-serves w d = by (lowest (λ r. is_dead w (of_rank d r)) (suc w.shape.m)) whe
     is-it q (inr (none, is)) = is
 
 -- a call that has ended makes no event
-none-behind : (caller : ℕ) (op : Asked) (w : World) (end : CallEnd) (es : List Event) (last : Next) → Brings caller op w (Ends end) es last → es ≡ []
+none-behind : (caller : ℕ) (op : Asked) (w : World) (end : CallEnd) (es : List Event) (last : Next) → EventsBring caller op w (Ends end) es last → es ≡ []
 none-behind caller op w end [] last brings = refl
 none-behind caller op w end (e ∷ es) last brings = absurd brings
 
 -- of a group that is down a call is asked once
 down-few : (caller : ℕ) (op : Asked) (w : World) (es : List Event) (last : Next) → IsDown w → AnswersHaveCauses w
-    → Brings caller op w (Goes Asks) es last → at 0 (world_after w es).asked caller ≤ at 0 w.asked caller + 1
+    → EventsBring caller op w (Goes Asks) es last → at 0 (world_after w es).asked caller ≤ at 0 w.asked caller + 1
 down-few caller op w [] last down causes brings = omega arith
 down-few caller op w (e ∷ es) last down causes (n, event, brings) = by (due w) refl event.done where
-  by : (o : Option Event) → due w ≡ o → IsDone o caller op w Asks e n → at 0 (world_after w (e ∷ es)).asked caller ≤ at 0 w.asked caller + 1
+  by : (o : Option Event) → due w ≡ o → IsFirstOrOwn o caller op w Asks e n → at 0 (world_after w (e ∷ es)).asked caller ≤ at 0 w.asked caller + 1
   by (Some d) first done = absurd ((due-first w d first).0 down)
   by None none (p, serves, is, leads) =
       let over = down-ends w (step w (Ask caller op p)).world p op (at 0 w.asked caller) n (step w (Ask caller op p)).turn.answer down
       (causes (Ask caller op p) (subst (MayCome w) is event.may))
-      (ap (λ (x : Event). asked_to (at 0 w.asked caller) p (step w x).turn.answer) (sym is) ∙ leads) in
+      (ap (λ (x : Event). next_of_ask (at 0 w.asked caller) p (step w x).turn.answer) (sym is) ∙ leads) in
       let nothing : es ≡ [] = none-behind caller op (step w e).world over.0 es last
-      (subst (λ (x : Next). Brings caller op (step w e).world x es last) over.1 brings) in
+      (subst (λ (x : Next). EventsBring caller op (step w e).world x es last) over.1 brings) in
       let one : at 0 (step w (Ask caller op p)).world.asked caller ≡ suc (at 0 w.asked caller) = at-put 0 0 w.asked caller (suc (at 0 w.asked caller)) in
       let same : at 0 (world_after w (e ∷ es)).asked caller ≡ at 0 (step w (Ask caller op p)).world.asked caller
       = ap (λ (xs : List Event). at 0 (world_after w (e ∷ xs)).asked caller) nothing ∙ ap (λ (x : Event). at 0 (step w x).world.asked caller) is in

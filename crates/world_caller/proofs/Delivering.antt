@@ -20,7 +20,7 @@ use Rattle.group_run.specs.Shown.{is_down}
 use Rattle.scenario_run.proofs.Draining.{Lightens, lightens}
 use Rattle.scenario_run.proofs.Truth.{up}
 use Rattle.world_caller.specs.Calling.{due}
-use Rattle.world_caller.specs.Laws.{DeliversAlways, IsTicketed, Stands}
+use Rattle.world_caller.specs.Laws.{CanGoOnFrom, DueDeliversAlways, IsTicketed}
 use Rattle.world_caller.specs.declared.stage.Stage.{Stage}
 use Rattle.world_caller.specs.declared.stage.Stage.TheVariants.{Asks, Collects}
 use Rattle.world_caller.proofs.Standing.{ticket-stays}
@@ -55,7 +55,7 @@ ticket-kept h frame (Fail q keep) delivery may who number p t = absurd delivery
 ticket-kept h frame (Flush q) delivery may who number p t = absurd delivery
 ticket-kept h frame (Trace caller call d q) delivery may who number p t = absurd delivery
 
-pub delivers_always : DeliversAlways
+pub delivers_always : DueDeliversAlways
 delivers_always s es run e first = record {
   may = light.may;
   lower = light.lower;
@@ -70,7 +70,7 @@ delivers_always s es run e first = record {
   comes : NextComes (after s es) e
   comes = next-comes s es run both.0 e both.1
 
-  keeps : (caller : ℕ) (stage : Stage) → Stands caller (after s es) stage → Stands caller (step (after s es) e).world stage
+  keeps : (caller : ℕ) (stage : Stage) → CanGoOnFrom caller (after s es) stage → CanGoOnFrom caller (step (after s es) e).world stage
   keeps caller Asks stands = stands
   keeps caller (Collects call p) stands =
       subst (λ (w : World). IsTicketed (step w e).world caller call p) (world-is s es run)

@@ -15,8 +15,8 @@ use Rattle.group_run.specs.Fitting.{NumberedFrom}
 use Rattle.group_run.specs.Meaning.{Heads, IsDown, is_dead, process_of}
 use Rattle.group_run.specs.Process.{Held}
 use Rattle.group_run.specs.World.{World}
-use Rattle.world_caller.specs.Calling.{asked_to, collected_to}
-use Rattle.world_caller.specs.Laws.{IsTicketed, LeadsOn}
+use Rattle.world_caller.specs.Calling.{next_of_ask, next_of_collect}
+use Rattle.world_caller.specs.Laws.{EventLeadsOn, IsTicketed}
 use Rattle.world_caller.specs.declared.stage.Next.TheVariants.{Ends, Goes}
 use Rattle.world_caller.specs.declared.stage.Stage.TheVariants.{Asks, Collects}
 
@@ -34,7 +34,7 @@ home-below n k some = omega (arith, some)
 -- an ask by its answer
 module _ (w v : World) (caller call : ℕ) (op : Asked) (p : ProcessId) where
   -- of a group that is down
-  pub down-leads : (a : Answer) → IsDown w → AskCause w v p op a → LeadsOn caller v (asked_to call p a)
+  pub down-leads : (a : Answer) → IsDown w → AskCause w v p op a → EventLeadsOn caller v (next_of_ask call p a)
   down-leads says.Down down why = record { next = Ends ends.Down; is = refl; stands = tt }
   down-leads says.Lost down why = absurd (why.0 down)
   down-leads says.Moved down why = absurd (why.0.group down)
@@ -53,7 +53,7 @@ module _ (w v : World) (caller call : ℕ) (op : Asked) (p : ProcessId) where
   -- of a drained group, at a head that is ready
   pub ready-leads : (a : Answer) → ¬ (IsDown w) → is_dead w p ≡ false → IsReady w p (home_in w op)
       → ((d : _) (n : ℕ) → a ≢ says.Retry (cause.Pending d n)) → ((n : ℕ) → a ≡ says.Ticket n → IsTicketed v caller call p)
-      → AskCause w v p op a → LeadsOn caller v (asked_to call p a)
+      → AskCause w v p op a → EventLeadsOn caller v (next_of_ask call p a)
   ready-leads says.Down up lives ready waits ticket why = absurd (up why)
   ready-leads says.Lost up lives ready waits ticket why = cc (lives, why.1)
   ready-leads says.Moved up lives ready waits ticket why = absurd (why.1 ready)
@@ -73,7 +73,7 @@ module _ (w v : World) (caller call : ℕ) (op : Asked) (p : ProcessId) where
 -- of a collect
 pub collect-leads : (w v : World) (caller call : ℕ) (p : ProcessId) (a : Answer) → IsTicketed w caller call p → is_dead w p ≡ false
     → ((d : ℕ) (x : Held) → HoldsCall w p caller call d x → x.number ≤ (replica_of (process_of w p) d).applied)
-    → CollectCause w p caller call a → LeadsOn caller v (collected_to a)
+    → CollectCause w p caller call a → EventLeadsOn caller v (next_of_collect a)
 collect-leads w v caller call p says.Down t lives low why = absurd (t.up why)
 collect-leads w v caller call p says.Lost t lives low why = cc (lives, why.1)
 collect-leads w v caller call p (says.Reply reply) t lives low why = record { next = Ends (ends.Reply reply); is = refl; stands = tt }

@@ -12,10 +12,10 @@ use Rattle.group_run.specs.Headline.{MayCome}
 use Rattle.group_run.specs.World.{World, step}
 use Rattle.group_core.specs.Runs.{HasRun}
 use Rattle.scenario_run.proofs.Leading.{IsLedTo, led-step}
-use Rattle.world_caller.specs.Calling.{HasCome, IsCalled, IsDone, IsOver, Serves, asked_to, collected_to, due, most_events}
-use Rattle.world_caller.specs.Laws.{AsksAlways, AsksFew, AsksLeadOn, CanGoOn, CollectsAlways, CollectsLeadOn, Delivers}
-use Rattle.world_caller.specs.Laws.{DeliversAlways, DueDelivers, FewAlways, IsTicketed, LeadsOn}
-use Rattle.world_caller.specs.Making.{AreDelivered, IsDelivered, IsMade}
+use Rattle.world_caller.specs.Calling.{HasMovedGroup, IsCallMade, IsCallOver, IsFirstOrOwn, Serves, due, most_events, next_of_ask, next_of_collect}
+use Rattle.world_caller.specs.Laws.{AsksFew, AsksLeadOn, AsksLeadOnAlways, CanGoOn, CollectsLeadOn, CollectsLeadOnAlways, Delivers}
+use Rattle.world_caller.specs.Laws.{DueDelivers, DueDeliversAlways, EventLeadsOn, FewAlways, IsTicketed}
+use Rattle.world_caller.specs.Making.{AreDelivered, IsFirstDelivered, IsStepMade}
 use Rattle.world_caller.specs.declared.stage.Next.{Next}
 use Rattle.world_caller.specs.declared.stage.Stage.TheVariants.{Asks, Collects}
 use Rattle.world_caller.proofs.Bringing.{delivered-more}
@@ -24,61 +24,61 @@ use Rattle.world_caller.proofs.Bringing.{delivered-more}
 pub led-to : (w : World) → HasRun w → IsLedTo w.shape w
 led-to w run = record { events = run.events; run = run.run; is = run.is }
 
-leads-there : (caller : ℕ) (v : World) (to : Option Next) (next : Next) → LeadsOn caller v to → to ≡ Some next → CanGoOn caller v next
+leads-there : (caller : ℕ) (v : World) (to : Option Next) (next : Next) → EventLeadsOn caller v to → to ≡ Some next → CanGoOn caller v next
 leads-there caller v to next leads is = let same : leads.next ≡ next = cc (sym leads.is ∙ is) in subst (CanGoOn caller v) same leads.stands
 
-pub ask-made : (w v : World) (caller call : ℕ) (op : Asked) (p : ProcessId) (answer : Answer) (next : Next) → AsksAlways → HasRun w
+pub ask-made : (w v : World) (caller call : ℕ) (op : Asked) (p : ProcessId) (answer : Answer) (next : Next) → AsksLeadOnAlways → HasRun w
     → due w ≡ None → w.events < most_events → MayCome w (Ask caller op p)
     → Serves w (home_in w op) p → v ≡ (step w (Ask caller op p)).world → answer ≡ (step w (Ask caller op p)).turn.answer
-    → asked_to call p answer ≡ Some next → call ≡ at 0 w.asked caller
-    → IsMade caller op w Asks v next
+    → next_of_ask call p answer ≡ Some next → call ≡ at 0 w.asked caller
+    → IsStepMade caller op w Asks v next
 ask-made w v caller call op p answer next law run none counted may serves after answered is named = record {
   event = Ask caller op p;
   is = record {
     counted = counted;
     may = may;
-    done = subst (λ (o : Option Event). IsDone o caller op w Asks (Ask caller op p) next) (sym none)
+    done = subst (λ (o : Option Event). IsFirstOrOwn o caller op w Asks (Ask caller op p) next) (sym none)
         (p, serves, refl, there);
   };
   after = after;
   stands = subst (λ (x : World). CanGoOn caller x next) (sym after)
       (leads-there caller (step w (Ask caller op p)).world
-      (asked_to (at 0 w.asked caller) p (step w (Ask caller op p)).turn.answer) next
+      (next_of_ask (at 0 w.asked caller) p (step w (Ask caller op p)).turn.answer) next
       (lead caller op p none may serves) there);
 } where
   lead : AsksLeadOn w
   lead = subst AsksLeadOn (sym run.is) (law w.shape run.events run.run)
 
-  there : asked_to (at 0 w.asked caller) p (step w (Ask caller op p)).turn.answer ≡ Some next
-  there = ap (asked_to (at 0 w.asked caller) p) (sym answered) ∙ ap (λ (n : ℕ). asked_to n p answer) (sym named) ∙ is
+  there : next_of_ask (at 0 w.asked caller) p (step w (Ask caller op p)).turn.answer ≡ Some next
+  there = ap (next_of_ask (at 0 w.asked caller) p) (sym answered) ∙ ap (λ (n : ℕ). next_of_ask n p answer) (sym named) ∙ is
 
-pub collect-made : (w v : World) (caller call : ℕ) (op : Asked) (p : ProcessId) (answer : Answer) (next : Next) → CollectsAlways → HasRun w
+pub collect-made : (w v : World) (caller call : ℕ) (op : Asked) (p : ProcessId) (answer : Answer) (next : Next) → CollectsLeadOnAlways → HasRun w
     → due w ≡ None → w.events < most_events → MayCome w (Collect caller call p)
     → IsTicketed w caller call p → v ≡ (step w (Collect caller call p)).world
-    → answer ≡ (step w (Collect caller call p)).turn.answer → collected_to answer ≡ Some next
-    → IsMade caller op w (Collects call p) v next
+    → answer ≡ (step w (Collect caller call p)).turn.answer → next_of_collect answer ≡ Some next
+    → IsStepMade caller op w (Collects call p) v next
 collect-made w v caller call op p answer next law run none counted may ticket after answered is = record {
   event = Collect caller call p;
   is = record {
     counted = counted;
     may = may;
-    done = subst (λ (o : Option Event). IsDone o caller op w (Collects call p) (Collect caller call p) next)
+    done = subst (λ (o : Option Event). IsFirstOrOwn o caller op w (Collects call p) (Collect caller call p) next)
         (sym none) (refl, there);
   };
   after = after;
   stands = subst (λ (x : World). CanGoOn caller x next) (sym after)
       (leads-there caller (step w (Collect caller call p)).world
-      (collected_to (step w (Collect caller call p)).turn.answer) next (lead caller call p none may ticket) there);
+      (next_of_collect (step w (Collect caller call p)).turn.answer) next (lead caller call p none may ticket) there);
 } where
   lead : CollectsLeadOn w
   lead = subst CollectsLeadOn (sym run.is) (law w.shape run.events run.run)
 
-  there : collected_to (step w (Collect caller call p)).turn.answer ≡ Some next
-  there = ap collected_to (sym answered) ∙ is
+  there : next_of_collect (step w (Collect caller call p)).turn.answer ≡ Some next
+  there = ap next_of_collect (sym answered) ∙ is
 
 -- a call that is over
 pub called : (caller : ℕ) (op : Asked) (w v : World) (next : Next) (end : CallEnd) → FewAlways → HasRun w
-    → HasCome caller op w v next → IsOver v next end → IsCalled caller op w end v
+    → HasMovedGroup caller op w v next → IsCallOver v next end → IsCallMade caller op w end v
 called caller op w v next end law run come over = record {
   events = come.events;
   last = next;
@@ -91,7 +91,7 @@ called caller op w v next end law run come over = record {
   few = subst AsksFew (sym run.is) (law w.shape run.events run.run)
 
 -- the delivery that comes first leaves all as it should be
-module _ (w v u : World) (law : DeliversAlways) (led : IsLedTo v.shape v) (is : IsDelivered v u) where
+module _ (w v u : World) (law : DueDeliversAlways) (led : IsLedTo v.shape v) (is : IsFirstDelivered v u) where
   pub delivers : Delivers v is.event
   delivers = first is.event is.first where
     first : DueDelivers v

@@ -6,7 +6,7 @@ use Rattle.group_types.specs.Lists.{at}
 use Rattle.group_types.specs.Names.{IsProcess, index_of, of_rank, process_at}
 use Rattle.group_types.specs.declared.process.ProcessId.{ProcessId}
 use Rattle.group_types.proofs.Names.{process_at-in, same-cases}
-use Rattle.membership.specs.Members.{count_dead}
+use Rattle.membership.specs.Members.{count_dead_words}
 use Rattle.memc_table.specs.Asked.{Asked}
 use Rattle.group_calls.specs.declared.event.Answer.{Answer}
 use Rattle.group_calls.specs.declared.event.Answer.TheVariants as says
@@ -20,7 +20,7 @@ use Rattle.group_run.specs.History.{History, prolonged}
 use Rattle.group_run.specs.Meaning.{Heads, IsDown, is_dead, process_of}
 use Rattle.group_run.specs.Process.{Held}
 use Rattle.group_run.specs.Progress.{IsNoFailure}
-use Rattle.group_run.specs.World.{dead_nodes, next_name, node_of, step}
+use Rattle.group_run.specs.World.{dead_nodes, next_name, process_node, step}
 use Rattle.law_moves.specs.State.{State, lost_in, state_of}
 use Rattle.law_moves.proofs.Events.{FramedHistory, event_comes, lost-nodes}
 use Rattle.law_log.proofs.Calls.{Acts, Answers, Delivers, Idle, Nothing, Takes, call-comes, message-comes}
@@ -48,7 +48,7 @@ module _ (h : History) (framed : FramedHistory h) where
         let after : lost_in h.world.shape (state_of (prolonged h e)) ≡ dead_nodes (step h.world e).world.nodes
         = lost-nodes h.world.shape (prolonged h e).world.nodes (prolonged h e).settled (event_comes h e framed may).frame.nodes_many in
         let same : lost_in h.world.shape (state_of (prolonged h e)) ≡ lost_in h.world.shape (state_of h)
-        = ap count_dead (same-words (λ x. (state_of (prolonged h e)).dead (process_at h.world.shape x))
+        = ap count_dead_words (same-words (λ x. (state_of (prolonged h e)).dead (process_at h.world.shape x))
         (λ x. (state_of h).dead (process_at h.world.shape x)) 0 (h.world.shape.k + h.world.shape.m)
         (λ x low. dead-stays (process_at h.world.shape x) (process_at-in h.world.shape x (omega (arith, low))))) in
         let many : h.world.shape.m < dead_nodes (step h.world e).world.nodes = down in
@@ -83,25 +83,27 @@ module _ (h : History) (framed : FramedHistory h) where
       → (step h.world (Ask caller op p)).turn.answer ≡ says.Ticket n
       → HoldsNamed caller (at 0 h.world.asked caller) (home_in h.world op) (process_of (step h.world (Ask caller op p)).world p)
   ask-ticket caller op p n may =
-      by (call-comes h.world.shape h.world.nodes h.settled framed p (ask_process h.world.shape (next_name h.world caller) op (node_of h.world p).process) may.1
-      (node_of h.world p).down (node_of h.world p).dead refl refl) where
+      by (call-comes h.world.shape h.world.nodes h.settled framed p
+      (ask_process h.world.shape (next_name h.world caller) op (process_node h.world p).process) may.1
+      (process_node h.world p).down (process_node h.world p).dead refl refl) where
         by : {w : State} {answer : Answer}
             → Answers h.world.shape (state_of h) w p
-            (ask_process h.world.shape (next_name h.world caller) op (node_of h.world p).process) answer
+            (ask_process h.world.shape (next_name h.world caller) op (process_node h.world p).process) answer
             → answer ≡ says.Ticket n → HoldsNamed caller (at 0 h.world.asked caller) (home_in h.world op) (w.process p)
         by {w} {answer} (Idle same (inl down)) is = cc (sym down ∙ is)
         by {w} {answer} (Idle same (inr lost)) is = cc (sym lost ∙ is)
         by {w} {answer} (Acts up lives acts same) is =
             subst (HoldsNamed caller (at 0 h.world.asked caller) (home_in h.world op)) (sym acts.process)
-            (ask-holds h.world.shape (next_name h.world caller) op (home_in h.world op) n (node_of h.world p).process
-            (head_at (node_of h.world p).process (home_in h.world op)) (sym same ∙ is))
+            (ask-holds h.world.shape (next_name h.world caller) op (home_in h.world op) n (process_node h.world p).process
+            (head_at (process_node h.world p).process (home_in h.world op)) (sym same ∙ is))
 
   -- a delivery leaves what is held
   deliver-held : (from to q : ProcessId) (d : ℕ) → MayCome h.world (Deliver from to) → IsProcess h.world.shape q
       → held_at (process_of (step h.world (Deliver from to)).world q) d ≡ held_at (process_of h.world q) d
   deliver-held from to q d may qin =
-      by (message-comes h.world.shape h.world.nodes h.settled framed from to may.0 may.1 may.2 (node_of h.world to).down (node_of h.world to).dead refl refl
-      (at [] (node_of h.world from).links (index_of h.world.shape to)) refl) where
+      by (message-comes h.world.shape h.world.nodes h.settled framed from to may.0 may.1 may.2 (process_node h.world to).down
+      (process_node h.world to).dead refl refl
+      (at [] (process_node h.world from).links (index_of h.world.shape to)) refl) where
         by : {w : State} → Delivers h.world.shape (state_of h) w from to → held_at (w.process q) d ≡ held_at ((state_of h).process q) d
         by {w} (Nothing same) = ap (λ (v : State). held_at (v.process q) d) same
         by {w} (Takes u m up lives pops acts) = here (same-cases q to) where

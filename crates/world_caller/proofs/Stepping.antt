@@ -18,7 +18,7 @@ use Rattle.group_run.specs.Meaning.{IsDown, IsDrained}
 use Rattle.group_run.specs.Progress.{AsksDrained, IsNoFailure, waits_here}
 use Rattle.group_run.specs.World.{World, step}
 use Rattle.law_progress.specs.Ends.{IsDelivery}
-use Rattle.world_caller.specs.Calling.{IsOwn, Serves, asked_to, collected_to}
+use Rattle.world_caller.specs.Calling.{IsOwnStep, Serves, next_of_ask, next_of_collect}
 use Rattle.world_caller.specs.declared.stage.Next.{Next}
 use Rattle.world_caller.specs.declared.stage.Next.TheVariants.{Ends, Goes}
 use Rattle.world_caller.specs.declared.stage.Stage.{Stage}
@@ -39,7 +39,7 @@ still-is : (n m : Next) → ◌≡◌ {A = Option Next} (Some n) (Some m) → st
 still-is n m is = let same : n ≡ m = cc is in ap still (sym same)
 
 -- an ask that leads to another one waits for a block
-ask-waits : (caller call : ℕ) (op : Asked) (p : ProcessId) (n : Next) (a : Answer) → asked_to call p a ≡ Some n → still n ≤ waits_here p (Ask caller op p) a
+ask-waits : (caller call : ℕ) (op : Asked) (p : ProcessId) (n : Next) (a : Answer) → next_of_ask call p a ≡ Some n → still n ≤ waits_here p (Ask caller op p) a
 ask-waits caller call op p n (says.Reply reply) is = let none = still-is _ n is in omega (arith, none)
 ask-waits caller call op p n (says.Ticket number) is = let none = still-is _ n is in omega (arith, none)
 ask-waits caller call op p n (says.Retry (cause.Block b)) is =
@@ -58,7 +58,7 @@ ask-waits caller call op p n says.AlreadyDead is = cc is
 ask-waits caller call op p n says.Gone is = cc is
 ask-waits caller call op p n (says.Stale m) is = cc is
 
-collect-ends : (n : Next) (a : Answer) → collected_to a ≡ Some n → still n ≡ 0
+collect-ends : (n : Next) (a : Answer) → next_of_collect a ≡ Some n → still n ≡ 0
 collect-ends n (says.Reply reply) is = still-is _ n is
 collect-ends n (says.Ticket number) is = cc is
 collect-ends n (says.Retry c) is = cc is
@@ -76,7 +76,7 @@ collect-ends n (says.Stale m) is = cc is
 
 -- where the group is down an ask ends the call
 pub down-ends : (w v : World) (p : ProcessId) (op : Asked) (call : ℕ) (n : Next) (a : Answer) → IsDown w
-    → AskCause w v p op a → asked_to call p a ≡ Some n → (end : CallEnd) × (n ≡ Ends end)
+    → AskCause w v p op a → next_of_ask call p a ≡ Some n → (end : CallEnd) × (n ≡ Ends end)
 down-ends w v p op call n says.Down down why is = let same : Ends ends.Down ≡ n = cc is in (ends.Down, sym same)
 down-ends w v p op call n says.Lost down why is = absurd (why.0 down)
 down-ends w v p op call n says.Moved down why is = absurd (why.0.group down)
@@ -108,7 +108,7 @@ module _ (caller : ℕ) (op : Asked) (p : ProcessId) where
   delivery-counts w stage (Trace who call d q) delivery = absurd delivery
 
   ask-counts : (w : World) (n : Next) → IsDrained w
-      → asked_to (at 0 w.asked caller) p (step w (Ask caller op p)).turn.answer ≡ Some n
+      → next_of_ask (at 0 w.asked caller) p (step w (Ask caller op p)).turn.answer ≡ Some n
       → Counts w Asks (Ask caller op p) n
   ask-counts w n drained is = record {
     goes = tt;
@@ -118,7 +118,7 @@ module _ (caller : ℕ) (op : Asked) (p : ProcessId) where
   }
 
   collect-counts : (w : World) (call : ℕ) (q : ProcessId) (n : Next)
-      → collected_to (step w (Collect caller call q)).turn.answer ≡ Some n
+      → next_of_collect (step w (Collect caller call q)).turn.answer ≡ Some n
       → Counts w (Collects call q) (Collect caller call q) n
   collect-counts w call q n is =
       record {
@@ -132,12 +132,12 @@ module _ (caller : ℕ) (op : Asked) (p : ProcessId) where
   abbrev pub Fixed : World → Type 0
   Fixed w = (q : ProcessId) → Serves w (home_in w op) q → q ≡ p
 
-  pub own-counts : (w : World) (stage : Stage) (e : Event) (n : Next) → IsDrained w → Fixed w → IsOwn caller op w stage e n → Counts w stage e n
+  pub own-counts : (w : World) (stage : Stage) (e : Event) (n : Next) → IsDrained w → Fixed w → IsOwnStep caller op w stage e n → Counts w stage e n
   own-counts w Asks e n drained fixed (q, serves, is, leads) =
       let here : e ≡ Ask caller op p = is ∙ ap (Ask caller op) (fixed q serves) in
       subst (λ (x : Event). Counts w Asks x n) (sym here) (ask-counts w n drained
-      (ap (λ (x : ProcessId). asked_to (at 0 w.asked caller) x (step w (Ask caller op p)).turn.answer) (sym (fixed q serves))
-      ∙ ap (λ (x : Event). asked_to (at 0 w.asked caller) q (step w x).turn.answer) (sym here) ∙ leads))
+      (ap (λ (x : ProcessId). next_of_ask (at 0 w.asked caller) x (step w (Ask caller op p)).turn.answer) (sym (fixed q serves))
+      ∙ ap (λ (x : Event). next_of_ask (at 0 w.asked caller) q (step w x).turn.answer) (sym here) ∙ leads))
   own-counts w (Collects call q) e n drained fixed (is, leads) =
       subst (λ (x : Event). Counts w (Collects call q) x n) (sym is)
-      (collect-counts w call q n (ap (λ (x : Event). collected_to (step w x).turn.answer) (sym is) ∙ leads))
+      (collect-counts w call q n (ap (λ (x : Event). next_of_collect (step w x).turn.answer) (sym is) ∙ leads))

@@ -10,7 +10,7 @@ use Rattle.group_calls.specs.declared.event.Answer.{Answer}
 use Rattle.group_calls.specs.declared.event.Answer.TheVariants as says
 use Rattle.group_calls.specs.declared.event.Event.TheVariants.{Fail}
 use Rattle.group_run.specs.World.{World, step}
-use Rattle.world_caller.specs.Calling.{HasStopped, IsCalled, most_events}
+use Rattle.world_caller.specs.Calling.{IsCallCutShort, IsCallMade, most_events}
 
 -- the group, which of its callers this is, and whether orders that a process fail are taken
 pub record GroupCaller : Type 0 where
@@ -19,22 +19,22 @@ pub record GroupCaller : Type 0 where
   pub control : Bool
 
 -- it is the same caller, under the same rule
-pub record IsSame (before after : GroupCaller) : Type 0 where
+pub record IsSameCaller (before after : GroupCaller) : Type 0 where
   pub caller : after.caller ≡ before.caller
   pub control : after.control ≡ before.control
 
 -- a call that was made
-pub record HasCalled (before : GroupCaller) (op : Asked) (end : CallEnd) (after : GroupCaller) : Type 0 where
-  pub same : IsSame before after
-  pub called : IsCalled before.caller op before.world end after.world
+pub record HasCalledGroup (before : GroupCaller) (op : Asked) (end : CallEnd) (after : GroupCaller) : Type 0 where
+  pub same : IsSameCaller before after
+  pub called : IsCallMade before.caller op before.world end after.world
 
 -- a call that found no memory has made the events that it came to before
-pub record HasGone (before : GroupCaller) (op : Asked) (after : GroupCaller) : Type 0 where
-  pub same : IsSame before after
-  pub stopped : HasStopped before.caller op before.world after.world
+pub record HasLackedMemory (before : GroupCaller) (op : Asked) (after : GroupCaller) : Type 0 where
+  pub same : IsSameCaller before after
+  pub stopped : IsCallCutShort before.caller op before.world after.world
 
 -- such orders are taken, and the group has the process
-pub record IsTaken (c : GroupCaller) (p : ProcessId) : Type 0 where
+pub record MayOrder (c : GroupCaller) (p : ProcessId) : Type 0 where
   pub control : c.control ≡ true
   pub process : IsProcess c.world.shape p
 
@@ -45,16 +45,16 @@ failed_to says.AlreadyDead = Some ends.AlreadyDead
 failed_to _ = None
 
 -- the process is ordered to fail, which is one event
-pub record HasFailed (before : GroupCaller) (p : ProcessId) (keep : ℕ) (end : FailEnd) (after : GroupCaller) : Type 0 where
-  pub taken : IsTaken before p
-  pub same : IsSame before after
+pub record HasFailedProcess (before : GroupCaller) (p : ProcessId) (keep : ℕ) (end : FailEnd) (after : GroupCaller) : Type 0 where
+  pub taken : MayOrder before p
+  pub same : IsSameCaller before after
   pub world : after.world ≡ (step before.world (Fail p keep)).world
   pub ends : failed_to (step before.world (Fail p keep)).turn.answer ≡ Some end
 
 -- an order that a process fail, by its end
-abbrev pub IsOrdered : GroupCaller → ProcessId → ℕ → FailEnd → GroupCaller → Type 0
-IsOrdered before p keep ends.Off after = (before.control ≡ false) × (after ≡ before)
-IsOrdered before p keep ends.NoProcess after = (before.control ≡ true) × (¬ (IsProcess before.world.shape p)) × (after ≡ before)
-IsOrdered before p keep ends.Worn after = IsTaken before p × (most_events ≤ before.world.events) × (after ≡ before)
-IsOrdered before p keep ends.Made after = HasFailed before p keep ends.Made after
-IsOrdered before p keep ends.AlreadyDead after = HasFailed before p keep ends.AlreadyDead after
+abbrev pub IsFailureOrdered : GroupCaller → ProcessId → ℕ → FailEnd → GroupCaller → Type 0
+IsFailureOrdered before p keep ends.Off after = (before.control ≡ false) × (after ≡ before)
+IsFailureOrdered before p keep ends.NoProcess after = (before.control ≡ true) × (¬ (IsProcess before.world.shape p)) × (after ≡ before)
+IsFailureOrdered before p keep ends.Worn after = MayOrder before p × (most_events ≤ before.world.events) × (after ≡ before)
+IsFailureOrdered before p keep ends.Made after = HasFailedProcess before p keep ends.Made after
+IsFailureOrdered before p keep ends.AlreadyDead after = HasFailedProcess before p keep ends.AlreadyDead after

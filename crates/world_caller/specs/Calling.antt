@@ -38,63 +38,63 @@ abbrev pub Serves : World → ℕ → ProcessId → Type 0
 Serves w d p = ((r : ℕ) × Heads w d r × (p ≡ of_rank d r)) ⊎ (((r : ℕ) → ¬ (Heads w d r)) × (p ≡ DataNode d))
 
 -- where an ask leads that is answered so, of the caller's call of this number at this process; no other answer comes
-abbrev pub asked_to : ℕ → ProcessId → Answer → Option Next
-asked_to call p (says.Reply reply) = Some (Ends (ends.Reply reply))
-asked_to call p (says.Ticket number) = Some (Goes (Collects call p))
-asked_to call p (says.Retry (cause.Block block)) = Some (Goes Asks)
-asked_to call p says.NoSpace = Some (Ends ends.NoSpace)
-asked_to call p says.Down = Some (Ends ends.Down)
-asked_to call p _ = None
+abbrev pub next_of_ask : ℕ → ProcessId → Answer → Option Next
+next_of_ask call p (says.Reply reply) = Some (Ends (ends.Reply reply))
+next_of_ask call p (says.Ticket number) = Some (Goes (Collects call p))
+next_of_ask call p (says.Retry (cause.Block block)) = Some (Goes Asks)
+next_of_ask call p says.NoSpace = Some (Ends ends.NoSpace)
+next_of_ask call p says.Down = Some (Ends ends.Down)
+next_of_ask call p _ = None
 
 -- where a collect leads: no answer but the reply comes
-abbrev pub collected_to : Answer → Option Next
-collected_to (says.Reply reply) = Some (Ends (ends.Reply reply))
-collected_to _ = None
+abbrev pub next_of_collect : Answer → Option Next
+next_of_collect (says.Reply reply) = Some (Ends (ends.Reply reply))
+next_of_collect _ = None
 
 -- the call's own event at a stage, and where it leads
-abbrev pub IsOwn : ℕ → Asked → World → Stage → Event → Next → Type 0
-IsOwn caller op w Asks e next =
-    (p : ProcessId) × Serves w (home_in w op) p × (e ≡ Ask caller op p) × (asked_to (at 0 w.asked caller) p (step w e).turn.answer ≡ Some next)
-IsOwn caller op w (Collects call p) e next = (e ≡ Collect caller call p) × (collected_to (step w e).turn.answer ≡ Some next)
+abbrev pub IsOwnStep : ℕ → Asked → World → Stage → Event → Next → Type 0
+IsOwnStep caller op w Asks e next =
+    (p : ProcessId) × Serves w (home_in w op) p × (e ≡ Ask caller op p) × (next_of_ask (at 0 w.asked caller) p (step w e).turn.answer ≡ Some next)
+IsOwnStep caller op w (Collects call p) e next = (e ≡ Collect caller call p) × (next_of_collect (step w e).turn.answer ≡ Some next)
 
 -- the delivery that comes first, or else the call's own event
-abbrev pub IsDone : Option Event → ℕ → Asked → World → Stage → Event → Next → Type 0
-IsDone (Some delivery) caller op w stage e next = (e ≡ delivery) × (next ≡ Goes stage)
-IsDone None caller op w stage e next = IsOwn caller op w stage e next
+abbrev pub IsFirstOrOwn : Option Event → ℕ → Asked → World → Stage → Event → Next → Type 0
+IsFirstOrOwn (Some delivery) caller op w stage e next = (e ≡ delivery) × (next ≡ Goes stage)
+IsFirstOrOwn None caller op w stage e next = IsOwnStep caller op w stage e next
 
 -- an event of a call, as long as one can be counted
 pub record IsEvent (caller : ℕ) (op : Asked) (w : World) (stage : Stage) (e : Event) (next : Next) : Type 0 where
   pub counted : w.events < most_events
   pub may : MayCome w e
-  pub done : IsDone (due w) caller op w stage e next
+  pub done : IsFirstOrOwn (due w) caller op w stage e next
 
 -- events of a call bring it further
-abbrev pub Brings : ℕ → Asked → World → Next → List Event → Next → Type 0
-Brings caller op w next [] last = last ≡ next
-Brings caller op w (Goes stage) (e ∷ es) last = (next : Next) × IsEvent caller op w stage e next × Brings caller op (step w e).world next es last
-Brings caller op w (Ends end) (e ∷ es) last = ⊥
+abbrev pub EventsBring : ℕ → Asked → World → Next → List Event → Next → Type 0
+EventsBring caller op w next [] last = last ≡ next
+EventsBring caller op w (Goes stage) (e ∷ es) last = (next : Next) × IsEvent caller op w stage e next × EventsBring caller op (step w e).world next es last
+EventsBring caller op w (Ends end) (e ∷ es) last = ⊥
 
 -- what a call has made of a group so far
-pub record HasCome (caller : ℕ) (op : Asked) (w v : World) (next : Next) : Type 0 where
+pub record HasMovedGroup (caller : ℕ) (op : Asked) (w v : World) (next : Next) : Type 0 where
   pub events : List Event
   pub after : v ≡ world_after w events
-  pub brings : Brings caller op w (Goes Asks) events next
+  pub brings : EventsBring caller op w (Goes Asks) events next
 
 -- what a call for an op made of a group before want of memory cut it short
-pub record HasStopped (caller : ℕ) (op : Asked) (w v : World) : Type 0 where
+pub record IsCallCutShort (caller : ℕ) (op : Asked) (w v : World) : Type 0 where
   pub last : Next
-  pub come : HasCome caller op w v last
+  pub come : HasMovedGroup caller op w v last
 
 -- the call is over: it has ended so, or no further event can be counted
-abbrev pub IsOver : World → Next → CallEnd → Type 0
-IsOver v (Ends by) end = end ≡ by
-IsOver v (Goes stage) end = (most_events ≤ v.events) × (end ≡ ends.Worn)
+abbrev pub IsCallOver : World → Next → CallEnd → Type 0
+IsCallOver v (Ends by) end = end ≡ by
+IsCallOver v (Goes stage) end = (most_events ≤ v.events) × (end ≡ ends.Worn)
 
 -- a call of a caller for an op: it is asked once for each block at most, and once more
-pub record IsCalled (caller : ℕ) (op : Asked) (w : World) (end : CallEnd) (v : World) : Type 0 where
+pub record IsCallMade (caller : ℕ) (op : Asked) (w : World) (end : CallEnd) (v : World) : Type 0 where
   pub events : List Event
   pub last : Next
-  pub brings : Brings caller op w (Goes Asks) events last
+  pub brings : EventsBring caller op w (Goes Asks) events last
   pub after : v ≡ world_after w events
-  pub over : IsOver v last end
+  pub over : IsCallOver v last end
   pub few : at 0 v.asked caller ≤ at 0 w.asked caller + (w.shape.blocks + 1)

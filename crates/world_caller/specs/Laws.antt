@@ -13,7 +13,7 @@ use Rattle.group_run.specs.Meaning.{Heads, IsDown}
 use Rattle.group_run.specs.Process.{Held}
 use Rattle.group_run.specs.Progress.{load_of}
 use Rattle.group_run.specs.World.{World, after, step, world_after}
-use Rattle.world_caller.specs.Calling.{Brings, Serves, asked_to, collected_to, due}
+use Rattle.world_caller.specs.Calling.{EventsBring, Serves, due, next_of_ask, next_of_collect}
 use Rattle.world_caller.specs.declared.stage.Next.{Next}
 use Rattle.world_caller.specs.declared.stage.Next.TheVariants.{Goes, Ends}
 use Rattle.world_caller.specs.declared.stage.Stage.{Stage}
@@ -31,17 +31,17 @@ pub record IsTicketed (w : World) (caller call : ℕ) (p : ProcessId) : Type 0 w
   pub holds : HoldsCall w p caller call partition held
 
 -- a call can go on from a stage
-abbrev pub Stands : ℕ → World → Stage → Type 0
-Stands caller w (Collects call p) = IsTicketed w caller call p
-Stands caller w Asks = Unit {0}
+abbrev pub CanGoOnFrom : ℕ → World → Stage → Type 0
+CanGoOnFrom caller w (Collects call p) = IsTicketed w caller call p
+CanGoOnFrom caller w Asks = Unit {0}
 
 -- a call has ended, or can go on
 abbrev pub CanGoOn : ℕ → World → Next → Type 0
-CanGoOn caller w (Goes stage) = Stands caller w stage
+CanGoOn caller w (Goes stage) = CanGoOnFrom caller w stage
 CanGoOn caller w (Ends end) = Unit {0}
 
 -- an event leads somewhere, from where the call can go on
-pub record LeadsOn (caller : ℕ) (after : World) (to : Option Next) : Type 0 where
+pub record EventLeadsOn (caller : ℕ) (after : World) (to : Option Next) : Type 0 where
   pub next : Next
   pub is : to ≡ Some next
   pub stands : CanGoOn caller after next
@@ -49,36 +49,36 @@ pub record LeadsOn (caller : ℕ) (after : World) (to : Option Next) : Type 0 wh
 -- where nothing is left to deliver an ask of the right process leads on
 abbrev pub AsksLeadOn : World → Type 0
 AsksLeadOn w = (caller : ℕ) (op : Asked) (p : ProcessId) → due w ≡ None → MayCome w (Ask caller op p) → Serves w (home_in w op) p
-    → LeadsOn caller (step w (Ask caller op p)).world (asked_to (at 0 w.asked caller) p (step w (Ask caller op p)).turn.answer)
+    → EventLeadsOn caller (step w (Ask caller op p)).world (next_of_ask (at 0 w.asked caller) p (step w (Ask caller op p)).turn.answer)
 
 -- and so does a collect of a ticket
 abbrev pub CollectsLeadOn : World → Type 0
 CollectsLeadOn w = (caller call : ℕ) (p : ProcessId) → due w ≡ None → MayCome w (Collect caller call p) → IsTicketed w caller call p
-    → LeadsOn caller (step w (Collect caller call p)).world (collected_to (step w (Collect caller call p)).turn.answer)
+    → EventLeadsOn caller (step w (Collect caller call p)).world (next_of_collect (step w (Collect caller call p)).turn.answer)
 
 -- the delivery that comes first may come, leaves tickets to be collected, and lowers the weight of what is on its way
 pub record Delivers (w : World) (e : Event) : Type 0 where
   pub may : MayCome w e
   pub lower : load_of (step w e).world < load_of w
-  pub keeps : (caller : ℕ) (stage : Stage) → Stands caller w stage → Stands caller (step w e).world stage
+  pub keeps : (caller : ℕ) (stage : Stage) → CanGoOnFrom caller w stage → CanGoOnFrom caller (step w e).world stage
 
 abbrev pub DueDelivers : World → Type 0
 DueDelivers w = (e : Event) → due w ≡ Some e → Delivers w e
 
 -- a call is asked once for each block at most, and once more
 abbrev pub AsksFew : World → Type 0
-AsksFew w = (caller : ℕ) (op : Asked) (es : List Event) (last : Next) → Brings caller op w (Goes Asks) es last
+AsksFew w = (caller : ℕ) (op : Asked) (es : List Event) (last : Next) → EventsBring caller op w (Goes Asks) es last
     → at 0 (world_after w es).asked caller ≤ at 0 w.asked caller + (w.shape.blocks + 1)
 
 -- so it is after every run
-abbrev pub AsksAlways : Type 0
-AsksAlways = (s : Dimensions) (es : List Event) → IsRun s es → AsksLeadOn (after s es)
+abbrev pub AsksLeadOnAlways : Type 0
+AsksLeadOnAlways = (s : Dimensions) (es : List Event) → IsRun s es → AsksLeadOn (after s es)
 
-abbrev pub CollectsAlways : Type 0
-CollectsAlways = (s : Dimensions) (es : List Event) → IsRun s es → CollectsLeadOn (after s es)
+abbrev pub CollectsLeadOnAlways : Type 0
+CollectsLeadOnAlways = (s : Dimensions) (es : List Event) → IsRun s es → CollectsLeadOn (after s es)
 
-abbrev pub DeliversAlways : Type 0
-DeliversAlways = (s : Dimensions) (es : List Event) → IsRun s es → DueDelivers (after s es)
+abbrev pub DueDeliversAlways : Type 0
+DueDeliversAlways = (s : Dimensions) (es : List Event) → IsRun s es → DueDelivers (after s es)
 
 abbrev pub FewAlways : Type 0
 FewAlways = (s : Dimensions) (es : List Event) → IsRun s es → AsksFew (after s es)

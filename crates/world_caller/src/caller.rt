@@ -54,11 +54,11 @@ impl WorldCaller {
 }
 
 impl Caller for WorldCaller {
-    ghost use Rattle.world_caller.specs.Behind.{IsBehind, world_onward, world_order, world_ways};
+    ghost use Rattle.world_caller.specs.Behind.{IsLaterGroup, world_onward, world_order, world_ways};
 
     ghost ways = { world_ways };
 
-    ghost later = { IsBehind };
+    ghost later = { IsLaterGroup };
 
     ghost order = { world_order };
 

@@ -1,9 +1,9 @@
 ghost use Rattle.std.specs.Prelude.{◌≡◌, ◌<◌, ◌^◌, None, IfOk, OnErr};
 ghost use Rattle.memc_table.specs.Asked.{Asked};
 ghost use Rattle.group_run.specs.Replica.{callers};
-ghost use Rattle.world_caller.specs.Calling.{HasStopped, IsCalled, due, most_events};
-ghost use Rattle.world_caller.specs.Laws.{IsTicketed, Stands};
-ghost use Rattle.world_caller.specs.Making.{IsMade};
+ghost use Rattle.world_caller.specs.Calling.{IsCallCutShort, IsCallMade, due, most_events};
+ghost use Rattle.world_caller.specs.Laws.{CanGoOnFrom, IsTicketed};
+ghost use Rattle.world_caller.specs.Making.{IsStepMade};
 
 use crate::drain::drain;
 use crate::event::{make, make_ask};
@@ -20,8 +20,8 @@ use std::alloc::AllocError;
 /// Makes a call to its end. After want of memory the events that were made before it stand.
 pub(crate) fn make_call(world: &mut World, caller: u32, op: &Op) -> Result<CallEnd, AllocError>
     requires { caller < callers }
-    ensures called { IfOk result (λ end. IsCalled caller op.now world.old end world.new) }
-    ensures stopped { OnErr result (HasStopped caller op.now world.old world.new) }
+    ensures called { IfOk result (λ end. IsCallMade caller op.now world.old end world.new) }
+    ensures stopped { OnErr result (IsCallCutShort caller op.now world.old world.new) }
 {
     world.run();
     asks_are_few();
@@ -40,8 +40,8 @@ fn go_on(world: &mut World, caller: u32, op: &Op, stage: Stage) -> Result<Next, 
     requires caller { caller < callers }
     requires counted { world.old.events < most_events }
     requires due { due world.old ≡ None }
-    requires stands { Stands caller world.old stage }
-    ensures made { IfOk result (λ next. IsMade caller op.now world.old stage world.new next) }
+    requires stands { CanGoOnFrom caller world.old stage }
+    ensures made { IfOk result (λ next. IsStepMade caller op.now world.old stage world.new next) }
     ensures err { OnErr result (world.new ≡ world.old) }
 {
     match stage {
@@ -55,7 +55,7 @@ fn ask(world: &mut World, caller: u32, op: &Op) -> Result<Next, AllocError>
     requires caller { caller < callers }
     requires counted { world.old.events < most_events }
     requires due { due world.old ≡ None }
-    ensures made { IfOk result (λ next. IsMade caller op.now world.old Stage.Asks world.new next) }
+    ensures made { IfOk result (λ next. IsStepMade caller op.now world.old Stage.Asks world.new next) }
     ensures err { OnErr result (world.new ≡ world.old) }
 {
     world.run();
@@ -76,7 +76,7 @@ fn collect(world: &mut World, caller: u32, call: u64, at: ProcessId) -> Result<N
     requires due { due world.old ≡ None }
     requires ticketed { IsTicketed world.old caller call at }
     ensures made { IfOk result (λ next. (op : Asked)
-        → IsMade caller op world.old (Stage.Collects call at) world.new next) }
+        → IsStepMade caller op world.old (Stage.Collects call at) world.new next) }
     ensures err { OnErr result (world.new ≡ world.old) }
 {
     world.run();

@@ -1,6 +1,6 @@
 ghost use Rattle.std.specs.Prelude.{◌≡◌, ◌≤◌, ◌<◌, ◌^◌, None, true, false, IfOk, OnErr};
 ghost use Rattle.world_caller.specs.Calling.{due, most_events};
-ghost use Rattle.world_caller.specs.Making.{AreDelivered, IsDelivered};
+ghost use Rattle.world_caller.specs.Making.{AreDelivered, IsFirstDelivered};
 
 use crate::event::make;
 use crate::laws::due_delivers;
@@ -25,7 +25,7 @@ fn first_due(world: &World) -> Option<Event>
 /// Makes the delivery that comes first, and says whether there was one.
 fn deliver(world: &mut World) -> Result<bool, AllocError>
     requires counted { world.old.events < most_events }
-    ensures some { IfOk result (λ some. some ≡ true → IsDelivered world.old world.new) }
+    ensures some { IfOk result (λ some. some ≡ true → IsFirstDelivered world.old world.new) }
     ensures none { IfOk result (λ some. some ≡ false → (due world.old ≡ None) × (world.new ≡ world.old)) }
     ensures err { OnErr result (world.new ≡ world.old) }
 {

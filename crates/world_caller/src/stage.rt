@@ -1,5 +1,5 @@
 ghost use Rattle.std.specs.Prelude.{◌≡◌};
-ghost use Rattle.world_caller.specs.Calling.{asked_to, collected_to};
+ghost use Rattle.world_caller.specs.Calling.{next_of_ask, next_of_collect};
 
 use group_calls::{Answer, Cause};
 use group_types::ProcessId;
@@ -23,7 +23,7 @@ pub enum Next {
 
 /// Where an ask leads that is answered so.
 pub(crate) fn after_ask(call: u64, at: ProcessId, answer: Answer) -> Option<Next>
-    ensures { result ≡ asked_to call at answer }
+    ensures { result ≡ next_of_ask call at answer }
 {
     match answer {
         Answer::Reply(reply) => Some(Next::Ends(CallEnd::Reply(reply))),
@@ -37,7 +37,7 @@ pub(crate) fn after_ask(call: u64, at: ProcessId, answer: Answer) -> Option<Next
 
 /// Where a collect leads that is answered so.
 pub(crate) fn after_collect(answer: Answer) -> Option<Next>
-    ensures { result ≡ collected_to answer }
+    ensures { result ≡ next_of_collect answer }
 {
     match answer {
         Answer::Reply(reply) => Some(Next::Ends(CallEnd::Reply(reply))),

@@ -3,8 +3,8 @@ ghost use Rattle.std.specs.List.{list_any, slice_get, slice_index_or};
 ghost use Rattle.group_run.specs.Fitting.{Writes};
 ghost use Rattle.group_run.specs.Leaders.{block_gathered, gathered, is_complete, open_session, row_gathered, with_decoded};
 ghost use Rattle.group_run.specs.Process.{Gathering, LeaderState, no_leader_state};
-ghost use Rattle.block_sessions.specs.Leading.{AreParts, holding, state_of};
-ghost use Rattle.block_sessions.specs.Opened.{AreLost, IsOpen, gathering_of};
+ghost use Rattle.block_sessions.specs.Leading.{AreParts, holding, leader_state_of};
+ghost use Rattle.block_sessions.specs.Opened.{AreLost, IsSessionOf, gathering_of};
 ghost use Rattle.block_sessions.specs.Rebuilt.{AreRebuilt};
 ghost use Rattle.block_sessions.specs.declared.session.OpenSession.{OpenSession};
 
@@ -77,7 +77,7 @@ impl Sessions {
 
 // Decodes the blocks that a session gives, and keeps those that weren't rebuilt before.
 fn keep_all(shape: Shape, session: OpenSession, rebuilt: &mut [Pages])
-    requires sound { IsOpen shape session }
+    requires sound { IsSessionOf shape session }
     requires complete { is_complete shape (gathering_of session) ≡ true }
     requires rebuilt { AreRebuilt shape 1 rebuilt.old }
     ensures kept { (state : LeaderState) → holding rebuilt.new state

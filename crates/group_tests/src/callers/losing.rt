@@ -1,6 +1,6 @@
 // Four threads set and get while a data process and a parity process fail: each thread's replies are those of a table,
 // the tickets of a partition differ, and each key reads afterwards as its thread left it.
-ghost use Rattle.group_stage.specs.Seated.{AreOf, IsOf};
+ghost use Rattle.group_stage.specs.Seated.{AreSeatsOf, IsOf};
 
 use crate::callers::own_keys::{CALLS, PARTITIONS, call, is_kept};
 use crate::callers::place::Place;
@@ -41,7 +41,7 @@ fn nothing_is_lost<R: Threads + Sync>(rt: &R, alloc: Global, shape: Shape) -> bo
 
 // Whether four threads are answered as they should be, and their keys are read from the last seat as they left them.
 fn all_is_told<R: Threads + Sync>(rt: &R, alloc: Global, stage: &Stage, seats: Seats) -> bool
-    requires { AreOf stage.now seats.seats }
+    requires { AreSeatsOf stage.now seats.seats }
 {
     let mut seats = seats;
     let good = four_work(rt, alloc, stage, &mut seats);
@@ -52,8 +52,8 @@ fn all_is_told<R: Threads + Sync>(rt: &R, alloc: Global, stage: &Stage, seats: S
 }
 
 fn four_work<R: Threads + Sync>(rt: &R, alloc: Global, stage: &Stage, seats: &mut Seats) -> bool
-    requires { AreOf stage.now seats.old.seats }
-    ensures { AreOf stage.now seats.new.seats }
+    requires { AreSeatsOf stage.now seats.old.seats }
+    ensures { AreSeatsOf stage.now seats.new.seats }
 {
     let Some(front) = two_of(stage, seats) else {
         return false;
@@ -65,8 +65,8 @@ fn four_work<R: Threads + Sync>(rt: &R, alloc: Global, stage: &Stage, seats: &mu
 }
 
 fn two_of<'a>(stage: &'a Stage, seats: &mut Seats) -> Option<(Place<'a>, Place<'a>)>
-    requires { AreOf stage.now seats.old.seats }
-    ensures { AreOf stage.now seats.new.seats }
+    requires { AreSeatsOf stage.now seats.old.seats }
+    ensures { AreSeatsOf stage.now seats.new.seats }
 {
     let one = seats.take()?;
     let other = seats.take()?;

@@ -1,7 +1,7 @@
 // Two threads ask, and count what they are answered.
 ghost use Rattle.std.specs.Prelude.{◌≡◌, ◌<◌, length};
 ghost use Rattle.group_types.specs.Names.{IsProcess};
-ghost use Rattle.group_stage.specs.Seated.{AreOf, IsOf, callers_of, shape_of};
+ghost use Rattle.group_stage.specs.Seated.{AreSeatsOf, IsOf, callers_of, shape_of};
 
 use crate::stage::calls::{get, set};
 use group_stage::{Seat, Seats, Stage, StageAnswer};
@@ -108,7 +108,7 @@ fn made_and_asked<R: Threads + Sync>(rt: &R, alloc: Global, shape: Shape, ops: (
 }
 
 fn asked_by_two<R: Threads + Sync>(rt: &R, stage: Stage, all: Seats, ops: (&Op, &Op)) -> bool
-    requires seats { AreOf stage all.seats }
+    requires seats { AreSeatsOf stage all.seats }
     requires many { length all.seats ≡ callers_of stage }
     requires made { length all.seats ≡ all.made }
     requires process { 0 < (shape_of stage).k }

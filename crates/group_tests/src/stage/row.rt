@@ -1,7 +1,7 @@
 // An unfinished update on the key, and then a loss, by the calls of one thread over a shared group.
 ghost use Rattle.std.specs.Prelude.{◌≡◌, ◌≢◌, ◌<◌, length};
 ghost use Rattle.group_types.specs.Names.{IsProcess};
-ghost use Rattle.group_stage.specs.Seated.{AreOf, IsOf, callers_of, shape_of};
+ghost use Rattle.group_stage.specs.Seated.{AreSeatsOf, IsOf, callers_of, shape_of};
 
 use crate::stage::calls::{get, set};
 use group_calls::{Answer, Cause};
@@ -133,7 +133,7 @@ fn only_the_parity_is_dead(nodes: &Nodes) -> bool {
 
 // Whether the row is played, and the nodes are there when the stage is closed.
 fn closes(stage: Stage, all: Seats, ops: &Ops) -> bool
-    requires seats { AreOf stage all.seats }
+    requires seats { AreSeatsOf stage all.seats }
     requires many { length all.seats ≡ callers_of stage }
     requires made { length all.seats ≡ all.made }
     requires data { 0 < (shape_of stage).k }

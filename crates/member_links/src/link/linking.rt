@@ -1,5 +1,5 @@
 ghost use Rattle.std.specs.Prelude.{◌≡◌, ◌↔◌, ◌≤◌, IsTrue};
-ghost use Rattle.member_links.specs.Stages.{IsAwaited, age};
+ghost use Rattle.member_links.specs.Stages.{IsMemberAwaited, age};
 
 use super::Link;
 use crate::heard::Heard;
@@ -29,9 +29,9 @@ impl Link {
 
     /// The other greeted by this stream. Says whether it was waited for: it is linked once.
     pub(crate) fn go_up(&mut self, pipe: Pipe) -> bool
-        ensures awaited { IsTrue result ↔ IsAwaited self.old.stage }
+        ensures awaited { IsTrue result ↔ IsMemberAwaited self.old.stage }
         ensures up { IsTrue result → self.new.stage ≡ Stage.Up }
-        ensures once { ¬ (IsAwaited self.old.stage) → self.new.stage ≡ self.old.stage }
+        ensures once { ¬ (IsMemberAwaited self.old.stage) → self.new.stage ≡ self.old.stage }
         ensures age { age self.old.stage ≤ age self.new.stage }
     {
         if !self.is_awaited() {

@@ -6,7 +6,7 @@ ghost use Rattle.group_run.specs.Rows.{begin_copy, block_in, copies_ceased, copy
 ghost use Rattle.parity_bytes.specs.Bytes.{Stays};
 ghost use Rattle.parity_bytes.specs.Starting.{begun_if};
 ghost use Rattle.row_copies.specs.Laws.{handed_on};
-ghost use Rattle.row_copies.specs.Row.{IsWhole, marking};
+ghost use Rattle.row_copies.specs.Row.{IsWholeCopy, marking};
 
 use super::ParityBytes;
 use group_types::{ByteList, Partition, ProcessId, Run, Shape};
@@ -52,7 +52,7 @@ impl ParityBytes {
             self.old.process.as_row.copies).copies self.old.process }
         ensures done { result ≡ (marking self.old.shape d.0 n
             (copy_in self.old.process.as_row.copies leader number) self.old.process.as_row.copies).done }
-        ensures whole { IfSome result (IsWhole self.old.shape) }
+        ensures whole { IfSome result (IsWholeCopy self.old.shape) }
         ensures machine { copy_marked self.old.shape d.0 n (copy_in self.old.process.as_row.copies leader number)
             self.old.process
             ≡ handed_on self.old.shape result self.new.process }

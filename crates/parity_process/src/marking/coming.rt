@@ -6,8 +6,8 @@ ghost use Rattle.group_run.specs.Fitting.{MarkFits};
 ghost use Rattle.group_run.specs.Replica.{empty_replica};
 ghost use Rattle.group_run.specs.Rows.{accepts_mark, parity_number};
 ghost use Rattle.head_service.specs.Serving.{serving};
-ghost use Rattle.parity_process.specs.Coming.{FitsParity, IsWithin};
-ghost use Rattle.parity_process.specs.Standing.{IsOver};
+ghost use Rattle.parity_process.specs.Coming.{CanBeApplied, FitsParity};
+ghost use Rattle.parity_process.specs.Standing.{BytesAreBeneath};
 
 use super::{Mark, number_of};
 use group_message::Session;
@@ -18,7 +18,7 @@ use process_service::Service;
 /// Whether a mark can come: it fits, unless the row drops it, and is of a session that the process started if it is
 /// of one of its own. It takes no memory.
 pub fn may_mark(mark: Mark, service: &Service, bytes: &ParityBytes) -> bool
-    requires { IsOver service.now bytes.now }
+    requires { BytesAreBeneath service.now bytes.now }
     ensures { (from : named.ProcessId) → IsTrue result ↔ FitsParity service.now.shape from
         (tells.Mark mark.session mark.rank mark.block mark.partition mark.number)
         (serving service.now bytes.now.process) }
@@ -57,7 +57,7 @@ fn rank_in(partition: Partition, service: &Service) -> u32
 
 // Whether a mark that the row takes fits.
 fn fits(mark: Mark, service: &Service, bytes: &ParityBytes) -> bool
-    requires { IsOver service.now bytes.now }
+    requires { BytesAreBeneath service.now bytes.now }
     ensures { IsTrue result ↔ MarkFits service.now.shape (serving service.now bytes.now.process) mark.session mark.block
         mark.partition.0 mark.number }
 {
@@ -77,7 +77,7 @@ fn fits(mark: Mark, service: &Service, bytes: &ParityBytes) -> bool
 // Whether a partition can be applied up to a number, or is.
 fn is_held(partition: Partition, number: u64, service: &Service) -> bool
     requires { partition.0 < service.now.shape.k }
-    ensures { IsTrue result ↔ IsWithin (at empty_replica service.now.replicas partition.0) number }
+    ensures { IsTrue result ↔ CanBeApplied (at empty_replica service.now.replicas partition.0) number }
 {
     service.applied(partition) <= number && number <= service.last(partition)
 }

@@ -4,8 +4,8 @@ ghost use Rattle.run_alloc.specs.Free.{AllFree};
 ghost use Rattle.group_run.specs.Free.{is_free};
 ghost use Rattle.group_run.specs.Replica.{applied_to, items_after, last_of};
 ghost use Rattle.group_run.specs.Fitting.{AdoptFits, AllCanCome, CanCome, NumberedFrom, UpdateFits, Writes};
-ghost use Rattle.partition_replica.specs.Coming.{AreFree, IsWritten, freed_from, once_applied, replaced, run_on};
-ghost use Rattle.partition_replica.specs.Sound.{IsSound};
+ghost use Rattle.partition_replica.specs.Coming.{AreFree, IsWritten, freed_from, item_run_on, once_applied, replaced};
+ghost use Rattle.partition_replica.specs.Sound.{IsSoundReplica};
 
 use super::Replica;
 use crate::clear::is_clear_of;
@@ -53,15 +53,15 @@ impl Replica {
 
     /// The run of the item that the log's updates leave on a key.
     pub fn run_left(&self, key: &Key) -> Option<Run>
-        ensures { result ≡ run_on (items_after self.now.replica.items self.now.replica.log) key.now }
+        ensures { result ≡ item_run_on (items_after self.now.replica.items self.now.replica.log) key.now }
     {
         self.run_once(key, self.log.last())
     }
 
     // The run of the item on a key once everything up to `stable` is applied.
     fn run_once(&self, key: &Key, stable: u64) -> Option<Run>
-        ensures run { result ≡ run_on (applied_to stable self.now.replica).items key.now }
-        ensures sound { IsSound (space_of self.now.shape) (applied_to stable self.now.replica) }
+        ensures run { result ≡ item_run_on (applied_to stable self.now.replica).items key.now }
+        ensures sound { IsSoundReplica (space_of self.now.shape) (applied_to stable self.now.replica) }
     {
         let mut run = run_in(self.index.get(key));
         'updates: for update in self.log.iter() {
@@ -74,8 +74,8 @@ impl Replica {
 
     // The run of the item on a key behind these updates, once everything up to `stable` is applied.
     fn run_at_last(&self, key: &Key, stable: u64, earlier: &[Update]) -> Option<Run>
-        ensures run { result ≡ run_on (items_after (applied_to stable self.now.replica).items earlier.now) key.now }
-        ensures sound { IsSound (space_of self.now.shape) (applied_to stable self.now.replica) }
+        ensures run { result ≡ item_run_on (items_after (applied_to stable self.now.replica).items earlier.now) key.now }
+        ensures sound { IsSoundReplica (space_of self.now.shape) (applied_to stable self.now.replica) }
     {
         runs_behind(earlier, key, self.run_once(key, stable))
     }
@@ -84,8 +84,8 @@ impl Replica {
     // these updates, once everything up to `stable` is applied.
     fn is_written(&self, update: &Update, stable: u64, earlier: &[Update]) -> bool
         ensures written { IsTrue result ↔ IsWritten (space_of self.now.shape) update.now
-            (run_on (items_after (applied_to stable self.now.replica).items earlier.now) update.now.key) }
-        ensures sound { IsTrue result → IsSound (space_of self.now.shape) (applied_to stable self.now.replica) }
+            (item_run_on (items_after (applied_to stable self.now.replica).items earlier.now) update.now.key) }
+        ensures sound { IsTrue result → IsSoundReplica (space_of self.now.shape) (applied_to stable self.now.replica) }
         ensures small { space_of self.now.shape < 2 ^ 32 }
     {
         self.writes(&update.body) && update.caller < CALLERS && self.frees(update, stable, earlier)
@@ -94,8 +94,8 @@ impl Replica {
     // Whether the update gives back what it has to.
     fn frees(&self, update: &Update, stable: u64, earlier: &[Update]) -> bool
         ensures frees { IsTrue result ↔ (update.now.frees ≡ freed_from update.now.body
-            (run_on (items_after (applied_to stable self.now.replica).items earlier.now) update.now.key)) }
-        ensures sound { IsSound (space_of self.now.shape) (applied_to stable self.now.replica) }
+            (item_run_on (items_after (applied_to stable self.now.replica).items earlier.now) update.now.key)) }
+        ensures sound { IsSoundReplica (space_of self.now.shape) (applied_to stable self.now.replica) }
     {
         let left = self.run_at_last(&update.key, stable, earlier);
         update.frees == freed_from(&update.body, left)
@@ -200,7 +200,7 @@ impl Replica {
     fn is_free_behind(&self, run: Option<Run>, base: u64, earlier: &[Update]) -> bool
         requires inside { IfSome run (λ r. r.at + r.len ≤ space_of self.now.shape) }
         requires small { space_of self.now.shape < 2 ^ 32 }
-        requires sound { IsSound (space_of self.now.shape) (applied_to base self.now.replica) }
+        requires sound { IsSoundReplica (space_of self.now.shape) (applied_to base self.now.replica) }
         requires come { AllCanCome (space_of self.now.shape) (once_applied true base self.now.replica) earlier.now }
         ensures { IsTrue result
             ↔ AreFree (space_of self.now.shape) (replaced base earlier.now self.now.replica) run }

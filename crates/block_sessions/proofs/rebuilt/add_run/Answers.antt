@@ -1,6 +1,6 @@
 use Rattle.std.proofs.Common.{◌≡◌, ◌≢◌, ◌+◌, ◌-◌, ◌*◌, ◌/◌, ◌≤◌, length, eqb-true, subst, sym, ap, ◌∙◌, arith}
 use Rattle.group_run.specs.Applying.{area_added}
-use Rattle.page_map.specs.Pages.{Contents, page_in}
+use Rattle.page_map.specs.Pages.{PageContents, page_in}
 use Rattle.block_sessions.proofs.Blocks.{AddsTo, added_all, adds_none, adds_page, empty_added}
 use Rattle.page_map.proofs.Unions.{none_unless}
 use Rattle.std.proofs.lemmas.Bool.{eqb-false, true≢false}
@@ -22,11 +22,11 @@ numbers-preserved c =
           let sum : bytes ≡ area_added (c.numbers.b * c.args.shape.block) c.args.at c.args.delta.now page =
           w.add_area.ensures ∙ ap (λ n. area_added (c.numbers.b * n) c.args.at c.args.delta.now page)
           c.block-block.ensures.value in
-          subst (λ (p : Contents). AddsTo c.args.shape c.args.at c.args.delta.now c.args.pages.now p first (c.numbers.b + 1)) (sym w.pages-is)
+          subst (λ (p : PageContents). AddsTo c.args.shape c.args.at c.args.delta.now c.args.pages.now p first (c.numbers.b + 1)) (sym w.pages-is)
           (adds_page c.args.shape c.args.at c.args.delta.now page bytes c.args.pages.now c.numbers.pages first
           c.numbers.b c.numbers.auto.b c.numbers.invariant (sym w.page_mut.ensures.page) whole (w.add_area.auto.area)
           sum)
-      | else-has w ↦ subst (λ (p : Contents). AddsTo c.args.shape c.args.at c.args.delta.now c.args.pages.now p first (c.numbers.b + 1)) (sym w.pages-is)
+      | else-has w ↦ subst (λ (p : PageContents). AddsTo c.args.shape c.args.at c.args.delta.now c.args.pages.now p first (c.numbers.b + 1)) (sym w.pages-is)
           (adds_none c.args.shape c.args.at c.args.delta.now c.args.pages.now c.numbers.pages first c.numbers.b c.numbers.auto.b c.numbers.invariant
           (none_unless (page_in c.numbers.pages c.numbers.b) (λ there. true≢false (sym (c.has.ensures.1 there) ∙ w.if-has.false))))
     ]

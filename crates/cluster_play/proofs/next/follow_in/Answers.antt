@@ -2,7 +2,7 @@ use Rattle.std.proofs.Common.{ℕ, ◌≡◌, ◌<◌, ◌∙◌, All, ap, sym, 
 use Rattle.group_types.specs.Lists.{at}
 use Rattle.group_run.specs.World.{World}
 use Rattle.group_layout.specs.Cluster.{world_in}
-use Rattle.memc_table.specs.Act.{value_of}
+use Rattle.memc_table.specs.Act.{act_value}
 use Rattle.memc_table.specs.Asked.{Asked}
 use Rattle.scenario_text.specs.declared.line.Line.TheVariants.{Ask, Collect, Deliver, Flush, Show, Trace}
 use Rattle.cluster_run.specs.Playing.{ClusterPlay}
@@ -13,7 +13,7 @@ pub make-requires-clause-may : goal.make-requires-clause-may
 make-requires-clause-may c =
     let within = within-there c.args.play.now.cluster c.args.group c.args.line
     (Ask c.in-Ask.caller c.in-Ask.at c.in-Ask.act) c.requires.ready c.requires.line c.in-Ask.is in
-    ((c.requires.group, (within.0, within.1, subst (λ (op : Asked). All (λ b. b < 256) (value_of op.act)) (sym c.op-op.ensures) within.2)), λ failure. failure)
+    ((c.requires.group, (within.0, within.1, subst (λ (op : Asked). All (λ b. b < 256) (act_value op.act)) (sym c.op-op.ensures) within.2)), λ failure. failure)
 
 pub make-requires-in-Collect-clause-may : goal.make-requires-in-Collect-clause-may
 make-requires-in-Collect-clause-may c =

@@ -1,11 +1,11 @@
 use Rattle.std.proofs.Common.{◌≡◌, ◌-◌, ◌≤◌, []}
 use Rattle.front_end.specs.Answers.{stand}
-use Rattle.front_end.specs.Going.{GoesOn}
+use Rattle.front_end.specs.Going.{ConnectionGoesOn}
 use Rattle.front_end.proofs.serve.serve_pieces.Given as goal
 
 abbrev pub invariant-pieces : goal.invariant-pieces
 invariant-pieces g l = record {
-  goes : GoesOn g.C.Caller.ways (g.T.Clock.moment l.clock) (g.S.Source.input l.initial.source)
+  goes : ConnectionGoesOn g.C.Caller.ways (g.T.Clock.moment l.clock) (g.S.Source.input l.initial.source)
       (g.S.Source.input l.source) (stand l.initial.caller (g.K.Sink.held l.initial.sink))
       (stand l.caller (g.K.Sink.held l.sink)) l.connection.kept l.connection.count;
   idle : l.connection.waiting ≡ [];

@@ -1,6 +1,6 @@
 use Rattle.std.proofs.Common.{rules, ◌≡◌, [], ◌∷◌, ◌++◌, List, Ok, Err, subst, sym, ap, ◌∙◌}
 use Rattle.toml.specs.View.{items_view, view}
-use Rattle.group_config.specs.MemberReading.{Answers}
+use Rattle.group_config.specs.MemberReading.{IsMemberOutcome}
 use Rattle.group_config.specs.MemberTable.{entries_of, entry_of}
 use Rattle.group_config.specs.declared.member_entry.MemberEntry.{MemberEntry}
 use Rattle.group_config.proofs.Naming.{behind, left-fails, left-next}
@@ -11,10 +11,10 @@ returns-in_err-entry_of c =
     let is : c.left.left.now ≡ c.in-Some.first.now ∷ c.in-Some.rest.now = search rules in
     let found : c.entry_of.result ≡ Err c.in_err-entry_of.field-0.0 = search rules in
     let told : c.from_residual.result ≡ Err c.in_err-entry_of.field-0.0 = search rules in
-    subst (Answers (entries_of (items_view c.args.items.now))) (sym told)
+    subst (IsMemberOutcome (entries_of (items_view c.args.items.now))) (sym told)
     (left-fails c.left.members c.left.left.now c.in-Some.rest.now c.in-Some.first.now
     (entries_of (items_view c.args.items.now)) c.in_err-entry_of.field-0.0 is c.left.invariant
-    (subst (Answers (entry_of (view c.in-Some.first.now))) found c.entry_of.ensures))
+    (subst (IsMemberOutcome (entry_of (view c.in-Some.first.now))) found c.entry_of.ensures))
 
 pub left-preserved : goal.left-preserved
 left-preserved c =
@@ -24,4 +24,4 @@ left-preserved c =
     ap (λ (es : List MemberEntry). behind es (entries_of (items_view c.in-Some.rest.now))) pushed
     ∙ left-next c.left.members c.left.left.now c.in-Some.rest.now c.in-Some.first.now
     (entries_of (items_view c.args.items.now)) c.in_ok-entry_of.field-0 is c.left.invariant
-    (subst (Answers (entry_of (view c.in-Some.first.now))) found c.entry_of.ensures)
+    (subst (IsMemberOutcome (entry_of (view c.in-Some.first.now))) found c.entry_of.ensures)

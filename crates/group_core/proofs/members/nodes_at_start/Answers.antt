@@ -6,7 +6,7 @@ use Rattle.group_types.specs.Names.{process_at}
 use Rattle.group_run.specs.Process.{Node}
 use Rattle.group_run.specs.World.{opening_node}
 use Rattle.group_node.specs.Standing.{NodeStanding}
-use Rattle.group_core.specs.Seats.{AreOf, nodes_of}
+use Rattle.group_core.specs.Seats.{AreNodesOf, nodes_of}
 use Rattle.group_core.proofs.Told.{next-made}
 use Rattle.group_core.proofs.members.nodes_at_start.Goals as goal
 
@@ -21,7 +21,7 @@ processes-preserved c =
     record {
       all = ap (λ (xs : List NodeStanding). nodes_of xs ++ map f (range_with_len (x + 1) (c.args.count - (x + 1)))) pushed
           ∙ next-made f items new x c.args.count _ c.processes-test.true c.processes.invariant.all made;
-      shapes = subst (AreOf c.args.shape) (sym pushed)
+      shapes = subst (AreNodesOf c.args.shape) (sym pushed)
           (All-push (λ z. z.shape ≡ c.args.shape) items new c.processes.invariant.shapes
           (ap (λ (z : NodeStanding). z.shape) c.in_ok-new.ensures));
       many = ap length pushed ∙ length-append items (new ∷ []) ∙ ap (λ (n : ℕ). n + 1) c.processes.invariant.many;

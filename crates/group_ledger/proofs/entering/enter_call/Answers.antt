@@ -1,7 +1,7 @@
 use Rattle.std.proofs.Common.{ℕ, ◌≡◌, ◌++◌, [], ◌∷◌, List, Some, if◌then◌else◌, length, sym, ap, ◌∙◌, arith}
 use Rattle.std.proofs.lemmas.Grind.{common_steps}
 use Rattle.group_types.specs.Lists.{at}
-use Rattle.group_calls.specs.Turns.{entry_of}
+use Rattle.group_calls.specs.Turns.{call_entry}
 use Rattle.group_calls.specs.declared.entry.Entry.{Entry}
 use Rattle.group_run.specs.World.{Ticket, is_issued}
 use Rattle.group_ledger.proofs.Entered.{count-here, counted, refused, ticketed}
@@ -34,7 +34,7 @@ returns-in-Some-clause-log c =
     let caller : ℕ = c.args.call.caller in
     let here = count-here c.args.asked.now caller c.requires.caller in
     c.add.ensures.items
-    ∙ ap (λ (n : ℕ). c.args.log.now.items ++ entry_of (record { caller = caller; call = n }) c.args.call.op c.in-Some.reply ∷ []) here
+    ∙ ap (λ (n : ℕ). c.args.log.now.items ++ call_entry (record { caller = caller; call = n }) c.args.call.op c.in-Some.reply ∷ []) here
     ∙ ap (λ (es : List Entry). c.args.log.now.items ++ es)
     (refused (record { name = record { caller = caller; call = at 0 c.args.asked.now caller }; op = c.args.call.op }) c.args.answer.now c.in-Some.reply
     (sym c.in-Some.is ∙ c.requires.refusal))

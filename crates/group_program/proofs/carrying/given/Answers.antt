@@ -1,5 +1,5 @@
 use Rattle.std.proofs.Common.{sym, subst}
-use Rattle.group_config.specs.Text.{HasRead}
+use Rattle.group_config.specs.Text.{HasReadSettings}
 use Rattle.group_program.proofs.Refusing.{carry_refused}
 use Rattle.group_program.proofs.carrying.given.Goals as goal
 
@@ -8,5 +8,5 @@ returns-in_err-settings_or_tell-clause-given g c =
     let before = g.S.Source.input c.args.source.now in
     let now = g.S.Source.input c.read_text.new.source in
     carry_refused before now c.deref.result.now c.in_err-settings_or_tell.field-0.0 c.from_residual-in_err-settings_or_tell.result
-    (subst (HasRead before now) (sym c.deref.ensures.value) c.in_ok-text.ensures.whole)
+    (subst (HasReadSettings before now) (sym c.deref.ensures.value) c.in_ok-text.ensures.whole)
     c.in_err-settings_or_tell.ensures c.from_residual-in_err-settings_or_tell.ensures.1

@@ -5,7 +5,7 @@ use Rattle.memc_table.specs.Act.{key_of}
 use Rattle.memc_table.specs.Asked.{Asked}
 use Rattle.group_calls.specs.declared.event.Event.TheVariants.{Ask}
 use Rattle.group_run.specs.World.{World, step}
-use Rattle.group_eras.specs.Told.{op_in}
+use Rattle.group_eras.specs.Told.{op_for_era}
 use Rattle.group_regroup.proofs.Numbers.{ask-fits}
 use Rattle.group_regroup.proofs.stepping.ask.Goals as goal
 
@@ -18,4 +18,4 @@ told_answer-requires c =
     ask-fits c.numbers_fit.ensures w c.run.ensures c.args.bases.now c.args.caller c.args.op.now c.args.at c.requires.low c.requires.events c.requires.may
     c.home-partition.result.0 c.in_ok-out.out.answer home
     (c.in_ok-out.ensures.answer ∙ ap (λ (o : Asked). (step w (Ask c.args.caller o c.args.at)).turn.answer)
-    (c.in_ok-op.ensures ∙ ap (λ (k : ℕ). op_in c.args.bases.now k c.args.op.now) width))
+    (c.in_ok-op.ensures ∙ ap (λ (k : ℕ). op_for_era c.args.bases.now k c.args.op.now) width))

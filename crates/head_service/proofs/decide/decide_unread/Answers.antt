@@ -5,7 +5,7 @@ use Rattle.group_types.specs.Dimensions.{space_of}
 use Rattle.group_calls.specs.declared.decision.Decision.{Decision}
 use Rattle.group_run.specs.Deciding.{is_get, ruling_with}
 use Rattle.head_service.specs.Beneath.{found_in}
-use Rattle.head_service.specs.Wanting.{IsIssued, TakesMemory}
+use Rattle.head_service.specs.Wanting.{IssuesUpdate, TakesMemory}
 use Rattle.head_service.proofs.Blind.{unread-decided}
 use Rattle.head_service.proofs.Wanting.{issued-takes, put-told}
 use Rattle.head_service.proofs.decide.decide_unread.Goals as goal
@@ -45,4 +45,4 @@ returns-in-Err-2-clause-wanted g c =
     c.empty.ensures c.in-Err.ensures.wanted in
     on_err_weaker c.put_off.result (issued-takes _)
     (put-told (space_of c.args.replica.now.shape) c.args.replica.now.replica c.args.op.now read c.args.slot c.requires.needed
-    (λ d. OnErr c.put_off.result (IsIssued d)) other holds c.put_off.ensures.wanted)
+    (λ d. OnErr c.put_off.result (IssuesUpdate d)) other holds c.put_off.ensures.wanted)

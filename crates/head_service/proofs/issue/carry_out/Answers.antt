@@ -4,7 +4,7 @@ use Rattle.group_run.specs.Applying.{Settlement}
 use Rattle.group_run.specs.Heading.{settlements}
 use Rattle.group_run.specs.Replica.{up_to}
 use Rattle.partition_replica.specs.State.{is_needed, is_touched}
-use Rattle.head_service.specs.Settling.{updates_of}
+use Rattle.head_service.specs.Settling.{updates_settled}
 use Rattle.head_service.proofs.Seat.{stands-as, stands-with}
 use Rattle.head_service.proofs.Tidying.{received-tidy, updates-are}
 use Rattle.head_service.proofs.issue.carry_out.Goals as goal
@@ -15,8 +15,8 @@ settle_to-requires-clause-stands g c = stands-with c.requires.seat.stands c.args
 pub returns-clause-seat : goal.returns-clause-seat
 returns-clause-seat g c =
     let settled : List Update = up_to c.args.prepared.number c.receive.new.self.replica in
-    let all : updates_of c.deref.result.now ≡ settled
-    = ap updates_of (c.deref.ensures.value ∙ c.settle_to.ensures.settled.settled
+    let all : updates_settled c.deref.result.now ≡ settled
+    = ap updates_settled (c.deref.ensures.value ∙ c.settle_to.ensures.settled.settled
     ∙ ap (λ (xs : List Settlement). xs ++ settlements c.args.partition.0 settled) c.requires.settled.empty)
     ∙ updates-are c.args.partition.0 settled in
     record {

@@ -1,7 +1,7 @@
 use Rattle.std.proofs.Common.{List, None, sym, subst}
 use Rattle.front_end.specs.declared.overlap.Overlap.TheVariants.{OtherKeys}
 use Rattle.ready_client.specs.declared.open_call.OpenCall.{OpenCall}
-use Rattle.ready_client.specs.Coming.{Comes}
+use Rattle.ready_client.specs.Coming.{ComesAtGateway}
 use Rattle.ready_client.proofs.Calling.{called-behind, wants-first}
 use Rattle.ready_client.proofs.Listing.{kept-all, still-open}
 use Rattle.ready_client.proofs.ahead.begin_behind.Goals as goal
@@ -10,7 +10,7 @@ use Rattle.ready_client.proofs.Asking.{asks-none, begins-one, wants-begin}
 
 pub returns-in-Ok-true-clause-comes : goal.returns-in-Ok-true-clause-comes
 returns-in-Ok-true-clause-comes g c = λ told input input_now first before held progress is some come. let begun = c.begin.ensures.begun (cc) in
-    subst (λ (cs : List (OpenCall _)). Comes g.G.Gateway.rules OtherKeys told input input_now first before
+    subst (λ (cs : List (OpenCall _)). ComesAtGateway g.G.Gateway.rules OtherKeys told input input_now first before
     c.begin.new.gateway held progress cs 0 None) (sym begun.2)
     (called-behind g.G.Gateway.rules g.G.Gateway.order told input input_now first before c.args.gateway.now
     c.begin.new.gateway held progress c.args.calls.now begun.0 c.args.op is begun.1 c.begin.ensures.open

@@ -1,11 +1,11 @@
 use Rattle.std.proofs.Common.{◌++◌, ◌∷◌, [], List, None, length, refl, sym, ap, ◌∙◌, inr, subst}
-use Rattle.ready_client.specs.Coming.{Comes}
+use Rattle.ready_client.specs.Coming.{ComesAtGateway}
 use Rattle.ready_client.specs.declared.open_call.OpenCall.{OpenCall}
 use Rattle.ready_client.proofs.Calling.{called, some-of, wants-call}
 use Rattle.ready_client.proofs.Listing.{kept-all, still-open}
 use Rattle.ready_client.proofs.answer.begin.Goals as goal
 use Rattle.front_end.specs.Ahead.{IsDueAhead}
-use Rattle.front_end.specs.Gateway.{IsFree}
+use Rattle.front_end.specs.Gateway.{IsNotOpen}
 use Rattle.ready_client.specs.Asking.{connection_at}
 use Rattle.ready_client.specs.declared.open_call.OpenCall.TheVariants.{Open}
 use Rattle.ready_client.proofs.Asking.{asks-none, asks-then, begins-one, due-first, soon, wants-begin}
@@ -17,7 +17,7 @@ returns-in-Ok-Some-clause-comes g c = λ input input_now first before sent come.
     c.in-Ok-Some.call c.requires.due
     (some-of (λ call. g.G.Gateway.rules.opened c.begin.new.self call c.args.op c.args.gateway.now) _ _
     c.in-Ok-Some.field-0-is c.in-Ok-Some.ensures.begun) c.begin.ensures.later
-    (subst (λ (cs : List (OpenCall _)). Comes g.G.Gateway.rules c.args.overlap
+    (subst (λ (cs : List (OpenCall _)). ComesAtGateway g.G.Gateway.rules c.args.overlap
     (g.T.Clock.moment c.args.clock.now) input input_now first before c.args.gateway.now (sent ++ c.args.outbox.now)
     c.args.connection.now cs 0 None) c.requires.none come)))
 
@@ -43,7 +43,7 @@ returns-in-Ok-Some-clause-asks g c = λ input_now sent input first before come. 
     (subst (λ (cs : List (OpenCall _)). IsDueAhead (g.T.Clock.moment c.args.clock.now) c.args.connection.now.waiting
     (length cs) c.args.op) (sym c.requires.none)
     (due-first (g.T.Clock.moment c.args.clock.now) c.args.connection.now.waiting c.args.op c.requires.due)) (
-      some-of (λ call. IsFree g.G.Gateway.rules c.args.gateway.now call) _ _ c.in-Ok-Some.field-0-is c.in-Ok-Some.ensures.fresh,
+      some-of (λ call. IsNotOpen g.G.Gateway.rules c.args.gateway.now call) _ _ c.in-Ok-Some.field-0-is c.in-Ok-Some.ensures.fresh,
       some-of (λ call. g.G.Gateway.rules.opened c.begin.new.self call c.args.op c.args.gateway.now) _ _ c.in-Ok-Some.field-0-is c.in-Ok-Some.ensures.begun,
     )
     (c.put_only.ensures ∙ ap (λ (cs : List (OpenCall _)). cs ++ Open c.in-Ok-Some.call ∷ []) (sym c.requires.none)))
@@ -53,7 +53,7 @@ returns-in-Ok-Some-clause-asks g c = λ input_now sent input first before come. 
     c.in-Ok-Some.call c.requires.due
     (some-of (λ call. g.G.Gateway.rules.opened c.begin.new.self call c.args.op c.args.gateway.now) _ _
     c.in-Ok-Some.field-0-is c.in-Ok-Some.ensures.begun) c.begin.ensures.later
-    (subst (λ (cs : List (OpenCall _)). Comes g.G.Gateway.rules c.args.overlap
+    (subst (λ (cs : List (OpenCall _)). ComesAtGateway g.G.Gateway.rules c.args.overlap
     (g.T.Clock.moment c.args.clock.now) input input_now first before c.args.gateway.now (sent ++ c.args.outbox.now)
     c.args.connection.now cs 0 None) c.requires.none come))))
 

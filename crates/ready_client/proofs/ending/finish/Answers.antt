@@ -1,5 +1,5 @@
 use Rattle.std.proofs.Common.{◌++◌, List, subst, None}
-use Rattle.ready_client.specs.Coming.{Comes}
+use Rattle.ready_client.specs.Coming.{ComesAtGateway}
 use Rattle.ready_client.specs.declared.open_call.OpenCall.{OpenCall}
 use Rattle.ready_client.proofs.ending.finish.Goals as goal
 use Rattle.ready_client.proofs.Asking.{asks-still, soon}
@@ -9,7 +9,7 @@ returns-in-Some-clause-comes g c = λ input input_now first before sent come. le
     c.settle.ensures.comes c.args.overlap (g.T.Clock.moment c.args.clock.now) input input_now first c.args.gateway.now
     c.take_end.new.gateway before sent ended.0 ended.1 (c.take_end.ensures.others come.distinct)
     c.take_end.ensures.onward
-    (subst (λ (cs : List (OpenCall _)). Comes g.G.Gateway.rules c.args.overlap
+    (subst (λ (cs : List (OpenCall _)). ComesAtGateway g.G.Gateway.rules c.args.overlap
     (g.T.Clock.moment c.args.clock.now) input input_now first before c.args.gateway.now (sent ++ c.args.outbox.now)
     c.args.connection.now cs 0 None) ended.2 come)
 
@@ -22,7 +22,7 @@ pub returns-in-Some-clause-asks : goal.returns-in-Some-clause-asks
 returns-in-Some-clause-asks g c = λ input_now sent input first before come. let ended = c.in-Some.ensures.ended in
     rw ended.2 (c.settle.ensures.asks c.args.overlap (g.T.Clock.moment c.args.clock.now) input_now c.args.gateway.now
     c.take_end.new.gateway sent ended.0 ended.1 input first before
-    (subst (λ (cs : List (OpenCall _)). Comes g.G.Gateway.rules c.args.overlap
+    (subst (λ (cs : List (OpenCall _)). ComesAtGateway g.G.Gateway.rules c.args.overlap
     (g.T.Clock.moment c.args.clock.now) input input_now first before c.args.gateway.now (sent ++ c.args.outbox.now)
     c.args.connection.now cs 0 None) ended.2 come))
 

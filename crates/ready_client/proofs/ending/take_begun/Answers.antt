@@ -1,6 +1,6 @@
 use Rattle.std.proofs.Common.{◌++◌, List, subst, None}
 use Rattle.ready_client.specs.Asking.{connection_at}
-use Rattle.ready_client.specs.Coming.{Comes}
+use Rattle.ready_client.specs.Coming.{ComesAtGateway}
 use Rattle.ready_client.specs.declared.open_call.OpenCall.{OpenCall}
 use Rattle.ready_client.proofs.Asking.{asks-none, asks-still}
 use Rattle.ready_client.proofs.ending.take_begun.Goals as goal
@@ -9,7 +9,7 @@ pub returns-in-Some-clause-comes : goal.returns-in-Some-clause-comes
 returns-in-Some-clause-comes g c = λ overlap told input input_now first before sent come. let ended = c.in-Some.ensures.ended in
     c.settle.ensures.comes overlap told input input_now first c.args.gateway.now c.take_end.new.gateway before sent
     ended.0 ended.1 (c.take_end.ensures.others come.distinct) c.take_end.ensures.onward
-    (subst (λ (cs : List (OpenCall _)). Comes g.G.Gateway.rules overlap told input input_now first before
+    (subst (λ (cs : List (OpenCall _)). ComesAtGateway g.G.Gateway.rules overlap told input input_now first before
     c.args.gateway.now (sent ++ c.args.outbox.now) c.args.connection.now cs 0 None) ended.2 come)
 
 pub returns-in-None-clause-comes : goal.returns-in-None-clause-comes
@@ -19,7 +19,7 @@ returns-in-None-clause-comes g c = λ overlap told input input_now first before 
 pub returns-in-Some-clause-asks : goal.returns-in-Some-clause-asks
 returns-in-Some-clause-asks g c = λ overlap told input_now sent input first before come. let ended = c.in-Some.ensures.ended in
     rw ended.2 (c.settle.ensures.asks overlap told input_now c.args.gateway.now c.take_end.new.gateway sent ended.0 ended.1 input first before
-    (subst (λ (cs : List (OpenCall _)). Comes g.G.Gateway.rules overlap told input input_now first before
+    (subst (λ (cs : List (OpenCall _)). ComesAtGateway g.G.Gateway.rules overlap told input input_now first before
     c.args.gateway.now (sent ++ c.args.outbox.now) c.args.connection.now cs 0 None) ended.2 come))
 
 pub returns-in-None-clause-asks : goal.returns-in-None-clause-asks

@@ -1,27 +1,27 @@
 use Rattle.std.proofs.Common.{◌^◌, ◌∷◌, length, refl, ap, ◌∙◌, length-append, arith, rules}
-use Rattle.run_alloc.specs.Order.{rank_of}
+use Rattle.run_alloc.specs.Order.{order_key}
 use Rattle.run_alloc.proofs.Laid.{laid-steady}
 use Rattle.run_alloc.proofs.Moves.{found_rises_all, found_light, found_kept, set_amid, set_starts, pull_laid, pull_adds}
 use Rattle.run_alloc.proofs.chunks.pull_from.Goals as goal
 
 pub chunk_of-place-requires-clause-rises : goal.chunk_of-place-requires-clause-rises
-chunk_of-place-requires-clause-rises c = rw c.deref.ensures.value (laid-steady (rank_of c.args.order) c.args.chunks.now.items (2 ^ 64) c.requires.laid)
+chunk_of-place-requires-clause-rises c = rw c.deref.ensures.value (laid-steady (order_key c.args.order) c.args.chunks.now.items (2 ^ 64) c.requires.laid)
 
 pub pull-requires-clause-rises : goal.pull-requires-clause-rises
 pull-requires-clause-rises c =
     let is = rw (c.deref.ensures.value, c.rank.ensures) at c.chunk_of-place.ensures in
-    found_rises_all (rank_of c.args.order) c.args.chunks.now.items c.args.run _ is c.index_mut.result.now
+    found_rises_all (order_key c.args.order) c.args.chunks.now.items c.args.run _ is c.index_mut.result.now
     c.index_mut.ensures.value c.requires.laid c.requires.even
 
 pub pull-requires-clause-kept : goal.pull-requires-clause-kept
 pull-requires-clause-kept c =
     let is = rw (c.deref.ensures.value, c.rank.ensures) at c.chunk_of-place.ensures in
-    found_kept (rank_of c.args.order) c.args.chunks.now.items c.args.run _ is c.index_mut.result.now
+    found_kept (order_key c.args.order) c.args.chunks.now.items c.args.run _ is c.index_mut.result.now
     c.index_mut.ensures.value c.requires.laid c.requires.even c.requires.kept
 
 pub returns : goal.returns
 returns c =
-    let rank = rank_of c.args.order in
+    let rank = order_key c.args.order in
     let all = c.args.chunks.now.items in
     let run = c.args.run in
     let is = rw (c.deref.ensures.value, c.rank.ensures) at c.chunk_of-place.ensures in

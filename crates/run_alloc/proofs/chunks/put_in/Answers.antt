@@ -1,18 +1,18 @@
 use Rattle.std.proofs.Common.{◌^◌, ◌∷◌, length, refl, ap, ◌∙◌, length-append, arith, rules}
-use Rattle.run_alloc.specs.Order.{rank_of}
+use Rattle.run_alloc.specs.Order.{order_key}
 use Rattle.run_alloc.proofs.Ranks.{rises-steady}
 use Rattle.run_alloc.proofs.Laid.{laid-steady}
 use Rattle.run_alloc.proofs.Moves.{found_rises_all, found_light, set_amid, set_starts, put_laid, put_adds}
 use Rattle.run_alloc.proofs.chunks.put_in.Goals as goal
 
 pub chunk_of-place-requires-clause-rises : goal.chunk_of-place-requires-clause-rises
-chunk_of-place-requires-clause-rises c = rw c.deref.ensures.value (laid-steady (rank_of c.args.order) c.args.chunks.now.items (2 ^ 64) c.requires.laid)
+chunk_of-place-requires-clause-rises c = rw c.deref.ensures.value (laid-steady (order_key c.args.order) c.args.chunks.now.items (2 ^ 64) c.requires.laid)
 
 pub put-requires-clause-rises : goal.put-requires-clause-rises
 put-requires-clause-rises c =
     let is = rw (c.deref.ensures.value, c.rank.ensures) at c.chunk_of-place.ensures in
-    rises-steady (rank_of c.args.order) c.index_mut.result.now.runs.items 0 (2 ^ 64)
-    (found_rises_all (rank_of c.args.order) c.args.chunks.now.items c.args.run _ is c.index_mut.result.now
+    rises-steady (order_key c.args.order) c.index_mut.result.now.runs.items 0 (2 ^ 64)
+    (found_rises_all (order_key c.args.order) c.args.chunks.now.items c.args.run _ is c.index_mut.result.now
     c.index_mut.ensures.value c.requires.laid c.requires.even)
 
 pub put-requires-clause-room : goal.put-requires-clause-room
@@ -20,13 +20,13 @@ put-requires-clause-room c =
     let is = rw (c.deref.ensures.value, c.rank.ensures) at c.chunk_of-place.ensures in
     omega (
       arith,
-      found_light (rank_of c.args.order) c.args.chunks.now.items c.args.run _ is c.index_mut.result.now
+      found_light (order_key c.args.order) c.args.chunks.now.items c.args.run _ is c.index_mut.result.now
           c.index_mut.ensures.value c.requires.laid c.requires.even,
     )
 
 pub returns : goal.returns
 returns c =
-    let rank = rank_of c.args.order in
+    let rank = order_key c.args.order in
     let all = c.args.chunks.now.items in
     let run = c.args.run in
     let is = rw (c.deref.ensures.value, c.rank.ensures) at c.chunk_of-place.ensures in

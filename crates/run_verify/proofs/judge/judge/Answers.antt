@@ -2,7 +2,8 @@ use Rattle.std.proofs.Common.{◌≡◌, ◌+◌, ℕ, false, List, drop, length
 use Rattle.std.proofs.lemmas.Grind.{common_steps}
 use Rattle.scenario_run.specs.Lines.{lines_of}
 use Rattle.run_verify.specs.Accounts.{account_of}
-use Rattle.run_verify.specs.Courses.{HasFoundBy, IsJudged, IsJudgedBehind, IsPlacedBehind, IsSheetOf, IsWithin, logging_by, sheet_on, state_of, turn_by}
+use Rattle.run_verify.specs.Courses.{HasFoundBy, IsAccountWithin, IsJudged, IsJudgedBehind, IsPlacedBehind, IsSheetOf, judging_state, logging_by, sheet_on}
+use Rattle.run_verify.specs.Courses.{turn_by}
 use Rattle.run_verify.specs.Passing.{Account, begins_entry}
 use Rattle.run_verify.specs.Sheet.{Sheet}
 use Rattle.run_verify.specs.declared.step.Step.{Step}
@@ -17,10 +18,10 @@ pub lines-init : goal.lines-init
 lines-init c = record {
   judged = λ v judged.
       subst (λ (a : Account). IsJudgedBehind 0 (sheet_on c.args.shape c.args.steps.now (lines_of c.args.text.now))
-      (state_of a c.args.steps.now false) (lines_of c.args.text.now) v) c.in_ok-account.ensures judged;
+      (judging_state a c.args.steps.now false) (lines_of c.args.text.now) v) c.in_ok-account.ensures judged;
   ends = c.requires.ends;
   fit = c.requires.steps;
-  within = subst (IsWithin c.args.shape 0) (sym c.in_ok-account.ensures) (within_first c.args.shape);
+  within = subst (IsAccountWithin c.args.shape 0) (sym c.in_ok-account.ensures) (within_first c.args.shape);
   of = c.k-partitions.ensures.in_range;
   few = omega arith;
 }
@@ -33,7 +34,7 @@ place-requires-clause-within c =
     let is = subst (HasFoundBy (begins_entry c.cut_line.result.0.now) sheet (account_of c.lines.account)
     c.step-item.result (drop 1 c.lines.turn.now) c.lines.logging c.cut_line.result.0.now
     (lines_of c.cut_line.result.1.now) (account_of c.pass.new.self)) c.in-Places.is raw in
-    subst (IsWithin c.args.shape c.lines.done) (sym is.2) c.lines.invariant.within
+    subst (IsAccountWithin c.args.shape c.lines.done) (sym is.2) c.lines.invariant.within
 
 pub returns-in-Places : goal.returns-in-Places
 returns-in-Places c =
@@ -47,7 +48,7 @@ returns-in-Places c =
     ok_else (IsPlacedBehind c.lines.done c.args.shape (account_of c.pass.new.self) (lines_of c.lines.rest.now)) (IsJudged sheet) c.place.result
     (λ v placed. c.lines.invariant.judged v
     (subst (λ (ls : List (List ℕ)). IsJudgedBehind c.lines.done sheet
-    (state_of (account_of c.lines.account) c.lines.turn.now c.lines.logging) ls v) (sym c.cut_line.ensures.lines)
+    (judging_state (account_of c.lines.account) c.lines.turn.now c.lines.logging) ls v) (sym c.cut_line.ensures.lines)
     (moved_places sheet (account_of c.lines.account) c.lines.turn.now c.step-item.result c.lines.logging
     c.cut_line.result.0.now (lines_of c.cut_line.result.1.now) (account_of c.pass.new.self) split is
     c.lines.invariant.ends c.args.shape refl c.lines.done v
@@ -65,7 +66,7 @@ returns-in-Fails c =
     let split = split_turn c.lines.turn.now c.step-item.result c.in-len1-up.len_at_least c.step-item.is in
     c.lines.invariant.judged (Refused (c.lines.done + 1))
     (subst (λ (ls : List (List ℕ)). IsJudgedBehind c.lines.done sheet
-    (state_of (account_of c.lines.account) c.lines.turn.now c.lines.logging) ls (Refused (c.lines.done + 1)))
+    (judging_state (account_of c.lines.account) c.lines.turn.now c.lines.logging) ls (Refused (c.lines.done + 1)))
     (sym c.cut_line.ensures.lines)
     (moved_fails sheet (account_of c.lines.account) c.lines.turn.now c.step-item.result c.lines.logging
     c.cut_line.result.0.now (lines_of c.cut_line.result.1.now) (account_of c.pass.new.self) split is c.lines.done))
@@ -84,7 +85,7 @@ lines-preserved c =
     record {
       judged = λ v judged. c.lines.invariant.judged v
           (subst (λ (ls : List (List ℕ)). IsJudgedBehind c.lines.done sheet
-          (state_of (account_of c.lines.account) c.lines.turn.now c.lines.logging) ls v) (sym c.cut_line.ensures.lines)
+          (judging_state (account_of c.lines.account) c.lines.turn.now c.lines.logging) ls v) (sym c.cut_line.ensures.lines)
           (moved_judged sheet (account_of c.lines.account) c.lines.turn.now c.step-item.result c.lines.logging
           c.cut_line.result.0.now (lines_of c.cut_line.result.1.now) (account_of c.pass.new.self) split
           c.in_ok-found.found goes is c.go_on.result.0.now c.go_on.result.1 next may c.lines.done v judged));

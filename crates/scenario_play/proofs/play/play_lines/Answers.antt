@@ -2,7 +2,7 @@ use Rattle.std.proofs.Common.{◌≡◌, ℕ, List, ◌∷◌, refl, sym, ap, �
 use Rattle.edge_io.specs.Moving.{Appends}
 use Rattle.edge_io.specs.Writing.{HasWrittenPart}
 use Rattle.scenario_run.specs.Lines.{lines_of}
-use Rattle.scenario_play.specs.Player.{GoesOn, telling}
+use Rattle.scenario_play.specs.Player.{ScriptGoesOn, telling}
 use Rattle.scenario_play.proofs.Writing.{Treated, Treated-more, Treated-none, Written, Written-more, Written-none}
 use Rattle.scenario_play.proofs.Writing.{Written-short, handed-on, part-played, refused-at, untreated}
 use Rattle.scenario_play.proofs.play.play_lines.Goals as goal
@@ -28,7 +28,7 @@ lines-preserved g c =
     let line : List ℕ = c.cut_line.result.0.now in
     let rest : List (List ℕ) = lines_of c.cut_line.result.1.now in
     let text : List ℕ = c.in-Some.text.items in
-    let on : GoesOn tells c.lines.number c.lines.player c.treat.new.self line text = rw c.in-Some.is at c.in_ok-text.ensures in
+    let on : ScriptGoesOn tells c.lines.number c.lines.player c.treat.new.self line text = rw c.in-Some.is at c.in_ok-text.ensures in
     let cut : lines_of c.lines.rest.now ≡ line ∷ rest = c.cut_line.ensures.lines in
     let all : List ℕ = g.P.Player.text c.args.player.now (lines_of c.args.text.now) in
     let held : List ℕ = g.K.Sink.held c.args.sink.now in
@@ -78,7 +78,7 @@ returns-in_err-write_text-in-Some-clause-end g c =
     let line : List ℕ = c.cut_line.result.0.now in
     let rest : List (List ℕ) = lines_of c.cut_line.result.1.now in
     let text : List ℕ = c.in-Some.text.items in
-    let on : GoesOn tells c.lines.number c.lines.player c.treat.new.self line text = rw c.in-Some.is at c.in_ok-text.ensures in
+    let on : ScriptGoesOn tells c.lines.number c.lines.player c.treat.new.self line text = rw c.in-Some.is at c.in_ok-text.ensures in
     let cut : lines_of c.lines.rest.now ≡ line ∷ rest = c.cut_line.ensures.lines in
     let all : List ℕ = g.P.Player.text c.args.player.now (lines_of c.args.text.now) in
     let held : List ℕ = g.K.Sink.held c.args.sink.now in

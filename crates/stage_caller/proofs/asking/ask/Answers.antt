@@ -1,7 +1,7 @@
 use Rattle.std.proofs.Common.{ℕ, refl, subst}
 use Rattle.group_calls.specs.declared.event.Event.TheVariants.{Ask}
 use Rattle.stage_caller.specs.Calling.{asked_to, wish_of}
-use Rattle.stage_caller.specs.Moving.{Gives}
+use Rattle.stage_caller.specs.Moving.{SaysByAnswer}
 use Rattle.stage_caller.specs.declared.phase.Phase.TheVariants.{Asks}
 use Rattle.stage_caller.proofs.Stepping.{same-seat, stepped}
 use Rattle.stage_caller.proofs.asking.ask.Goals as goal
@@ -14,4 +14,4 @@ returns-clause-stepped c =
     (same-seat c.args.stage.now seat c.try_ask.new.seat c.requires.seat c.try_ask.ensures.seat c.try_ask.ensures.caller)
     c.in_ok-ended.ensures.ended
     (λ a. (refl, refl, refl, refl))
-    (subst (λ (n : ℕ). Gives (asked_to n) Asks c.in_ok-ended.ended c.ask_step.result) c.asks-call.ensures c.ask_step.ensures)
+    (subst (λ (n : ℕ). SaysByAnswer (asked_to n) Asks c.in_ok-ended.ended c.ask_step.result) c.asks-call.ensures c.ask_step.ensures)

@@ -1,6 +1,6 @@
 use Rattle.std.proofs.Common.{subst, Some, None, Option, ℕ}
 use Rattle.std.specs.Fmt.{decimal}
-use Rattle.transcript_text.specs.Reading.{Reads}
+use Rattle.transcript_text.specs.Reading.{ReadsAs}
 use Rattle.transcript_text.specs.Texts.{FitsNumber}
 use Rattle.transcript_text.proofs.Numbers.{reads-too_large}
 use Rattle.transcript_text.proofs.number.number_below.Goals as goal

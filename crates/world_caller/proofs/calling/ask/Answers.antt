@@ -1,6 +1,6 @@
 use Rattle.std.proofs.Common.{◌≡◌, ◌<◌, sym, ap, subst, ◌∙◌}
 use Rattle.std.specs.Prelude.{All}
-use Rattle.memc_table.specs.Act.{value_of}
+use Rattle.memc_table.specs.Act.{act_value}
 use Rattle.memc_table.specs.Asked.{Asked}
 use Rattle.memc_table.specs.declared.act.Act.{Act}
 use Rattle.group_calls.specs.declared.event.Event.TheVariants.{Ask}
@@ -17,6 +17,6 @@ returns-clause-made c =
     ask-made c.args.world.now c.make_ask.new.world c.args.caller c.asks-call.result c.args.op.now c.server-at.result
     c.in_ok-make_ask.field-0 c.in-Some.next c.asks_lead_on.ensures c.run.ensures
     c.requires.due c.requires.counted
-    (c.requires.caller, c.server-at.ensures.inside, subst (λ (a : Act). All (λ b. b < 256) (value_of a)) c.act.ensures c.values_are_bytes.ensures)
+    (c.requires.caller, c.server-at.ensures.inside, subst (λ (a : Act). All (λ b. b < 256) (act_value a)) c.act.ensures c.values_are_bytes.ensures)
     (subst (λ d. Serves c.args.world.now d c.server-at.result) home c.server-at.ensures.serves)
     c.in_ok-make_ask.ensures.world c.in_ok-make_ask.ensures.answer (sym c.in-Some.ensures) c.asks-call.ensures

@@ -1,7 +1,7 @@
 use Rattle.std.proofs.Common.{OnErr, refl, sym, subst}
 use Rattle.group_run.specs.World.{World}
-use Rattle.world_caller.specs.Calling.{HasStopped}
-use Rattle.world_caller.specs.Making.{IsMade}
+use Rattle.world_caller.specs.Calling.{IsCallCutShort}
+use Rattle.world_caller.specs.Making.{IsStepMade}
 use Rattle.world_caller.specs.declared.stage.Next.{Next}
 use Rattle.world_caller.specs.declared.stage.Next.TheVariants.{Ends, Goes}
 use Rattle.world_caller.proofs.Bringing.{come-delivered, come-made, stopped-err}
@@ -16,15 +16,17 @@ returns-in_err-drain-clause-stopped c =
 
 pub returns-in_err-next-clause-stopped : goal.returns-in_err-next-clause-stopped
 returns-in_err-next-clause-stopped c =
-    subst (λ (x : World). OnErr c.from_residual-in_err-next.result (HasStopped c.args.caller c.args.op.now c.args.world.now x)) (sym c.in_err-next.ensures.err)
+    subst (λ (x : World). OnErr c.from_residual-in_err-next.result (IsCallCutShort c.args.caller c.args.op.now c.args.world.now x))
+    (sym c.in_err-next.ensures.err)
     (stopped-err c.from_residual-in_err-next.result c.args.caller c.args.op.now c.args.world.now c.drain.new.world (Goes c.stages.stage)
     (come-delivered c.args.caller c.args.op.now c.args.world.now c.stages.world c.drain.new.world c.stages.stage
     c.stages.invariant.come c.drain.ensures.delivered))
 
 pub stages-preserved : goal.stages-preserved
 stages-preserved c =
-    let made : IsMade c.args.caller c.args.op.now c.drain.new.world c.stages.stage c.go_on.new.world (Goes c.in-Goes.next)
-    = subst (λ (n : Next). IsMade c.args.caller c.args.op.now c.drain.new.world c.stages.stage c.go_on.new.world n) c.in-Goes.is c.in_ok-next.ensures.made in
+    let made : IsStepMade c.args.caller c.args.op.now c.drain.new.world c.stages.stage c.go_on.new.world (Goes c.in-Goes.next)
+    = subst (λ (n : Next). IsStepMade c.args.caller c.args.op.now c.drain.new.world c.stages.stage c.go_on.new.world n) c.in-Goes.is
+    c.in_ok-next.ensures.made in
     record {
       come = come-made c.args.caller c.args.op.now c.args.world.now c.drain.new.world c.go_on.new.world c.stages.stage (Goes c.in-Goes.next)
           (come-delivered c.args.caller c.args.op.now c.args.world.now c.stages.world c.drain.new.world c.stages.stage
@@ -38,7 +40,7 @@ returns-in-Ends-clause-called c =
     (come-made c.args.caller c.args.op.now c.args.world.now c.drain.new.world c.go_on.new.world c.stages.stage (Ends c.in-Ends.end)
     (come-delivered c.args.caller c.args.op.now c.args.world.now c.stages.world c.drain.new.world c.stages.stage
     c.stages.invariant.come c.drain.ensures.delivered)
-    (subst (λ (n : Next). IsMade c.args.caller c.args.op.now c.drain.new.world c.stages.stage c.go_on.new.world n) c.in-Ends.is c.in_ok-next.ensures.made))
+    (subst (λ (n : Next). IsStepMade c.args.caller c.args.op.now c.drain.new.world c.stages.stage c.go_on.new.world n) c.in-Ends.is c.in_ok-next.ensures.made))
     refl
 
 pub returns-clause-called : goal.returns-clause-called

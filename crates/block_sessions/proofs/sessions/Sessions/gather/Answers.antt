@@ -1,6 +1,6 @@
 use Rattle.std.proofs.Common.{◌≡◌, ◌-◌, ℕ, List, get_or, ap, sym, subst, ◌∙◌}
 use Rattle.std.proofs.lemmas.List.{get_or_default, with_items_is}
-use Rattle.page_map.specs.Pages.{Contents}
+use Rattle.page_map.specs.Pages.{PageContents}
 use Rattle.group_run.specs.Leaders.{gathered, with_decoded}
 use Rattle.group_run.specs.Process.{LeaderState}
 use Rattle.block_sessions.specs.declared.session.OpenSession.{OpenSession}
@@ -16,7 +16,7 @@ invariant_of-self c =
     let sessions = c.self.inside.sessions.items in
     let new = c.keep_all.new.rebuilt in
     let below = inside c.self.view_is c.self.invariant c.requires in
-    let rebuilt = subst (λ (ps : List Contents). (most : ℕ) → AreRebuilt s most ps → AreRebuilt s (most - 1) new)
+    let rebuilt = subst (λ (ps : List PageContents). (most : ℕ) → AreRebuilt s most ps → AreRebuilt s (most - 1) new)
     c.deref_mut.ensures.value c.keep_all.ensures.rebuilt in
     rw (c.remove-session.ensures.items, with_items_is c.self.inside.rebuilt new (c.keep_all.auto.rebuilt ∙ c.deref_mut.ensures.len))
     (parts_without s c.self.inside.last sessions c.self.inside.rebuilt.items new c.args.place below c.self.invariant rebuilt)
@@ -31,7 +31,7 @@ returns-then-is_complete-clause-state c = λ g.
     let below = inside c.self.view_is c.self.invariant c.requires in
     let taken : c.remove-session.result ≡ x = c.remove-session.ensures.value
     ∙ (get_or_default sessions c.args.place c.remove-session.result x below ∙ sym c.index.ensures) in
-    let kept = subst (λ (ps : List Contents). (state : LeaderState) → holding new state
+    let kept = subst (λ (ps : List PageContents). (state : LeaderState) → holding new state
     ≡ with_decoded s (gathering_of x) x.lost.items (holding ps state)) c.deref_mut.ensures.value
     (subst (λ (y : OpenSession). (state : LeaderState) → holding new state ≡ with_decoded s (gathering_of y)
     y.lost.items (holding c.deref_mut.result.now state)) taken c.keep_all.ensures.kept) in

@@ -1,7 +1,7 @@
 use Rattle.std.proofs.Common.{◌≡◌, ◌<◌, List, [], length, replicate, subst, sym, ap, ap₂, ◌∙◌, arith}
-use Rattle.page_map.specs.Pages.{Contents, no_pages}
+use Rattle.page_map.specs.Pages.{PageContents, no_pages}
 use Rattle.block_sessions.specs.declared.session.OpenSession.{OpenSession}
-use Rattle.block_sessions.specs.Leading.{AreSessions, state_of}
+use Rattle.block_sessions.specs.Leading.{AreSessions, leader_state_of}
 use Rattle.block_sessions.specs.Rebuilt.{AreRebuilt}
 use Rattle.block_sessions.proofs.Rooms.{all_unbuilt, rebuilt_at_first}
 use Rattle.block_sessions.proofs.sessions.Sessions.new.Goals as goal
@@ -30,5 +30,5 @@ returns-clause-state c =
     let count : c.partitions.counter ≡ s.k = omega (arith, c.partitions-test.false, c.partitions.auto.counter-end, c.k-end.ensures.value) in
     let pages : c.partitions.rebuilt.items ≡ replicate s.k (no_pages s.blocks s.block) = c.partitions.invariant
     ∙ ap (λ n. replicate n (no_pages s.blocks s.block)) count in
-    ap₂ (λ (gs : List OpenSession) (ps : List Contents). state_of gs 0 ps) c.new-2.ensures.items pages
+    ap₂ (λ (gs : List OpenSession) (ps : List PageContents). leader_state_of gs 0 ps) c.new-2.ensures.items pages
     ∙ ap (λ blocks. record { sessions = []; last_session = 0; rebuilt = blocks }) (all_unbuilt s.k s.blocks s.block)

@@ -3,7 +3,7 @@ use Rattle.std.proofs.lemmas.List.{get_or_default}
 use Rattle.group_types.specs.Lists.{at}
 use Rattle.group_types.specs.Pieces.{bytes_of}
 use Rattle.group_types.specs.declared.piece_list.Piece.{Piece}
-use Rattle.page_map.specs.Pages.{Contents}
+use Rattle.page_map.specs.Pages.{PageContents}
 use Rattle.block_sessions.specs.declared.session.OpenSession.{OpenSession}
 use Rattle.block_sessions.specs.Opened.{gathering_of}
 use Rattle.block_sessions.specs.Rebuilt.{HoldsBlocks, kept_unless, rebuilt_in}
@@ -37,7 +37,7 @@ pieces-preserved c =
       c.requires.sound.lost.below c.pieces.at 0 next.0,
       (c.pieces.invariant.all 1 c.requires.rebuilt).all,
     ) in
-    let old : Contents = get_or c.pieces.rebuilt l c.index-rebuilt-l.result in
+    let old : PageContents = get_or c.pieces.rebuilt l c.index-rebuilt-l.result in
     let kept = subst (λ b. rebuilt_in c.keep.new.pages ≡ kept_unless (is_some (at None (rebuilt_in old) b)) b c.take.result (rebuilt_in old))
     (ap (λ (x : OpenSession). x.block) c.decode.ensures.same) c.keep.ensures.kept in
     subst (λ (out : List Piece). AreKept c.args.shape g c.args.rebuilt.now (set c.pieces.rebuilt l c.keep.new.pages) out

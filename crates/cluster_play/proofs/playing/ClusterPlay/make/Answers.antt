@@ -3,16 +3,16 @@ use Rattle.group_layout.specs.Cluster.{Cluster}
 use Rattle.group_layout.specs.declared.event.ClusterEvent.TheVariants.{InGroup}
 use Rattle.group_run.specs.World.{World}
 use Rattle.scenario_run.specs.Marks.{marked_entries}
-use Rattle.cluster_run.specs.Playing.{ClusterPlay, turn_of, turn_text}
+use Rattle.cluster_run.specs.Playing.{ClusterPlay, cluster_turn, turn_text}
 use Rattle.cluster_run.specs.Texts.{cluster_answer_text}
-use Rattle.cluster_play.specs.Doing.{IsReadyFor}
+use Rattle.cluster_play.specs.Doing.{IsReadyCluster}
 use Rattle.cluster_play.proofs.Logged.{Last, last-in, turn-written}
 use Rattle.cluster_play.proofs.Ready.{few-in, there-after}
 use Rattle.cluster_play.proofs.playing.ClusterPlay.make.Goals as goal
 
 pub make_event-requires-clause-few : goal.make_event-requires-clause-few
 make_event-requires-clause-few c = few-in c.self.inside.cluster c.args.group
-    (subst (λ (p : ClusterPlay). IsReadyFor (2 ^ 59) p.cluster) (sym c.self.view_is) c.requires.ready)
+    (subst (λ (p : ClusterPlay). IsReadyCluster (2 ^ 59) p.cluster) (sym c.self.view_is) c.requires.ready)
     (subst (λ (p : ClusterPlay). c.args.group < length p.cluster.groups.worlds) (sym c.self.view_is) c.requires.may.0.0)
 
 pub world-requires : goal.world-requires
@@ -37,7 +37,7 @@ returns-clause-text c =
     (λ (mark : List ℕ). marked_entries mark
     (drop (length c.log-log.result.now - c.in_ok-out.out.logged) c.log-log.result.now))
     (c.deref.ensures.value ∙ c.in_ok-mark.ensures) ∙ last.text in
-    subst (λ (p : ClusterPlay). c.write_last.new.text.items ≡ turn_text (turn_of p.cluster (InGroup c.args.group c.args.event))) c.self.view_is
+    subst (λ (p : ClusterPlay). c.write_last.new.text.items ≡ turn_text (cluster_turn p.cluster (InGroup c.args.group c.args.event))) c.self.view_is
     (turn-written before (InGroup c.args.group c.args.event) c.in_ok-out.out.answer
     (cluster_answer_text c.in_ok-out.out.answer) c.in_ok-text.text.items entries c.write_last.new.text.items refl
     c.in_ok-out.ensures.answer

@@ -7,7 +7,7 @@ use Rattle.group_run.specs.Headline.{MayCome}
 use Rattle.group_run.specs.World.{World, opening, step}
 use Rattle.group_layout.specs.Cluster.{Groups, moved, world_in}
 use Rattle.group_cluster.specs.History.{HasFewEvents}
-use Rattle.group_cluster.specs.Parts.{AreWithin, groups_of, noted}
+use Rattle.group_cluster.specs.Parts.{AreWithinLogs, groups_of, noted}
 use Rattle.group_cluster.specs.declared.groups.Part.{Part}
 use Rattle.group_cluster.proofs.Parted.{read-at, stepped, stepped-within}
 use Rattle.group_cluster.proofs.groups.ClusterEntries.step.Goals as goal
@@ -44,7 +44,7 @@ invariant_of-self-2 c =
     let many : c.in_ok-out.out.logged ≡ length (step (at (opening s) ws j) e).turn.logged = c.in_ok-out.ensures.logged
     ∙ ap (λ (w : World). length (step w e).turn.logged) second in
     let items : c.note.new.parts.items ≡ noted ps part = c.note.ensures ∙ ap (λ (xs : List Part). noted xs part) c.in_ok-reserve.ensures.items in
-    subst (λ (xs : List Part). AreWithin s (set ws j c.step.new.self) xs) (sym items)
+    subst (λ (xs : List Part). AreWithinLogs s (set ws j c.step.new.self) xs) (sym items)
     (stepped-within s ws ps j e c.step.new.self part low c.self.invariant made refl from many)
 
 pub returns-clause-moved : goal.returns-clause-moved

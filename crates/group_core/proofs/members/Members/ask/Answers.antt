@@ -2,7 +2,7 @@ use Rattle.std.proofs.Common.{◌≡◌, false, sym, subst}
 use Rattle.memc_table.specs.Act.{key_of}
 use Rattle.group_run.specs.Process.{Node}
 use Rattle.group_run.specs.World.{ask_node}
-use Rattle.head_service.specs.Acting.{name_of}
+use Rattle.head_service.specs.Acting.{name_of_call}
 use Rattle.group_node.proofs.Numbers.{all-low}
 use Rattle.group_core.specs.Seats.{IsKnownLow}
 use Rattle.group_core.proofs.Changed.{changed, own-node, same-seats, weaker}
@@ -22,7 +22,7 @@ returns-clause-step c =
     weaker c.ask.result (λ out is. changed c.args.self.now c.self.inside.shape c.self.inside.nodes.items c.self.view_is
     c.self.invariant c.args.at c.requires.process
     c.index_of-at.result c.index_of-at.ensures c.index_mut.result.now c.index_mut.ensures.value
-    (λ s n. ask_node s (name_of c.args.call) c.args.op.now n) c.ask.new.self out is) c.ask.ensures.step
+    (λ s n. ask_node s (name_of_call c.args.call) c.args.op.now n) c.ask.new.self out is) c.ask.ensures.step
 
 pub returns-clause-refusal : goal.returns-clause-refusal
 returns-clause-refusal c =

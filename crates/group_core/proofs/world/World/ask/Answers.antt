@@ -5,7 +5,7 @@ use Rattle.group_calls.specs.declared.event.Event.TheVariants.{Ask}
 use Rattle.group_run.specs.Headline.{MayCome}
 use Rattle.group_run.specs.World.{GroupStep, World, group_step, step}
 use Rattle.group_ledger.specs.Books.{Books, call_in}
-use Rattle.group_core.specs.Runs.{HasRun, group_of}
+use Rattle.group_core.specs.Runs.{HasRun, group_from}
 use Rattle.group_core.proofs.Stepped.{answer-is, once-logged, logged-is, run-on, settled-as, still-one, world-is}
 use Rattle.group_core.proofs.world.World.ask.Goals as goal
 
@@ -16,7 +16,7 @@ record-logged-requires-clause-room c =
     let b = c.reserve.new.self.books in
     let t = c.in_ok-turn.turn in
     let is = settled-as _ c.ask_next.new.self.nodes t.out.answer t.out.settled.items c.deref.result.now c.in_ok-turn.ensures.step c.deref.ensures.value in
-    let same = ap (group_of v) c.reserve.ensures.books ∙ c.self.view_is in
+    let same = ap (group_from v) c.reserve.ensures.books ∙ c.self.view_is in
     let few = c.most_asked-most.ensures c.args.caller c.args.op.now (omega (arith, c.in_ok-reserve.ensures.ok, c.in_ok-reserve.ensures.few)) in
     let here = ap (λ (g : GroupStep). length g.settled) is in
     let there = ap (λ (w : World). length (group_step w e).settled) same in
@@ -29,10 +29,10 @@ record-logged-requires-clause-once c =
     let b = c.reserve.new.self.books in
     let t = c.in_ok-turn.turn in
     let is = settled-as _ c.ask_next.new.self.nodes t.out.answer t.out.settled.items c.deref.result.now c.in_ok-turn.ensures.step c.deref.ensures.value in
-    let same = ap (group_of v) c.reserve.ensures.books ∙ c.self.view_is in
+    let same = ap (group_from v) c.reserve.ensures.books ∙ c.self.view_is in
     once-logged v c.ask_next.new.self b e t.out.answer c.deref.result.now (call_in b.asked t.call)
     (c.self.invariant.shape ∙ sym (ap (λ (x : Books). x.shape) c.reserve.ensures.books)) is c.in_ok-turn.ensures.call
-    (subst (λ (x : Books). HasRun (group_of v x)) (sym c.reserve.ensures.books) c.self.invariant.run)
+    (subst (λ (x : Books). HasRun (group_from v x)) (sym c.reserve.ensures.books) c.self.invariant.run)
     (subst (λ (w : World). MayCome w e) (sym same) c.requires.may)
 
 pub invariant_of-self-2 : goal.invariant_of-self-2
@@ -42,14 +42,14 @@ invariant_of-self-2 c =
     let b = c.reserve.new.self.books in
     let t = c.in_ok-turn.turn in
     let is = settled-as _ c.ask_next.new.self.nodes t.out.answer t.out.settled.items c.deref.result.now c.in_ok-turn.ensures.step c.deref.ensures.value in
-    let same = ap (group_of v) c.reserve.ensures.books ∙ c.self.view_is in
+    let same = ap (group_from v) c.reserve.ensures.books ∙ c.self.view_is in
     let one = c.self.invariant.shape ∙ sym (ap (λ (x : Books). x.shape) c.reserve.ensures.books) in
     record {
       shape = still-one v c.ask_next.new.self b e t.out.answer c.deref.result.now (call_in b.asked t.call) one is c.in_ok-turn.ensures.call
           c.record-logged.new.self.books c.record-logged.ensures.books c.in_ok-turn.ensures.shape;
       run = run-on v c.ask_next.new.self b e t.out.answer c.deref.result.now (call_in b.asked t.call) one is c.in_ok-turn.ensures.call
           c.record-logged.new.self.books c.record-logged.ensures.books c.in_ok-turn.ensures.shape
-          (subst (λ (x : Books). HasRun (group_of v x)) (sym c.reserve.ensures.books) c.self.invariant.run)
+          (subst (λ (x : Books). HasRun (group_from v x)) (sym c.reserve.ensures.books) c.self.invariant.run)
           (subst (λ (w : World). MayCome w e) (sym same) c.requires.may);
     }
 
@@ -60,7 +60,7 @@ returns-clause-world c =
     let b = c.reserve.new.self.books in
     let t = c.in_ok-turn.turn in
     let is = settled-as _ c.ask_next.new.self.nodes t.out.answer t.out.settled.items c.deref.result.now c.in_ok-turn.ensures.step c.deref.ensures.value in
-    let same = ap (group_of v) c.reserve.ensures.books ∙ c.self.view_is in
+    let same = ap (group_from v) c.reserve.ensures.books ∙ c.self.view_is in
     let one = c.self.invariant.shape ∙ sym (ap (λ (x : Books). x.shape) c.reserve.ensures.books) in
     world-is v c.ask_next.new.self b e t.out.answer c.deref.result.now (call_in b.asked t.call) one is c.in_ok-turn.ensures.call
     c.record-logged.new.self.books c.record-logged.ensures.books c.in_ok-turn.ensures.shape
@@ -73,7 +73,7 @@ returns-clause-answer c =
     let b = c.reserve.new.self.books in
     let t = c.in_ok-turn.turn in
     let is = settled-as _ c.ask_next.new.self.nodes t.out.answer t.out.settled.items c.deref.result.now c.in_ok-turn.ensures.step c.deref.ensures.value in
-    let same = ap (group_of v) c.reserve.ensures.books ∙ c.self.view_is in
+    let same = ap (group_from v) c.reserve.ensures.books ∙ c.self.view_is in
     let one = c.self.invariant.shape ∙ sym (ap (λ (x : Books). x.shape) c.reserve.ensures.books) in
     sym (answer-is v c.ask_next.new.self b e t.out.answer c.deref.result.now (call_in b.asked t.call) one is c.in_ok-turn.ensures.call)
     ∙ ap (λ (w : World). (step w e).turn.answer) same
@@ -85,7 +85,7 @@ returns-clause-logged c =
     let b = c.reserve.new.self.books in
     let t = c.in_ok-turn.turn in
     let is = settled-as _ c.ask_next.new.self.nodes t.out.answer t.out.settled.items c.deref.result.now c.in_ok-turn.ensures.step c.deref.ensures.value in
-    let same = ap (group_of v) c.reserve.ensures.books ∙ c.self.view_is in
+    let same = ap (group_from v) c.reserve.ensures.books ∙ c.self.view_is in
     let one = c.self.invariant.shape ∙ sym (ap (λ (x : Books). x.shape) c.reserve.ensures.books) in
     c.record-logged.ensures.logged
     ∙ ap (λ (es : List Entry). length es)

@@ -5,7 +5,7 @@ use Rattle.group_types.specs.Lists.{at}
 use Rattle.group_types.specs.Names.{process_at}
 use Rattle.group_run.specs.Draining.{node_at}
 use Rattle.group_run.specs.Process.{Node}
-use Rattle.group_run.specs.World.{World, node_of}
+use Rattle.group_run.specs.World.{World, process_node}
 use Rattle.group_core.proofs.Waiting.{idle-target, target-behind, target-here}
 use Rattle.group_core.proofs.world.World.next_target.Goals as goal
 
@@ -13,8 +13,8 @@ pub returns-then-is_idle-clause-target : goal.returns-then-is_idle-clause-target
 returns-then-is_idle-clause-target c =
     let w = c.args.self.now in
     let here : c.node.result.now.node ≡ node_at w c.args.from
-    = c.node.ensures.node ∙ ap (λ (v : World). node_of v c.process_at.result) c.self.view_is
-    ∙ ap (node_of w) (c.process_at.ensures.name ∙ ap (λ (s : Dimensions). process_at s c.args.from) c.shape-shape.ensures) in
+    = c.node.ensures.node ∙ ap (λ (v : World). process_node v c.process_at.result) c.self.view_is
+    ∙ ap (process_node w) (c.process_at.ensures.name ∙ ap (λ (s : Dimensions). process_at s c.args.from) c.shape-shape.ensures) in
     idle-target w c.args.from (λ y. ap (λ (n : Node). at [] n.links y) (sym here)
     ∙ c.is_idle.ensures.0 c.if-is_idle.true y) (range_with_len 0 (w.shape.k + w.shape.m))
 

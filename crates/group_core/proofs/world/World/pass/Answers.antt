@@ -3,7 +3,7 @@ use Rattle.group_calls.specs.declared.entry.Entry.{Entry}
 use Rattle.group_run.specs.Headline.{MayCome}
 use Rattle.group_run.specs.World.{World, call_of, step}
 use Rattle.group_ledger.specs.Books.{Books}
-use Rattle.group_core.specs.Runs.{HasRun, group_of}
+use Rattle.group_core.specs.Runs.{HasRun, group_from}
 use Rattle.group_core.proofs.Stepped.{answer-is, once-logged, logged-is, run-on, settled-as, still-one, world-is}
 use Rattle.group_core.proofs.world.World.pass.Goals as goal
 
@@ -13,11 +13,11 @@ record-logged-requires-clause-once c =
     let b = c.reserve.new.self.books in
     let out = c.in_ok-out.out in
     let is = settled-as _ c.pass.new.self.nodes out.answer out.settled.items c.deref.result.now c.in_ok-out.ensures.step c.deref.ensures.value in
-    let same = ap (group_of v) c.reserve.ensures.books ∙ c.self.view_is in
+    let same = ap (group_from v) c.reserve.ensures.books ∙ c.self.view_is in
     let no_call = subst (λ (w : World). call_of w c.args.event.now ≡ None) (sym same) c.requires.no_call in
     once-logged v c.pass.new.self b c.args.event.now out.answer c.deref.result.now None
     (c.self.invariant.shape ∙ sym (ap (λ (x : Books). x.shape) c.reserve.ensures.books)) is (sym no_call)
-    (subst (λ (x : Books). HasRun (group_of v x)) (sym c.reserve.ensures.books) c.self.invariant.run)
+    (subst (λ (x : Books). HasRun (group_from v x)) (sym c.reserve.ensures.books) c.self.invariant.run)
     (subst (λ (w : World). MayCome w c.args.event.now) (sym same) c.requires.may)
 
 pub invariant_of-self-2 : goal.invariant_of-self-2
@@ -26,7 +26,7 @@ invariant_of-self-2 c =
     let b = c.reserve.new.self.books in
     let out = c.in_ok-out.out in
     let is = settled-as _ c.pass.new.self.nodes out.answer out.settled.items c.deref.result.now c.in_ok-out.ensures.step c.deref.ensures.value in
-    let same = ap (group_of v) c.reserve.ensures.books ∙ c.self.view_is in
+    let same = ap (group_from v) c.reserve.ensures.books ∙ c.self.view_is in
     let no_call = subst (λ (w : World). call_of w c.args.event.now ≡ None) (sym same) c.requires.no_call in
     let one = c.self.invariant.shape ∙ sym (ap (λ (x : Books). x.shape) c.reserve.ensures.books) in
     record {
@@ -34,7 +34,7 @@ invariant_of-self-2 c =
           c.record-logged.new.self.books c.record-logged.ensures.books c.in_ok-out.ensures.shape;
       run = run-on v c.pass.new.self b c.args.event.now out.answer c.deref.result.now None one is (sym no_call)
           c.record-logged.new.self.books c.record-logged.ensures.books c.in_ok-out.ensures.shape
-          (subst (λ (x : Books). HasRun (group_of v x)) (sym c.reserve.ensures.books) c.self.invariant.run)
+          (subst (λ (x : Books). HasRun (group_from v x)) (sym c.reserve.ensures.books) c.self.invariant.run)
           (subst (λ (w : World). MayCome w c.args.event.now) (sym same) c.requires.may);
     }
 
@@ -44,7 +44,7 @@ returns-clause-world c =
     let b = c.reserve.new.self.books in
     let out = c.in_ok-out.out in
     let is = settled-as _ c.pass.new.self.nodes out.answer out.settled.items c.deref.result.now c.in_ok-out.ensures.step c.deref.ensures.value in
-    let same = ap (group_of v) c.reserve.ensures.books ∙ c.self.view_is in
+    let same = ap (group_from v) c.reserve.ensures.books ∙ c.self.view_is in
     let no_call = subst (λ (w : World). call_of w c.args.event.now ≡ None) (sym same) c.requires.no_call in
     let one = c.self.invariant.shape ∙ sym (ap (λ (x : Books). x.shape) c.reserve.ensures.books) in
     world-is v c.pass.new.self b c.args.event.now out.answer c.deref.result.now None one is (sym no_call)
@@ -57,7 +57,7 @@ returns-clause-answer c =
     let b = c.reserve.new.self.books in
     let out = c.in_ok-out.out in
     let is = settled-as _ c.pass.new.self.nodes out.answer out.settled.items c.deref.result.now c.in_ok-out.ensures.step c.deref.ensures.value in
-    let same = ap (group_of v) c.reserve.ensures.books ∙ c.self.view_is in
+    let same = ap (group_from v) c.reserve.ensures.books ∙ c.self.view_is in
     let no_call = subst (λ (w : World). call_of w c.args.event.now ≡ None) (sym same) c.requires.no_call in
     let one = c.self.invariant.shape ∙ sym (ap (λ (x : Books). x.shape) c.reserve.ensures.books) in
     sym (answer-is v c.pass.new.self b c.args.event.now out.answer c.deref.result.now None one is (sym no_call))
@@ -69,7 +69,7 @@ returns-clause-logged c =
     let b = c.reserve.new.self.books in
     let out = c.in_ok-out.out in
     let is = settled-as _ c.pass.new.self.nodes out.answer out.settled.items c.deref.result.now c.in_ok-out.ensures.step c.deref.ensures.value in
-    let same = ap (group_of v) c.reserve.ensures.books ∙ c.self.view_is in
+    let same = ap (group_from v) c.reserve.ensures.books ∙ c.self.view_is in
     let no_call = subst (λ (w : World). call_of w c.args.event.now ≡ None) (sym same) c.requires.no_call in
     let one = c.self.invariant.shape ∙ sym (ap (λ (x : Books). x.shape) c.reserve.ensures.books) in
     c.record-logged.ensures.logged

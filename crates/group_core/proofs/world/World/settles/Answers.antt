@@ -1,7 +1,7 @@
 use Rattle.std.proofs.Common.{◌≤◌, ℕ, ◌+◌, suc, length, sym, ap, subst, ◌∙◌, arith}
 use Rattle.group_calls.specs.declared.event.Event.{Event}
 use Rattle.group_run.specs.Process.{Node}
-use Rattle.group_run.specs.World.{World, group_step, node_of}
+use Rattle.group_run.specs.World.{World, group_step, process_node}
 use Rattle.law_answers.specs.Steps.{waiting}
 use Rattle.group_core.proofs.Settles.{capped, collect-settles, delivery-settles, fail-settles, flush-settles, trace-settles}
 use Rattle.group_core.proofs.world.World.settles.Goals as goal
@@ -19,7 +19,7 @@ pub returns-in-Deliver : goal.returns-in-Deliver
 returns-in-Deliver c less =
     let w = c.args.self.now in
     let n : ℕ = waiting c.node.result.now.node.process.replicas in
-    let here = c.node.ensures.node ∙ ap (λ (v : World). node_of v c.in-Deliver.to) c.self.view_is in
+    let here = c.node.ensures.node ∙ ap (λ (v : World). process_node v c.in-Deliver.to) c.self.view_is in
     let few = subst (λ (e : Event). length (group_step w e).settled ≤ n) (sym c.in-Deliver.is)
     (delivery-settles w n c.in-Deliver.from c.in-Deliver.to (ap (λ (x : Node). waiting x.process.replicas) here)) in
     capped n c.waiting.result (length (group_step w c.args.event.now).settled) c.waiting.ensures (omega (arith, few)) less

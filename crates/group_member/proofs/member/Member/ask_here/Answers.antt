@@ -8,7 +8,7 @@ use Rattle.group_member.specs.Acting.{Acts}
 use Rattle.group_member.specs.Callers.{OwnCaller, ask_for, ask_of, asked_of, caller_of, with_caller}
 use Rattle.group_member.specs.Standing.{Member}
 use Rattle.group_member.specs.Telling.{told_for}
-use Rattle.group_member.specs.Treating.{CanAskHere, sent_here, settled_by, treat_node}
+use Rattle.group_member.specs.Treating.{CanAskHere, sent_here, settled_at_request, treat_node}
 use Rattle.group_member.proofs.Afterwards.{asks-as, asks-settled, asks-whole}
 use Rattle.group_member.proofs.Here.{IsTo, has-gateway, own-has, told-caller}
 use Rattle.group_member.proofs.Sent.{state_asked}
@@ -57,7 +57,7 @@ returns-clause-settled c =
     let can = subst (λ (old : Member). CanAskHere old caller) (sym c.self.view_is) c.requires in
     let step : (r : Request) → ask_of n.callers caller ≡ Some r → treat_node n.node.shape r n.node.node ≡ t =
     λ r is. c.in_ok-out.ensures.step r (ap (λ (s : OwnCaller). ask_for caller s.next s.call) c.caller-2.ensures ∙ is) in
-    subst (λ (old : Member). c.in_ok-out.out.settled.items ≡ settled_by old.words.shape old.node.process (ask_of old.callers caller)) c.self.view_is
+    subst (λ (old : Member). c.in_ok-out.out.settled.items ≡ settled_at_request old.words.shape old.node.process (ask_of old.callers caller)) c.self.view_is
     (asks-settled v n.node.shape c.self.invariant caller t c.told_for-told.result c.pinged.result c.ask.new.self
     c.tell_any.new.callers c.pinged.ensures c.tell_any.ensures.callers
     can.call step)

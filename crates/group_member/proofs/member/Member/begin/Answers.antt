@@ -1,6 +1,6 @@
 use Rattle.std.proofs.Common.{◌<◌, [], ◌∷◌, sym, subst}
 use Rattle.std.specs.Prelude.{All, Some, Option}
-use Rattle.memc_table.specs.Act.{value_of}
+use Rattle.memc_table.specs.Act.{act_value}
 use Rattle.memc_table.specs.declared.act.Act.{Act}
 use Rattle.group_wire.specs.Actions.{Begin}
 use Rattle.group_wire.specs.State.{Unasked, OpenCall}
@@ -24,7 +24,7 @@ returns-clause-acts c =
     let n = c.self.inside in
     let v : Member = record { words = n.words; signs = n.signs; callers = n.callers; parked = n.parked.items; node = n.node.node } in
     let can = subst (λ (old : Member). IsFree old.callers c.args.caller) (sym c.self.view_is) c.requires in
-    let bytes : All (λ b. b < 256) (value_of c.args.op.act) = subst (λ (a : Act). All (λ b. b < 256) (value_of a)) c.act.ensures c.values_are_bytes.ensures in
+    let bytes : All (λ b. b < 256) (act_value c.args.op.act) = subst (λ (a : Act). All (λ b. b < 256) (act_value a)) c.act.ensures c.values_are_bytes.ensures in
     subst (λ (old : Member). Acts (Begin c.args.caller c.args.op ∷ []) old (record v { callers = c.begin.new.self })) c.self.view_is
     (subst (λ (now : OwnCallers). Acts (Begin c.args.caller c.args.op ∷ []) v (record v { callers = now })) (sym c.begin.ensures)
     (begin-acts v c.args.caller c.args.op can bytes))

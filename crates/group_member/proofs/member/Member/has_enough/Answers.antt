@@ -1,6 +1,6 @@
 use Rattle.std.proofs.Common.{rules, ℕ, ◌≡◌, ◌↔◌, ◌≤◌, ◌+◌, IsTrue, leb, sym, ap, subst, ◌∙◌, arith}
 use Rattle.group_types.specs.Dimensions.{Dimensions}
-use Rattle.membership.specs.Members.{lost_of}
+use Rattle.membership.specs.Members.{count_known_dead}
 use Rattle.group_wire.specs.Sets.{size_of}
 use Rattle.group_member.specs.Showing.{own_answerers}
 use Rattle.group_member.specs.Standing.{Member}
@@ -20,7 +20,7 @@ returns c =
     let over = c.all-test.false in
     let upto = c.all.auto.x-end in
     let end : c.all.x ≡ w.shape.k + w.shape.m = omega (arith, over, upto, k, m) in
-    let many : c.all.many ≡ size_of w.shape (own_answerers w v c.args.ping) + lost_of w.taken =
+    let many : c.all.many ≡ size_of w.shape (own_answerers w v c.args.ping) + count_known_dead w.taken =
     c.all.invariant.count ∙ ap (known_below w v c.args.ping) end ∙ all_known w v c.args.ping words in
     let both : IsTrue (leb c.m-2.result c.all.many) ↔ (c.m-2.result ≤ c.all.many) = search rules in
     (λ yes. let low = both.0 yes in omega (arith, low, many, last), λ enough. both.1 (omega (arith, enough, many, last)))

@@ -1,7 +1,7 @@
 use Rattle.std.proofs.Common.{◌↔◌, nat_lt, IsTrue, sym, subst, ◌∙◌}
 use Rattle.group_types.specs.Dimensions.{Dimensions}
 use Rattle.memc_table.specs.Act.{key_of}
-use Rattle.head_service.specs.Acting.{name_of}
+use Rattle.head_service.specs.Acting.{name_of_call}
 use Rattle.group_node.specs.Asking.{HasNumbers, HasOpened}
 use Rattle.group_node.specs.Standing.{NodeStanding}
 use Rattle.group_node.proofs.Numbers.{opened-word}
@@ -19,20 +19,20 @@ ask-requires-clause-numbers c =
 pub send_all-requires-clause-few : goal.send_all-requires-clause-few
 send_all-requires-clause-few c =
     few-asked c.self.inside.shape c.self.inside.process.shape c.self.inside.process.process c.ask.new.self.process
-    (name_of c.args.call) c.args.op.now c.in_ok-step.step
+    (name_of_call c.args.call) c.args.op.now c.in_ok-step.step
     c.sends_few.ensures c.make_room.ensures.shape c.self.invariant.shape c.in_ok-step.ensures.step
 
 pub returns-clause-refusal : goal.returns-clause-refusal
 returns-clause-refusal c = λ refused.
     let n = c.self.inside in
-    refused-stays n.shape n.process.shape (name_of c.args.call) c.args.op.now n.process c.ask.new.self n.links
+    refused-stays n.shape n.process.shape (name_of_call c.args.call) c.args.op.now n.process c.ask.new.self n.links
     c.make_room.new.links c.send_all.new.links c.known.result c.in_ok-step.step n.dead n.down
     c.self.invariant.shape c.self.invariant.many c.in_ok-step.ensures.step refused c.make_room.ensures.messages c.send_all.ensures.messages ∙ c.self.view_is
 
 pub returns-clause-stays : goal.returns-clause-stays
 returns-clause-stays c = λ nothing.
     let n = c.self.inside in
-    unmade-stays n.shape n.process.shape (name_of c.args.call) c.args.op.now n.process c.ask.new.self n.links
+    unmade-stays n.shape n.process.shape (name_of_call c.args.call) c.args.op.now n.process c.ask.new.self n.links
     c.make_room.new.links c.send_all.new.links c.known.result c.in_ok-step.step n.dead n.down
     c.self.invariant.shape c.self.invariant.many c.in_ok-step.ensures.step nothing c.make_room.ensures.messages c.send_all.ensures.messages ∙ c.self.view_is
 

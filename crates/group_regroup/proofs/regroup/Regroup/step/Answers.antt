@@ -6,7 +6,7 @@ use Rattle.group_eras.specs.Eras.{Eras, era_step}
 use Rattle.group_regroup.specs.declared.changing.Lowered.{Lowered}
 use Rattle.group_eras.specs.Told.{event_in}
 use Rattle.group_eras.specs.Promise.{IsLed}
-use Rattle.group_regroup.specs.Kept.{eras_of, lowered_by, noted}
+use Rattle.group_regroup.specs.Kept.{eras_of, lowered_by, lowered_until}
 use Rattle.group_regroup.proofs.Led.{led-made}
 use Rattle.group_regroup.proofs.Moving.{eras-step, kept-step}
 use Rattle.group_regroup.proofs.regroup.Regroup.step.Goals as goal
@@ -25,13 +25,14 @@ invariant_of-self-2 c =
       kept =
           kept-step w c.make.new.world bases [] c.self.inside.lowered.items c.note.new.list.items e (length c.log.result.now) c.in_ok-lowered.lowered
           c.self.invariant.kept stepped lowered (ap length c.log.ensures.log)
-          (c.note.ensures ∙ ap (λ (xs : List Lowered). noted xs c.in_ok-lowered.lowered (length c.log.result.now)) c.reserve.ensures.items);
+          (c.note.ensures ∙ ap (λ (xs : List Lowered). lowered_until xs c.in_ok-lowered.lowered (length c.log.result.now)) c.reserve.ensures.items);
       led = led-made c.args.self.now (eras_of c.make.new.world bases past c.note.new.list.items) e
           (subst IsLed c.self.view_is c.self.invariant.led) c.requires.may (
           eras-step w c.make.new.world bases (map (λ log. log.items) c.self.inside.past.items)
           c.self.inside.lowered.items c.note.new.list.items e (length c.log.result.now) c.in_ok-lowered.lowered
           c.self.invariant.kept stepped lowered (ap length c.log.ensures.log)
-          (c.note.ensures ∙ ap (λ (xs : List Lowered). noted xs c.in_ok-lowered.lowered (length c.log.result.now)) c.reserve.ensures.items) c.run.ensures
+          (c.note.ensures ∙ ap (λ (xs : List Lowered). lowered_until xs c.in_ok-lowered.lowered (length c.log.result.now)) c.reserve.ensures.items)
+          c.run.ensures
           ∙ ap (λ (x : Eras). (era_step x e).eras) c.self.view_is);
     }
 
@@ -47,5 +48,5 @@ returns-clause-eras c =
     eras-step w c.make.new.world bases (map (λ log. log.items) c.self.inside.past.items) c.self.inside.lowered.items
     c.note.new.list.items e (length c.log.result.now) c.in_ok-lowered.lowered
     c.self.invariant.kept stepped lowered (ap length c.log.ensures.log)
-    (c.note.ensures ∙ ap (λ (xs : List Lowered). noted xs c.in_ok-lowered.lowered (length c.log.result.now)) c.reserve.ensures.items) c.run.ensures
+    (c.note.ensures ∙ ap (λ (xs : List Lowered). lowered_until xs c.in_ok-lowered.lowered (length c.log.result.now)) c.reserve.ensures.items) c.run.ensures
     ∙ ap (λ (x : Eras). (era_step x e).eras) c.self.view_is

@@ -1,6 +1,6 @@
 use Rattle.std.proofs.Common.{◌<◌, ℕ, subst}
 use Rattle.std.specs.Prelude.{All}
-use Rattle.memc_table.specs.Act.{key_of, value_of}
+use Rattle.memc_table.specs.Act.{act_value, key_of}
 use Rattle.memc_table.specs.declared.act.Act.{Act}
 use Rattle.group_calls.specs.declared.event.Event.TheVariants.{Ask}
 use Rattle.group_node.proofs.Numbers.{all-low}
@@ -31,7 +31,7 @@ finish-requires-clause-can g c =
     can-finish c.args.self.now.plan v (Ask c.args.call.caller c.args.op.now q) p q c.args.seat.now.me.1 c.in-Some.node
     c.ask.new.self c.in-Ok.out.answer c.take_first.new.seat.me c.requires.ready c.requires.shape
     held (ask-one v.shape v c.args.call.caller c.args.op.now q c.requires.caller c.requires.own
-    (subst (λ (x : Act). All (λ b. b < 256) (value_of x)) c.act.ensures c.values_are_bytes.ensures) held.inside)
+    (subst (λ (x : Act). All (λ b. b < 256) (act_value x)) c.act.ensures c.values_are_bytes.ensures) held.inside)
     (ask-treats v p c.args.call.caller c.args.call.number c.args.op.now q c.in-Some.node c.ask.new.self c.in-Ok.out
     c.requires.own c.requires.number held.inside held.here c.in-Ok.ensures.shape c.in-Ok.ensures.step)
 
@@ -46,7 +46,7 @@ returns-in-Ok-clause-ended g c =
     made-ended v (Ask c.args.call.caller c.args.op.now q) p q c.args.seat.now.me.1 c.in-Some.node c.ask.new.self
     c.in-Ok.out.answer c.take_first.new.seat.me c.finish.new.seat.me c.requires.ready
     held (ask-one v.shape v c.args.call.caller c.args.op.now q c.requires.caller c.requires.own
-    (subst (λ (x : Act). All (λ b. b < 256) (value_of x)) c.act.ensures c.values_are_bytes.ensures) held.inside)
+    (subst (λ (x : Act). All (λ b. b < 256) (act_value x)) c.act.ensures c.values_are_bytes.ensures) held.inside)
     (ask-treats v p c.args.call.caller c.args.call.number c.args.op.now q c.in-Some.node c.ask.new.self c.in-Ok.out
     c.requires.own c.requires.number held.inside held.here c.in-Ok.ensures.shape c.in-Ok.ensures.step)
     c.finish.ensures.finished

@@ -1,9 +1,9 @@
 use Rattle.std.proofs.Common.{◌≡◌, ℕ, List, [], ◌∷◌, ◌++◌, length, map, ap, subst, ◌∙◌, arith, length-append}
 use Rattle.group_node.specs.Standing.{NodeStanding}
-use Rattle.group_stage.specs.Kept.{IsWhole}
+use Rattle.group_stage.specs.Kept.{IsWholeSchedule}
 use Rattle.group_stage.specs.Seated.{view_of}
 use Rattle.group_stage.specs.Steps.{Sat}
-use Rattle.group_stage.specs.Views.{joined}
+use Rattle.group_stage.specs.Views.{joined_views}
 use Rattle.group_stage.specs.declared.seat.Seat.{Seat}
 use Rattle.group_stage.specs.declared.view.View.{View}
 use Rattle.group_stage.proofs.Gathering.{first-whole, front-of, next-whole}
@@ -28,7 +28,7 @@ seats-init c =
       idle = ap (λ (r : _). r.me.0.held) raw ∙ first.is_seat.idle;
       of_stage = both.0;
       whole = λ es whole. first-whole c.args.self.now.plan.shape c.args.seats.seats c.take.new.self.seats first is es
-          (subst (λ (v : View). IsWhole c.args.self.now.plan.shape es (v ∷ map view_of c.take.new.self.seats)) (ap (λ (r : _). r.me.0) raw) whole);
+          (subst (λ (v : View). IsWholeSchedule c.args.self.now.plan.shape es (v ∷ map view_of c.take.new.self.seats)) (ap (λ (r : _). r.me.0) raw) whole);
     }
 
 pub join_seat-requires : goal.join_seat-requires
@@ -55,8 +55,8 @@ seats-preserved c =
     let i = c.seats.invariant in
     let both = front-of c.args.self.now c.seats.rest.seats c.take-in-seats.new.self.seats seat is i.of_stage in
     let raw = c.into_raw.ensures in
-    let view : c.join_seat.new.seat.me.0 ≡ joined c.seats.all.me.0 (view_of seat) =
-    ap (λ (m : Sat). m.0) c.join_seat.ensures.2 ∙ ap (λ (r : _). joined c.seats.all.me.0 r.me.0) raw in
+    let view : c.join_seat.new.seat.me.0 ≡ joined_views c.seats.all.me.0 (view_of seat) =
+    ap (λ (m : Sat). m.0) c.join_seat.ensures.2 ∙ ap (λ (r : _). joined_views c.seats.all.me.0 r.me.0) raw in
     let sum = ap (λ (v : View). v.parts) view in
     let one = seat.is_seat.part in
     let many = ap (λ (l : List Seat). length l) is in

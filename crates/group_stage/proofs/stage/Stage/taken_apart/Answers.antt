@@ -3,7 +3,7 @@ use Rattle.std.specs.Slots.{slots_items}
 use Rattle.group_types.specs.Dimensions.{processes_of}
 use Rattle.group_calls.specs.declared.event.Event.{Event}
 use Rattle.group_stage.specs.Closed.{HasClosed}
-use Rattle.group_stage.specs.Kept.{IsWhole}
+use Rattle.group_stage.specs.Kept.{IsWholeSchedule}
 use Rattle.group_stage.specs.Seated.{view_of}
 use Rattle.group_stage.specs.declared.view.Plan.{Plan}
 use Rattle.group_stage.proofs.Gathering.{has-closed, there}
@@ -31,5 +31,5 @@ returns c =
     (slots_items c.close_with.result.slots) fin.4 seats c.take_nodes.result.nodes
     (c.take_nodes.ensures.many ∙ ap (λ (k : Plan). processes_of k.shape) (sym c.args.self.key_is))
     (λ p y low is. c.take_nodes.ensures.nodes p y (subst (λ (k : Plan). p < processes_of k.shape) c.args.self.key_is low) is)
-    (subst (λ (k : Plan). (es : List Event) → IsWhole k.shape es (c.args.seat.me.0 ∷ [])
-    → IsWhole k.shape es (map view_of seats)) (sym c.args.self.key_is) whole))
+    (subst (λ (k : Plan). (es : List Event) → IsWholeSchedule k.shape es (c.args.seat.me.0 ∷ [])
+    → IsWholeSchedule k.shape es (map view_of seats)) (sym c.args.self.key_is) whole))

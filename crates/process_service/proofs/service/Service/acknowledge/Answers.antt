@@ -6,7 +6,7 @@ use Rattle.group_run.specs.Applying.{head_at}
 use Rattle.group_run.specs.Heading as machine
 use Rattle.group_run.specs.Process.{Head, Process}
 use Rattle.group_run.specs.Replica.{empty_replica, last_of}
-use Rattle.head_service.specs.Laws.{Heads}
+use Rattle.head_service.specs.Laws.{HeadsPartition}
 use Rattle.head_service.specs.Peers.{settles}
 use Rattle.head_service.specs.Serving.{Serving, serving}
 use Rattle.process_service.specs.Standing.{is_under}
@@ -23,7 +23,7 @@ module _ (g : given.Over) (c : goal.After-acknowledge-arg-in-Some-1 g) where
   lent : IsLent c.self.inside c.args.self.now c.args.partition.0 c.index_mut-in-Some.result.now
   lent = record { place = record { view = c.self.view_is; kept = c.self.invariant; below = c.requires.partition }; entry = c.index_mut-in-Some.ensures.value }
 
-  heads-are : Heads c.args.self.now c.args.partition.0 c.in-Some.head c.index_mut-in-Some.result.now.replica
+  heads-are : HeadsPartition c.args.self.now c.args.partition.0 c.in-Some.head c.index_mut-in-Some.result.now.replica
   heads-are = heads-as lent c.in-Some.head (head-at lent.place c.index_mut.result.now c.index_mut.ensures.value ∙ c.in-Some.is)
 
   same-rank : (c.args.rank.0 == c.in-Some.head.rank) ≡ true

@@ -11,17 +11,17 @@ use Rattle.group_calls.specs.Turns.{CallName}
 use Rattle.group_run.specs.Deciding.{decide}
 use Rattle.group_run.specs.Process.{Head, Held, Process}
 use Rattle.group_run.specs.Replica.{Replica, empty_replica, last_of}
-use Rattle.partition_replica.specs.State.{IsTidyBut, State}
-use Rattle.head_service.specs.Acting.{IsMade, acts, decision_of, name_of}
+use Rattle.partition_replica.specs.State.{IsTidyBut, ReplicaState}
+use Rattle.head_service.specs.Acting.{IsMade, acts, decision_of, name_of_call}
 use Rattle.head_service.specs.Beneath.{found_in}
-use Rattle.head_service.specs.Laws.{Heads}
+use Rattle.head_service.specs.Laws.{HeadsPartition}
 use Rattle.head_service.specs.Paging.{DecisionMisses, MakesNoneOf}
 use Rattle.head_service.proofs.Paging.{makes-none}
 use Rattle.head_service.specs.Serving.{Serving, serving}
 use Rattle.head_service.specs.Wanting.{MayWant}
 use Rattle.head_service.specs.declared.peers.Peers.{Peers}
 use Rattle.process_service.specs.Paging.{CallMisses}
-use Rattle.process_service.specs.Steps.{IsAsked}
+use Rattle.process_service.specs.Steps.{IsCallAsked}
 use Rattle.process_service.specs.Wanting.{AskWants}
 use Rattle.process_service.proofs.Asked.{asked-at, moved}
 use Rattle.process_service.proofs.Lent.{HasPlace, IsLent, counts, grows-over, head-at, here, heads-as, lends, narrow}
@@ -52,7 +52,7 @@ module _ (g : given.Over) (c : goal.After-ask-arg-1 g) where
     entry = c.index_mut.ensures.value;
   }
 
-  heads-are : Heads c.args.self.now d c.in-Some.head c.index_mut.result.now.replica
+  heads-are : HeadsPartition c.args.self.now d c.in-Some.head c.index_mut.result.now.replica
   heads-are = heads-as lent c.in-Some.head (head-at lent.place c.index.result.now c.index.ensures ∙ c.in-Some.is)
 
   has_held : d < length c.self.inside.held.items
@@ -87,9 +87,9 @@ invariant_of-self g c =
       ranks_long = c.self.invariant.ranks_long;
       heads_long = c.self.invariant.heads_long;
       held_long = long-set c.self.inside.held.items c.home-partition.result.0 c.ask.new.held ∙ c.self.invariant.held_long;
-      shapes = All-set (λ (x : State). x.shape ≡ c.self.inside.shape) c.self.inside.replicas.items c.home-partition.result.0 c.ask.new.replica
+      shapes = All-set (λ (x : ReplicaState). x.shape ≡ c.self.inside.shape) c.self.inside.replicas.items c.home-partition.result.0 c.ask.new.replica
           (shape-after (lent g e) c.requires.beneath c.ask.new.replica c.ask.ensures.seat c.ask.ensures.makes.shape) c.self.invariant.shapes;
-      tidy = All-set (λ (x : State). IsTidyBut x (λ _. false)) c.self.inside.replicas.items c.home-partition.result.0
+      tidy = All-set (λ (x : ReplicaState). IsTidyBut x (λ _. false)) c.self.inside.replicas.items c.home-partition.result.0
           c.ask.new.replica c.ask.ensures.seat.tidy c.self.invariant.tidy;
       acks = c.self.invariant.acks;
     }
@@ -102,7 +102,7 @@ returns-in-None-clause-asked g c =
     let home : c.home-partition.result.0 ≡ home_of (key_of c.args.op.now.act) c.args.self.now.shape.k
     = c.home-partition.ensures.value ∙ home-same c.key.result.now c.act.result.now c.args.op.now.act c.k.result
     c.args.self.now.shape.k c.key.ensures c.act.ensures (c.k.ensures.value ∙ wide) in
-    moved c.args.self.now.shape (name_of c.args.call) c.args.op.now (serving c.args.self.now (g.B.Beneath.storage c.args.below.now).process) c.only.result
+    moved c.args.self.now.shape (name_of_call c.args.call) c.args.op.now (serving c.args.self.now (g.B.Beneath.storage c.args.below.now).process) c.only.result
     (ap (at None c.args.self.now.heads) (sym home) ∙ head-at place c.index.result.now c.index.ensures ∙ c.in-None.is)
     c.only.ensures.answer c.only.ensures.sent c.only.ensures.settled
 
@@ -119,7 +119,7 @@ module _ (g : given.Over) (c : goal.After-self-in-Some-1 g) where
       ∙ ap (λ (w : Serving). put [] w.held (d g e) c.ask.new.held.items) c.self.view_is
 
   kept : AreKept (g.B.Beneath.storage c.args.below.now).process (g.B.Beneath.storage c.ask.new.below).process
-  kept = made-kept c.index_mut.result.now.shape (d g e) c.peers-peers.result c.in-Some.head (name_of c.args.call) c.args.op.now c.index_mut.result.now
+  kept = made-kept c.index_mut.result.now.shape (d g e) c.peers-peers.result c.in-Some.head (name_of_call c.args.call) c.args.op.now c.index_mut.result.now
       c.index_mut-in-Some.result.now.items (g.B.Beneath.storage c.args.below.now) (g.B.Beneath.storage c.ask.new.below)
       (decision_of (d g e) c.in-Some.head c.args.op.now c.index_mut.result.now (g.B.Beneath.storage c.args.below.now))
       (omega (arith, (lent g e).place.below, c.requires.beneath.blocks)) c.ask.result c.ask.new.replica
@@ -134,18 +134,18 @@ returns-in-Some-clause-asked g c = on-ok c.ask.result (λ asked made.
     let b : Process = (g.B.Beneath.storage c.args.below.now).process in
     let peers : Peers = c.peers-peers.result in
     let h : Head = c.in-Some.head in
-    let name : CallName = name_of c.args.call in
+    let name : CallName = name_of_call c.args.call in
     let b2 : Process = (g.B.Beneath.storage c.ask.new.below).process in
     let r2 : Replica = c.ask.new.replica.replica in
     let same : c.index_mut.result.now.shape ≡ s = same-shape (lent g f) ∙ ap (λ (x : Serving). x.shape) c.self.view_is ∙ sym c.requires.beneath.shape in
     let home : d g f ≡ home_of (key_of c.args.op.now.act) s.k
     = c.home-partition.ensures.value ∙ home-same c.key.result.now c.act.result.now c.args.op.now.act c.k.result s.k c.key.ensures c.act.ensures
     (c.k.ensures.value ∙ ap (λ (x : Serving). x.shape.k) c.self.view_is ∙ sym (ap (λ (x : Dimensions). x.k) c.requires.beneath.shape)) in
-    subst (λ (x : Dimensions). IsAsked x name c.args.op.now (serving v b) asked
+    subst (λ (x : Dimensions). IsCallAsked x name c.args.op.now (serving v b) asked
     (serving (record (written (lent g f) c.ask.new.replica) { held = held g c }) b2)) c.requires.beneath.shape
-    (subst (λ (w : Serving). IsAsked s name c.args.op.now (serving v b) asked
+    (subst (λ (w : Serving). IsCallAsked s name c.args.op.now (serving v b) asked
     (serving (record w { held = held g c }) b2)) (sym (put-back (lent g f) c.ask.new.replica))
-    (subst (λ (hs : List (List Held)). IsAsked s name c.args.op.now (serving v b) asked
+    (subst (λ (hs : List (List Held)). IsCallAsked s name c.args.op.now (serving v b) asked
     (serving (record v { replicas = put empty_replica v.replicas (d g f) r2; held = hs }) b2)) (sym (held-put g c))
     (asked-at s v b peers h r name c.args.op.now (d g f) home
     (peers-are c.requires.beneath peers c.peers-peers.ensures.m c.peers-peers.ensures.name c.peers-peers.ensures.known)

@@ -7,7 +7,7 @@ use Rattle.group_run.specs.Applying.{Sent}
 use Rattle.group_run.specs.Process.{Head}
 use Rattle.group_run.specs.Replica.{Replica, empty_replica}
 use Rattle.head_service.specs.Serving.{Serving}
-use Rattle.process_service.specs.Noticing.{adoption_if, adoptions, bereaved, heir_at, heir_if, heirs, is_due, is_taken}
+use Rattle.process_service.specs.Noticing.{adoption_if, adoptions, bereaved, heir_at, heir_if, heirs, is_due, is_taken_over}
 use Rattle.process_service.proofs.Each.{range-front}
 use Rattle.process_service.proofs.service.Service.prepare.Goals as goal
 
@@ -20,12 +20,12 @@ partitions-preserved c =
     let wide : c.self.inside.shape.k ≡ c.args.self.now.shape.k = ap (λ (w : Serving). w.shape.k) c.self.view_is in
     let below : d < k = grind (arith, common_steps) in
     let rest : List ℕ = range_with_len (d + 1) (k - (d + 1)) in
-    let due : c.is_due-due.result ≡ is_taken v d
+    let due : c.is_due-due.result ≡ is_taken_over v d
     = c.is_due-due.ensures ∙ ap (λ (x : Membership). is_due x v.name d (at None v.heads d)) c.partitions.invariant.known in
     let head : c.in_ok-head.head ≡ heir_at v d = c.in_ok-head.ensures ∙ ap (λ (x : Bool). heir_if x v.shape v.name r) due in
-    let told : adoption_if c.is_due-due.result v.shape c.fail.new.self v.name d r ≡ adoption_if (is_taken v d) v.shape v.known v.name d r
+    let told : adoption_if c.is_due-due.result v.shape c.fail.new.self v.name d r ≡ adoption_if (is_taken_over v d) v.shape v.known v.name d r
     = ap (λ (x : Bool). adoption_if x v.shape c.fail.new.self v.name d r) due
-    ∙ ap (λ (x : Membership). adoption_if (is_taken v d) v.shape x v.name d r) c.partitions.invariant.known in
+    ∙ ap (λ (x : Membership). adoption_if (is_taken_over v d) v.shape x v.name d r) c.partitions.invariant.known in
     record {
       known = c.partitions.invariant.known;
       kept = c.partitions.invariant.kept;

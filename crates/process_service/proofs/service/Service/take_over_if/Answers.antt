@@ -5,7 +5,7 @@ use Rattle.group_types.specs.Dimensions.{Dimensions}
 use Rattle.group_run.specs.Process.{Head, Process}
 use Rattle.group_run.specs.Receiving.{take_over_if}
 use Rattle.group_run.specs.Replica.{last_of}
-use Rattle.partition_replica.specs.State.{IsTidyBut, State}
+use Rattle.partition_replica.specs.State.{IsTidyBut, ReplicaState}
 use Rattle.head_service.specs.Peers.{settles}
 use Rattle.head_service.specs.Serving.{Serving, serving}
 use Rattle.process_service.specs.Noticing.{heir_at}
@@ -48,10 +48,10 @@ invariant_of-self g c =
       ranks_long = long-set c.self.inside.ranks.items d c.rank.result ∙ c.self.invariant.ranks_long;
       heads_long = long-set c.self.inside.heads.items d (Some c.in-Some.head) ∙ c.self.invariant.heads_long;
       held_long = c.self.invariant.held_long;
-      shapes = All-set (λ (x : State). x.shape ≡ c.self.inside.shape) c.self.inside.replicas.items d c.judge.new.replica
+      shapes = All-set (λ (x : ReplicaState). x.shape ≡ c.self.inside.shape) c.self.inside.replicas.items d c.judge.new.replica
           (shape-after (lent g f) c.requires.beneath c.judge.new.replica c.judge.ensures.seat
           c.judge.ensures.stays.shape) c.self.invariant.shapes;
-      tidy = All-set (λ (x : State). IsTidyBut x (λ _. false)) c.self.inside.replicas.items d c.judge.new.replica
+      tidy = All-set (λ (x : ReplicaState). IsTidyBut x (λ _. false)) c.self.inside.replicas.items d c.judge.new.replica
           c.judge.ensures.seat.tidy c.self.invariant.tidy;
       acks = All-set (λ (x : Option Head). IfSome x (λ h. length h.acks ≡ c.self.inside.shape.m)) c.self.inside.heads.items d (Some c.in-Some.head)
           (heir-long c.args.self.now d c.in-Some.head (heir-is g f) ∙ sym (ap (λ (w : Serving). w.shape.m) c.self.view_is)) c.self.invariant.acks;

@@ -3,7 +3,7 @@ use Rattle.std.proofs.lemmas.List.Elements.{All-push}
 use Rattle.std.proofs.lemmas.List.{length-replicate}
 use Rattle.group_run.specs.Process.{Copy}
 use Rattle.group_run.specs.Rows.{copy_in}
-use Rattle.row_copies.specs.Row.{HaveOneEach, IsWhole, Row, unmarked}
+use Rattle.row_copies.specs.Row.{HaveOneEach, IsWholeCopy, Row, unmarked}
 use Rattle.row_copies.proofs.Each.{each-push}
 use Rattle.row_copies.proofs.rows.Rows.begin.Goals as goal
 
@@ -22,7 +22,7 @@ invariant_of-self c =
     }) marks in
     let items : c.push.new.self.items ≡ c.self.inside.copies.items ++ copy ∷ [] = c.in-Ok.ensures.items
     ∙ ap (λ (x : Copy). c.self.inside.copies.items ++ x ∷ []) is in
-    let one : IsWhole c.self.inside.shape copy = record {
+    let one : IsWholeCopy c.self.inside.shape copy = record {
       leader = subst (λ (r : Row). c.args.leader < r.shape.m) (sym c.self.view_is) c.requires.leader;
       block = subst (λ (r : Row). c.args.block < r.shape.blocks) (sym c.self.view_is) c.requires.block;
       bytes = subst (λ (r : Row). length c.args.bytes ≡ r.shape.block) (sym c.self.view_is) c.requires.bytes;
@@ -32,8 +32,8 @@ invariant_of-self c =
       record {
         number = c.self.invariant.0.number;
         leaders = c.self.invariant.0.leaders;
-        whole = subst (All (IsWhole c.self.inside.shape)) (sym items)
-            (All-push (IsWhole c.self.inside.shape) c.self.inside.copies.items copy c.self.invariant.0.whole one);
+        whole = subst (All (IsWholeCopy c.self.inside.shape)) (sym items)
+            (All-push (IsWholeCopy c.self.inside.shape) c.self.inside.copies.items copy c.self.invariant.0.whole one);
         each = subst HaveOneEach (sym items) (each-push c.self.inside.copies.items copy c.self.invariant.0.each absent);
       },
       omega (arith, c.self.invariant.1, c.in-Ok.ensures.len, c.in-Ok.ensures.capacity, c.requires.room),

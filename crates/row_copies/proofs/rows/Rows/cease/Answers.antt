@@ -3,7 +3,7 @@ use Rattle.std.proofs.lemmas.List.{length-set}
 use Rattle.std.proofs.lemmas.List.Elements.{All-filter}
 use Rattle.group_types.proofs.Lists.{at_index}
 use Rattle.group_run.specs.Process.{Copy}
-use Rattle.row_copies.specs.Row.{HaveOneEach, IsWhole, Row}
+use Rattle.row_copies.specs.Row.{HaveOneEach, IsWholeCopy, Row}
 use Rattle.row_copies.proofs.Ceased.{state_ceased}
 use Rattle.row_copies.proofs.Each.{each-filter}
 use Rattle.row_copies.proofs.rows.Rows.cease.Goals as goal
@@ -13,9 +13,9 @@ invariant_of-self c = (
   record {
     number = c.self.invariant.0.number;
     leaders = length-set c.self.inside.ceased.items c.args.leader c.max.result ∙ c.self.invariant.0.leaders;
-    whole = subst (All (IsWhole c.self.inside.shape)) (sym c.cease.ensures.copies)
+    whole = subst (All (IsWholeCopy c.self.inside.shape)) (sym c.cease.ensures.copies)
         (All-filter (λ (x : Copy). not (x.leader == c.args.leader && nat_le x.number c.args.upto))
-        (IsWhole c.self.inside.shape) c.self.inside.copies.items c.self.invariant.0.whole);
+        (IsWholeCopy c.self.inside.shape) c.self.inside.copies.items c.self.invariant.0.whole);
     each = subst HaveOneEach (sym c.cease.ensures.copies)
         (each-filter (λ (x : Copy). not (x.leader == c.args.leader && nat_le x.number c.args.upto))
         c.self.inside.copies.items c.self.invariant.0.each);

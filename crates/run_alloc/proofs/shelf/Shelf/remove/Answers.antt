@@ -1,5 +1,5 @@
 use Rattle.std.proofs.Common.{◌∙◌, arith}
-use Rattle.run_alloc.specs.Order.{rank_of}
+use Rattle.run_alloc.specs.Order.{order_key}
 use Rattle.run_alloc.proofs.Laid.{even-few, shelf_rises}
 use Rattle.run_alloc.proofs.shelf.Shelf.remove.Goals as goal
 
@@ -7,10 +7,10 @@ pub settle-requires-clause-stocked : goal.settle-requires-clause-stocked
 settle-requires-clause-stocked c = omega (arith, even-few c.self.inside.chunks.items c.self.invariant.even, c.self.invariant.room)
 
 pub returns-clause-rises_still : goal.returns-clause-rises_still
-returns-clause-rises_still c = shelf_rises (rank_of c.self.inside.order) c.settle.new.chunks.items c.settle.ensures.laid
+returns-clause-rises_still c = shelf_rises (order_key c.self.inside.order) c.settle.new.chunks.items c.settle.ensures.laid
     (c.settle.ensures.starts ∙ c.pull_from-place.ensures.starts)
 
 pub returns-clause-rises : goal.returns-clause-rises
 returns-clause-rises c =
-    rw (← c.self.view_is) (shelf_rises (rank_of c.self.inside.order) c.self.inside.chunks.items c.self.invariant.laid
+    rw (← c.self.view_is) (shelf_rises (order_key c.self.inside.order) c.self.inside.chunks.items c.self.invariant.laid
     c.self.invariant.starts)
