@@ -1,4 +1,4 @@
-ghost use Rattle.std.specs.Prelude.{[], ◌≡◌, ◌<◌, ◌^◌, IfOk, OnErr, option_copied};
+ghost use Rattle.std.specs.Prelude.{[], ◌≡◌, ◌<◌, ◌^◌, IfOk, OnErr};
 ghost use Rattle.group_types.specs.Dimensions.{space_of};
 ghost use Rattle.memc_table.specs.Act.{key_of};
 ghost use Rattle.group_calls.specs.declared.decision.Decision.{Decision};
@@ -151,8 +151,8 @@ fn next(
 }
 
 // The run that an update gives back: that of the item which it replaces or removes, and none of a touch.
-fn freed(body: &Body, item: Option<&Slot>) -> Option<Run>
-    ensures { result ≡ freed_by body.now (option_copied item.entry) }
+fn freed(body: &Body, item: Option<Slot>) -> Option<Run>
+    ensures { result ≡ freed_by body.now item }
 {
     match (body, item) {
         (Body::Touch { .. }, _) | (_, None) => None,

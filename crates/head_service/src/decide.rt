@@ -79,7 +79,7 @@ fn item(replica: &Replica, op: &Op) -> Option<Slot>
     ensures item { result ≡ slot_in replica.now.replica.items (key_of op.now.act) }
     ensures inside { IfSome result (λ slot. slot.at + slot.len ≤ space_of replica.now.shape) }
 {
-    replica.item(op.act().key()).copied()
+    replica.item(op.act().key())
 }
 
 // Nobody looks at the bytes of the item, so that none will do as well.

@@ -1,2 +1,3 @@
 pub mod AsMap
 pub mod Keys
+pub mod Places

@@ -3,25 +3,27 @@
 //! ready key without memory. What a slot refers to is left to the caller.
 #![tactic(auto)]
 
-ghost use Rattle.std.specs.Prelude.{true, ◌≡◌, [], IsTrue, IsSome, IfOk, IsOk, OnOk, OnErr, option_copied, ◌||◌, ◌&&◌, not, is_some, Some, None, if◌then◌else◌};
+ghost use Rattle.std.specs.Prelude.{true, ◌≡◌, [], IsTrue, IsSome, IfOk, IsOk, OnOk, OnErr, ◌||◌, ◌&&◌, not, is_some, Some, None, if◌then◌else◌};
 ghost use Rattle.std.specs.List.{IsDistinct};
 ghost use Rattle.std.specs.Map.{keys_of};
 ghost use Rattle.item_index.specs.Keys.{entry_slot, is_ready, entry_count, IsListing, CopiesEqual};
 
 use indexmap::IndexMap;
 pub use list::SlotList;
+use place::Place;
 pub use slot::Slot;
 use std::alloc::{AllocError, Global};
 use std::hash::Hash;
 use std::marker::Model;
 
 mod list;
+mod place;
 mod slot;
 
 /// Items by key. A key that has an entry is ready.
 #[derive(Debug, Drop)]
 pub struct Index<K: Eq + Hash> {
-    slots: IndexMap<K, Option<Slot>>,
+    slots: IndexMap<K, Place>,
     alloc: Global,
 }
 
@@ -46,10 +48,10 @@ impl<K: Eq + Hash + Clone> Index<K> {
     }
 
     /// The entry of the key.
-    pub fn get(&self, key: &K) -> Option<&Slot>
-        ensures { option_copied result ≡ entry_slot K.eq self.now key.now }
+    pub fn get(&self, key: &K) -> Option<Slot>
+        ensures { result ≡ entry_slot K.eq self.now key.now }
     {
-        self.slots.get(key)?.as_ref()
+        self.slots.get(key)?.slot()
     }
 
     /// Makes the key ready.
@@ -61,7 +63,7 @@ impl<K: Eq + Hash + Clone> Index<K> {
         ensures succeeds { is_ready K.eq self.old key.now ≡ true → IsOk result }
     {
         if !self.slots.contains_key(key) {
-            self.slots.insert(key.clone()?, None)?;
+            self.slots.insert(key.clone()?, Place::empty())?;
         }
         Ok(())
     }
@@ -73,7 +75,7 @@ impl<K: Eq + Hash + Clone> Index<K> {
         ensures ready { (q : K) → is_ready K.eq self.new q ≡ is_ready K.eq self.old q }
     {
         match self.slots.get_mut(key) {
-            Some(place) => *place = Some(slot),
+            Some(place) => *place = Place::of(slot),
             None => unreachable!(),
         }
     }
@@ -84,7 +86,7 @@ impl<K: Eq + Hash + Clone> Index<K> {
         ensures ready { (q : K) → is_ready K.eq self.new q ≡ is_ready K.eq self.old q }
     {
         if let Some(place) = self.slots.get_mut(key) {
-            *place = None;
+            *place = Place::empty();
         }
     }
 
@@ -104,7 +106,10 @@ impl<K: Eq + Hash + Clone> Index<K> {
         ensures count { result ≡ entry_count self.now }
         ensures once { IsDistinct K.eq (keys_of self.now) }
     {
-        self.slots.iter().filter(|(_, slot)| slot.is_some()).count()
+        self.slots
+            .iter()
+            .filter(|(_, place)| place.is_some())
+            .count()
     }
 
     /// A copy of all entries.
@@ -113,9 +118,9 @@ impl<K: Eq + Hash + Clone> Index<K> {
         ensures { IfOk result (IsListing K.eq self.now) }
     {
         let mut pairs = Vec::new(self.alloc);
-        'pairs: for (key, slot) in self.slots.iter() {
-            if let Some(slot) = slot {
-                pairs.push((key.clone()?, *slot))?;
+        'pairs: for (key, place) in self.slots.iter() {
+            if let Some(slot) = place.slot() {
+                pairs.push((key.clone()?, slot))?;
             }
         }
         Ok(SlotList::new(pairs))

@@ -40,7 +40,7 @@ fn shows(
     entries: [Option<Slot>; 2],
     count: usize,
 ) {
-    let found = [index.get(keys[0]).copied(), index.get(keys[1]).copied()];
+    let found = [index.get(keys[0]), index.get(keys[1])];
     same(rt, found, entries);
     let listed = index.entries().expect(rt, "entries").as_slice().len();
     same(rt, (index.count(), listed), (count, count));

@@ -122,7 +122,7 @@ fn slot(at: u32, len: u32, cas: u64, until: Option<u64>) -> Slot {
 }
 
 fn settles(rt: &impl Abort, alloc: Global, replica: &mut Replica, key: &Key, row: Expected) {
-    let before = replica.item(key).copied();
+    let before = replica.item(key);
     let outcome = receive(rt, alloc, replica, key, row.call, row.step);
     let waiting = (before, Some(row.number), true);
     shows(rt, replica, key, row.call, waiting, row.waiting);
@@ -147,7 +147,7 @@ fn shows(
     wanted: (Option<Slot>, Option<u64>, bool),
     run: Run,
 ) {
-    let item = replica.item(key).copied();
+    let item = replica.item(key);
     let found = (item, replica.unfinished(key), replica.waits(3, call));
     same(rt, found, wanted);
     same(rt, longest(replica), Some(run));

@@ -63,7 +63,7 @@ fn touch(index: &mut Index<Key>, key: &Key, until: Option<u64>)
     ensures ready { ready_in index.new ≡ ready_in index.old }
 {
     if let Some(slot) = index.get(key) {
-        let slot = Slot { until, ..*slot };
+        let slot = Slot { until, ..slot };
         index.put(key, slot);
     }
 }

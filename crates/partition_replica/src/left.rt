@@ -1,5 +1,5 @@
 // Runs of items that updates leave on a key, and that they give back.
-ghost use Rattle.std.specs.Prelude.{◌≡◌, option_copied, true};
+ghost use Rattle.std.specs.Prelude.{◌≡◌, true};
 ghost use Rattle.std.specs.Option.{option_map};
 ghost use Rattle.group_types.specs.Lists.{same_key};
 ghost use Rattle.group_run.specs.Replica.{run_in};
@@ -10,8 +10,8 @@ use group_types::{Key, Run};
 use item_index::Slot;
 
 /// The run of an item, if there is one.
-pub fn run_in(item: Option<&Slot>) -> Option<Run>
-    ensures { result ≡ option_map run_in (option_copied item.entry) }
+pub fn run_in(item: Option<Slot>) -> Option<Run>
+    ensures { result ≡ option_map run_in item }
 {
     let slot = item?;
     Some(Run {

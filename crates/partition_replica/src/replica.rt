@@ -1,4 +1,4 @@
-ghost use Rattle.std.specs.Prelude.{◌≡◌, ◌+◌, ◌<◌, ◌≤◌, ◌==◌, ◌&&◌, false, None, All, IfOk, IfSome, option_copied};
+ghost use Rattle.std.specs.Prelude.{◌≡◌, ◌+◌, ◌<◌, ◌≤◌, ◌==◌, ◌&&◌, false, None, All, IfOk, IfSome};
 ghost use Rattle.group_types.specs.Dimensions.{space_of};
 ghost use Rattle.run_alloc.specs.Free.{AllFree};
 ghost use Rattle.group_run.specs.Free.{is_free, place_for};
@@ -80,9 +80,9 @@ impl Replica {
     }
 
     /// The settled item on a key.
-    pub fn item(&self, key: &Key) -> Option<&Slot>
-        ensures item { option_copied result ≡ slot_in self.now.replica.items key.now }
-        ensures inside { IfSome result (λ slot. slot.now.at + slot.now.len ≤ space_of self.now.shape) }
+    pub fn item(&self, key: &Key) -> Option<Slot>
+        ensures item { result ≡ slot_in self.now.replica.items key.now }
+        ensures inside { IfSome result (λ slot. slot.at + slot.len ≤ space_of self.now.shape) }
     {
         self.index.get(key)
     }

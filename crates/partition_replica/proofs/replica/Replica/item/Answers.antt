@@ -1,15 +1,10 @@
-use Rattle.std.proofs.Common.{◌+◌, ◌≤◌, ℕ, Option, Some, None, Bor, IfSome, option_copied, sym, subst, ◌∙◌}
+use Rattle.std.proofs.Common.{◌+◌, ◌≤◌, Option, IfSome, sym, subst, ◌∙◌}
 use Rattle.group_types.specs.Dimensions.{space_of}
 use Rattle.item_index.specs.declared.slot.Slot.{Slot}
 use Rattle.partition_replica.specs.Inside.{replica_in}
 use Rattle.partition_replica.proofs.Keys.{slot_in-items_in}
 use Rattle.partition_replica.proofs.Sound.{item_inside}
 use Rattle.partition_replica.proofs.replica.Replica.item.Goals as goal
-
-lent : (space : ℕ) (found : Option (Bor Slot)) → IfSome (option_copied found) (λ slot. slot.at + slot.len ≤ space)
-    → IfSome found (λ slot. slot.now.at + slot.now.len ≤ space)
-lent space None inside = tt
-lent space (Some slot) inside = inside
 
 pub returns : goal.returns
 returns c =
@@ -18,6 +13,6 @@ returns c =
     let space = space_of c.self.inside.shape in
     rw (← c.self.view_is) (record {
       item = found;
-      inside = lent space c.get.result (subst (λ (s : Option Slot). IfSome s (λ slot. slot.at + slot.len ≤ space))
-          (sym found) (item_inside space replica c.self.invariant.sound c.args.key.now));
+      inside = subst (λ (s : Option Slot). IfSome s (λ slot. slot.at + slot.len ≤ space))
+          (sym found) (item_inside space replica c.self.invariant.sound c.args.key.now);
     })
