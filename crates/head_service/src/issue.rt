@@ -142,7 +142,7 @@ impl Prepared {
             update,
             stable: applied,
         };
-        let mut sent = Vec::new(alloc);
+        let mut sent = Vec::with_capacity(alloc, peers.m as usize)?;
         peers.tell(head.rank(), partition, &news, &mut sent)?;
         Ok(Prepared {
             sent,

@@ -18,7 +18,7 @@ pub fn ack_to(
 ) -> Result<Vec<Sent>, AllocError>
     ensures { IfOk result (λ sent. sent.items ≡ record { to = head; message = tells.Ack rank partition number } ∷ []) }
 {
-    let mut sent = Vec::new(alloc);
+    let mut sent = Vec::with_capacity(alloc, 1)?;
     sent.push(Sent {
         to: head,
         message: Message::Ack {
