@@ -25,7 +25,7 @@ use Rattle.group_run.specs.Shown.{is_down}
 use Rattle.group_types.specs.Each.{Each, EachTwo}
 use Rattle.group_types.proofs.Eaches.{each-append}
 use Rattle.law_log.proofs.Ties.{NamesDiffer}
-use Rattle.law_progress.specs.Ends.{IsDelivery}
+use Rattle.group_run.specs.Causes.{IsDelivery}
 use Rattle.law_progress.proofs.Whole.{next-comes}
 use Rattle.world_caller.specs.Calling.{EventsBring, IsEvent, IsFirstOrOwn, IsOwnStep, due, next_of_ask, next_of_collect}
 use Rattle.world_caller.proofs.Delivering.{due-first}

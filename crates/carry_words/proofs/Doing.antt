@@ -8,7 +8,7 @@ use Rattle.std.specs.Option.{is_none}
 use Rattle.std.specs.Prelude.{slice_set, min, ◌+◌, ◌-◌, ◌^◌}
 use Rattle.std.specs.Str.{bytes_eq}
 use Rattle.group_types.specs.Each.{Each}
-use Rattle.carry_words.specs.Carrying.{Carrying, are_free, failed, heard_at, is_done, is_free, listed_at, met, place_at, settled, with_place}
+use Rattle.carry_words.specs.Carrying.{Carrying, are_free, failed, heard_at, is_done, is_free_place, listed_at, met, place_at, settled, with_place}
 use Rattle.carry_words.specs.Courses.{by_stage, course_of, goes, has_ended, most_behind}
 use Rattle.carry_words.specs.Done.{DoneMeansCarried, Event, Ends, Hears, IsCarried, IsGone, LeavesPlace, Lists, Nothing, Then, after, step}
 use Rattle.carry_words.specs.declared.course.CarryFault.{CarryFault}
@@ -35,7 +35,7 @@ met-failed : (now at : ℕ) (h : Heard) (place : Option Transfer) (c : Carrying)
 met-failed now at h None c is = refl
 met-failed now at h (Some t) c is = settled-failed at (course_of now t h) c is
 
-listed-failed : (at : ℕ) (item : Listed) (c : Carrying) (free : Bool) → is_free at c.places ≡ free
+listed-failed : (at : ℕ) (item : Listed) (c : Carrying) (free : Bool) → is_free_place at c.places ≡ free
     → is_none c.fault ≡ false → is_none (listed_at at item c).fault ≡ false
 listed-failed at item c true free is =
     ap (λ (b : Bool). is_none (if b then with_place at (Some (record { item = item; stage = Unread })) c else failed
@@ -45,7 +45,7 @@ listed-failed at item c false free is =
     fault.Misplaced c).fault) free
 
 step-failed : (c : Carrying) (e : Event) → is_none c.fault ≡ false → is_none (step c e).fault ≡ false
-step-failed c (Lists at item) is = listed-failed at item c (is_free at c.places) refl is
+step-failed c (Lists at item) is = listed-failed at item c (is_free_place at c.places) refl is
 step-failed c Ends is = is
 step-failed c (Hears now at h) is = met-failed now at h (place_at at c.places) (with_place at None c) is
 
@@ -198,7 +198,7 @@ hears es follows c now at item (Stored value) heard.Refused is done = again es f
 
 lists : (es : List Event) → Follows es → (c : Carrying) (at other : ℕ) (item i : Listed) (stage : Stage)
     → place_at at c.places ≡ Some (record { item = item; stage = stage })
-    → (free : Bool) → is_free other c.places ≡ free → is_done (after (listed_at other i c) es) ≡ true → Owes at item stage (Lists other i ∷ es)
+    → (free : Bool) → is_free_place other c.places ≡ free → is_done (after (listed_at other i c) es) ≡ true → Owes at item stage (Lists other i ∷ es)
 lists es follows c at other item i stage is true free done =
     owes-more at item stage (Lists other i) es (lists-leaves at other i apart)
     (follows (with_place other new c) at item stage (at-other at other c.places new apart ∙ is) listed) where
@@ -206,7 +206,7 @@ lists es follows c at other item i stage is true free done =
       new = Some (record { item = i; stage = Unread })
 
       apart : at ≢ other
-      apart same = taken-not-free at c.places (record { item = item; stage = stage }) is (ap (λ (n : ℕ). is_free n c.places) same ∙ free)
+      apart same = taken-not-free at c.places (record { item = item; stage = stage }) is (ap (λ (n : ℕ). is_free_place n c.places) same ∙ free)
 
       listed : is_done (after (with_place other new c) es) ≡ true
       listed = subst (λ (b : Bool). is_done (after (if b then with_place other new c else failed fault.Misplaced c) es) ≡ true) free done
@@ -237,16 +237,16 @@ follows : (es : List Event) (c : Carrying) (at : ℕ) (item : Listed) (stage : S
 follows [] c at item stage is done =
     absurd (not-free at c.places (record { item = item; stage = stage }) is
     (both (is_none c.fault) (are_free c.places) (both (c.lists == 0) (is_none c.fault && are_free c.places) done)))
-follows (Lists other i ∷ es) c at item stage is done = lists es (follows es) c at other item i stage is (is_free other c.places) refl done
+follows (Lists other i ∷ es) c at item stage is done = lists es (follows es) c at other item i stage is (is_free_place other c.places) refl done
 follows (Ends ∷ es) c at item stage is done = owes-more at item stage Ends es (ends-leaves at) (follows es (step c Ends) at item stage is done)
 follows (Hears now other h ∷ es) c at item stage is done = heard-any es (follows es) c now at other item stage h is (nat_eq at other) refl done
 
 -- an item that was just listed
 
-at-listed : (at : ℕ) (c : Carrying) (place : Option Transfer) → is_free at c.places ≡ true → place_at at (slice_set c.places at place) ≡ place
+at-listed : (at : ℕ) (c : Carrying) (place : Option Transfer) → is_free_place at c.places ≡ true → place_at at (slice_set c.places at place) ≡ place
 at-listed at c place free = get_or-set_same c.places at place None (free-within at c.places free)
 
-just-listed : (es : List Event) (c : Carrying) (at : ℕ) (item : Listed) (free : Bool) → is_free at c.places ≡ free
+just-listed : (es : List Event) (c : Carrying) (at : ℕ) (item : Listed) (free : Bool) → is_free_place at c.places ≡ free
     → is_done (after (listed_at at item c) es) ≡ true → IsCarried at es ⊎ IsGone at item es
 just-listed es c at item true free done = follows es (with_place at new c) at item Unread (at-listed at c new free) listed where
   new : Option Transfer
@@ -265,7 +265,7 @@ after-append [] later c = refl
 after-append (e ∷ es) later c = after-append es later (step c e)
 
 pub done_means_carried : DoneMeansCarried
-done_means_carried c before later at item done = just-listed later now at item (is_free at now.places) refl
+done_means_carried c before later at item done = just-listed later now at item (is_free_place at now.places) refl
     (sym (ap (λ (d : Carrying). is_done d) (after-append before (Lists at item ∷ later) c)) ∙ done) where
       now : Carrying
       now = after c before

@@ -5,7 +5,7 @@ use Rattle.std.proofs.lemmas.List.{get_or-map, length-map}
 use Rattle.std.specs.List.{list_any, list_all}
 use Rattle.std.specs.Str.{bytes_eq}
 use Rattle.memc_table.specs.Numeral.{number_of}
-use Rattle.carry_words.specs.Standing.{HasNumberLine, has_line, is_at_rest, is_settled, lines_of}
+use Rattle.carry_words.specs.Standing.{HasNumberLine, has_line, is_at_rest, is_settled, status_lines}
 
 pub any_lines : (text : List ℕ) (lines : List (Bor (List ℕ))) → list_any (λ line. bytes_eq line.now text) lines ≡ has_line (map (λ line. line.now) lines) text
 any_lines text [] = refl
@@ -16,7 +16,7 @@ all_lines [] = refl
 all_lines (line ∷ lines) = ap (λ b. is_settled line.now && b) (all_lines lines)
 
 -- what the lines are found to say is what the status says
-pub at_rest : (status : List ℕ) (lines : List (Bor (List ℕ))) (closed still settled : Bool) → map (λ line. line.now) lines ≡ lines_of status
+pub at_rest : (status : List ℕ) (lines : List (Bor (List ℕ))) (closed still settled : Bool) → map (λ line. line.now) lines ≡ status_lines status
     → closed ≡ list_any (λ line. bytes_eq line.now (codes "closed 1")) lines → still ≡ list_any (λ line. bytes_eq line.now (codes "changing 0")) lines
     → settled ≡ list_all (λ line. is_settled line.now) lines → (closed && (still && settled)) ≡ is_at_rest status
 at_rest status lines closed still settled are for_closed for_still for_settled =
@@ -28,16 +28,16 @@ at_rest status lines closed still settled are for_closed for_still for_settled =
     (has_line (map (λ (line : Bor (List ℕ)). line.now) lines) (codes "changing 0") && c))
     (for_settled ∙ all_lines lines))
 
-pub not_closed : (status : List ℕ) (lines : List (Bor (List ℕ))) → map (λ line. line.now) lines ≡ lines_of status
+pub not_closed : (status : List ℕ) (lines : List (Bor (List ℕ))) → map (λ line. line.now) lines ≡ status_lines status
     → false ≡ list_any (λ line. bytes_eq line.now (codes "closed 1")) lines → false ≡ is_at_rest status
 not_closed status lines are closed = at_rest status lines false _ _ are closed refl refl
 
-pub not_still : (status : List ℕ) (lines : List (Bor (List ℕ))) → map (λ line. line.now) lines ≡ lines_of status
+pub not_still : (status : List ℕ) (lines : List (Bor (List ℕ))) → map (λ line. line.now) lines ≡ status_lines status
     → true ≡ list_any (λ line. bytes_eq line.now (codes "closed 1")) lines → false ≡ list_any (λ line. bytes_eq line.now (codes "changing 0")) lines
     → false ≡ is_at_rest status
 not_still status lines are closed still = at_rest status lines true false _ are closed still refl
 
-pub still : (status : List ℕ) (lines : List (Bor (List ℕ))) (settled : Bool) → map (λ line. line.now) lines ≡ lines_of status
+pub still : (status : List ℕ) (lines : List (Bor (List ℕ))) (settled : Bool) → map (λ line. line.now) lines ≡ status_lines status
     → true ≡ list_any (λ line. bytes_eq line.now (codes "closed 1")) lines → true ≡ list_any (λ line. bytes_eq line.now (codes "changing 0")) lines
     → settled ≡ list_all (λ line. is_settled line.now) lines → settled ≡ is_at_rest status
 still status lines settled are closed is_still for_settled = at_rest status lines true true settled are closed is_still for_settled

@@ -4,7 +4,7 @@ use Rattle.std.proofs.Common.{Option, Some, None, refl, sym, ap, ◌∙◌, arit
 use Rattle.std.proofs.lemmas.Bool.{ltb-true}
 use Rattle.std.specs.Option.{is_none}
 use Rattle.std.specs.Prelude.{slice_set}
-use Rattle.carry_words.specs.Carrying.{are_free, is_free, place_at}
+use Rattle.carry_words.specs.Carrying.{are_free, is_free_place, place_at}
 use Rattle.carry_words.specs.declared.transfer.Transfer.{Transfer}
 
 -- what is written where an item is stands there
@@ -47,7 +47,7 @@ none-of None t is none = absurd (cc is)
 none-of (Some u) t is none = absurd (cc none)
 
 -- and it isn't free
-pub taken-not-free : (at : ℕ) (places : List (Option Transfer)) (t : Transfer) → place_at at places ≡ Some t → is_free at places ≡ true → ⊥
+pub taken-not-free : (at : ℕ) (places : List (Option Transfer)) (t : Transfer) → place_at at places ≡ Some t → is_free_place at places ≡ true → ⊥
 taken-not-free at places t is free = none-of (place_at at places) t is (both _ (is_none (place_at at places)) free)
 
 front : (a b : Bool) → a && b ≡ true → a ≡ true
@@ -55,5 +55,5 @@ front true b is = refl
 front false b is = absurd (cc is)
 
 -- a free place is among them
-pub free-within : (at : ℕ) (places : List (Option Transfer)) → is_free at places ≡ true → at < length places
+pub free-within : (at : ℕ) (places : List (Option Transfer)) → is_free_place at places ≡ true → at < length places
 free-within at places free = ltb-true at (length places) (front (nat_lt at (length places)) (is_none (place_at at places)) free)

@@ -28,8 +28,8 @@ abbrev pub place_at : ℕ → List (Option Transfer) → Option Transfer
 place_at at places = slice_index_or places at None
 
 -- there is such a place, and no item at it
-abbrev pub is_free : ℕ → List (Option Transfer) → Bool
-is_free at places = nat_lt at (length places) && is_none (place_at at places)
+abbrev pub is_free_place : ℕ → List (Option Transfer) → Bool
+is_free_place at places = nat_lt at (length places) && is_none (place_at at places)
 
 abbrev pub are_free : List (Option Transfer) → Bool
 are_free places = list_all is_none places
@@ -46,7 +46,7 @@ next n = min (n + 1) (2 ^ 64 - 1)
 
 -- an item was listed, and has this place
 abbrev pub listed_at : ℕ → Listed → Carrying → Carrying
-listed_at at item c = if is_free at c.places then with_place at (Some (record { item = item; stage = Unread })) c else failed Misplaced c
+listed_at at item c = if is_free_place at c.places then with_place at (Some (record { item = item; stage = Unread })) c else failed Misplaced c
 
 -- a list was read to its end
 abbrev pub listed_out : Carrying → Carrying

@@ -5,8 +5,8 @@ use Rattle.std.specs.List.{slice_split, list_any, list_all, starts_with, ends_wi
 use Rattle.std.specs.Str.{bytes_eq}
 use Rattle.memc_table.specs.Numeral.{number_of}
 
-abbrev pub lines_of : List ℕ → List (List ℕ)
-lines_of status = slice_split (λ b. b == 10) status
+abbrev pub status_lines : List ℕ → List (List ℕ)
+status_lines status = slice_split (λ b. b == 10) status
 
 -- one of the lines is this text
 abbrev pub has_line : List (List ℕ) → List ℕ → Bool
@@ -19,7 +19,7 @@ is_settled line = not (starts_with nat_eq line (codes "unfinished ")) || ends_wi
 -- the member is closed, no call is open there that may change an item, and no update is unfinished in a partition that it heads
 abbrev pub is_at_rest : List ℕ → Bool
 is_at_rest status =
-    has_line (lines_of status) (codes "closed 1") && (has_line (lines_of status) (codes "changing 0") && list_all is_settled (lines_of status))
+    has_line (status_lines status) (codes "closed 1") && (has_line (status_lines status) (codes "changing 0") && list_all is_settled (status_lines status))
 
 abbrev pub base_front : ℕ → List ℕ
 base_front partition = codes "base " ++ (decimal partition ++ codes " ")
@@ -32,4 +32,4 @@ pub record HasNumberLine (lines : List (List ℕ)) (front : List ℕ) (n : ℕ) 
 
 -- the status tells this base of a partition
 abbrev pub TellsBase : List ℕ → ℕ → ℕ → Type 0
-TellsBase status partition base = HasNumberLine (lines_of status) (base_front partition) base
+TellsBase status partition base = HasNumberLine (status_lines status) (base_front partition) base

@@ -1,5 +1,5 @@
 ghost use Rattle.std.specs.Prelude.{◌≡◌, None, Some, replicate, slice_set, option_copied, IfOk};
-ghost use Rattle.carry_words.specs.Carrying.{are_free, is_free, place_at};
+ghost use Rattle.carry_words.specs.Carrying.{are_free, is_free_place, place_at};
 
 use crate::transfer::Transfer;
 use std::alloc::{AllocError, Global};
@@ -27,7 +27,7 @@ pub(crate) fn transfer_at(places: &[Option<Transfer>], at: usize) -> Option<&Tra
 
 /// Whether there is such a place, and no item at it.
 pub(crate) fn is_free(places: &[Option<Transfer>], at: usize) -> bool
-    ensures { result ≡ is_free at places.now }
+    ensures { result ≡ is_free_place at places.now }
 {
     at < places.len() && places[at].is_none()
 }

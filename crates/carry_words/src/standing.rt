@@ -1,7 +1,7 @@
 ghost use Rattle.std.specs.Prelude.{◌≡◌, map, IfOk, IfSome};
 ghost use Rattle.std.specs.List.{list_all, list_any};
 ghost use Rattle.std.specs.Str.{bytes_eq};
-ghost use Rattle.carry_words.specs.Standing.{is_at_rest, is_settled, lines_of, HasNumberLine, TellsBase};
+ghost use Rattle.carry_words.specs.Standing.{is_at_rest, is_settled, status_lines, HasNumberLine, TellsBase};
 
 use memc_table::numeral::number;
 use std::alloc::{AllocError, Global};
@@ -32,7 +32,7 @@ pub fn base_at(alloc: Global, status: &[u8], partition: u64) -> Result<Option<u6
 
 /// The lines of a status.
 fn lines_of(alloc: Global, status: &[u8]) -> Result<Vec<&[u8]>, AllocError>
-    ensures { IfOk result (λ lines. map (λ line. line.now) lines.items ≡ lines_of status.now) }
+    ensures { IfOk result (λ lines. map (λ line. line.now) lines.items ≡ status_lines status.now) }
 {
     status.split(|byte| *byte == b'\n').collect(alloc)
 }

@@ -18,7 +18,7 @@ use Rattle.group_cluster.specs.Plan.{Plan}
 use Rattle.scenario_run.proofs.Draining.{Lightens, burden, lightens, next-delivers}
 use Rattle.scenario_play.proofs.Delivering.{draining-down, draining-up, none-left, one-left}
 use Rattle.cluster_run.specs.Led.{IsLedTo}
-use Rattle.cluster_run.specs.Playing.{ClusterTurn, all_deliveries, cluster_log_of, deliveries, deliveries_in, drained_text, turns_from}
+use Rattle.cluster_run.specs.Playing.{ClusterTurn, all_deliveries, cluster_log_of, cluster_turns_from, deliveries, deliveries_in, drained_text}
 use Rattle.cluster_run.specs.Texts.{cluster_entries_text, cluster_entry_text}
 use Rattle.cluster_run.proofs.Draining.{Delivered, delivered, group-drains}
 use Rattle.cluster_run.proofs.Leading.{after-append, led-even, led-group, led-on, one-leads, turns-append}
@@ -31,12 +31,12 @@ entries-append (x ∷ a) b = ap (λ (ys : List ℕ). cluster_entry_text x ++ 10 
 
 -- what events write that they log
 abbrev pub written_by : Cluster → List ClusterEvent → List ℕ
-written_by c es = cluster_entries_text (cluster_log_of (turns_from c es))
+written_by c es = cluster_entries_text (cluster_log_of (cluster_turns_from c es))
 
 written-more : (c : Cluster) (e : ClusterEvent) (es : List ClusterEvent)
     → written_by c (e ∷ es) ≡ cluster_entries_text (logged_in (cluster_step c e).turns)
     ++ written_by (cluster_step c e).cluster es
-written-more c e es = entries-append (logged_in (cluster_step c e).turns) (cluster_log_of (turns_from (cluster_step c e).cluster es))
+written-more c e es = entries-append (logged_in (cluster_step c e).turns) (cluster_log_of (cluster_turns_from (cluster_step c e).cluster es))
 
 -- deliveries of a group, as events of its cluster
 abbrev pub ours : ℕ → List Event → List ClusterEvent
@@ -184,8 +184,8 @@ log-append (t ∷ ts) us = ap (λ (xs : List ClusterEntry). logged_in t.turns ++
 written-append : (c : Cluster) (es fs : List ClusterEvent) → written_by c (es ++ fs) ≡ written_by c es ++ written_by (cluster_after c es) fs
 written-append c es fs =
     ap (λ (ts : List ClusterTurn). cluster_entries_text (cluster_log_of ts)) (turns-append c es fs)
-    ∙ ap cluster_entries_text (log-append (turns_from c es) (turns_from (cluster_after c es) fs))
-    ∙ entries-append (cluster_log_of (turns_from c es)) (cluster_log_of (turns_from (cluster_after c es) fs))
+    ∙ ap cluster_entries_text (log-append (cluster_turns_from c es) (cluster_turns_from (cluster_after c es) fs))
+    ∙ entries-append (cluster_log_of (cluster_turns_from c es)) (cluster_log_of (cluster_turns_from (cluster_after c es) fs))
 
 -- events that add to no group leave it ready
 led-after : (n : ℕ) (c : Cluster) (j : ℕ) → (ready : IsReadyCluster n c) → j < length c.groups.worlds → IsLedTo ready.plan (cluster_after c (deliveries_in c j))
@@ -322,13 +322,13 @@ module _ (c : Cluster) where
     drained-counted = let left = ap (λ (js : List ℕ). length (deliveries d js)) no-groups in let all = drained.counted in omega (arith, left, all)
 
 -- what a drain writes
-turns-many : (c : Cluster) (es : List ClusterEvent) → length (turns_from c es) ≡ length es
+turns-many : (c : Cluster) (es : List ClusterEvent) → length (cluster_turns_from c es) ≡ length es
 turns-many c [] = refl
 turns-many c (e ∷ es) = ap suc (turns-many (cluster_step c e).cluster es)
 
 pub drained-is : (c : Cluster) (es : List ClusterEvent) (count : ℕ) (text end whole : List ℕ) → count ≡ length es
     → text ≡ written_by c es → end ≡ codes "drained " ++ (decimal count ++ codes "\n") → whole ≡ text ++ end
-    → whole ≡ drained_text (turns_from c es)
+    → whole ≡ drained_text (cluster_turns_from c es)
 drained-is c es count text end whole many text_is end_is is =
     is ∙ ap (λ (xs : List ℕ). xs ++ end) text_is
     ∙ ap (λ (xs : List ℕ). written_by c es ++ xs) (end_is ∙ ap (λ (n : ℕ). codes "drained " ++ (decimal n ++ codes "\n")) (many ∙ sym (turns-many c es)))

@@ -3,7 +3,7 @@ ghost use Rattle.group_calls.specs.declared.event.Event.TheVariants.{Deliver};
 ghost use Rattle.group_run.specs.Meaning.{IsDown};
 ghost use Rattle.group_layout.specs.Cluster.{MayHappen, cluster_after, cluster_step, logged_in, world_in};
 ghost use Rattle.group_layout.specs.declared.event.ClusterEvent.TheVariants.{InGroup};
-ghost use Rattle.cluster_run.specs.Playing.{all_deliveries, cluster_log_of, deliveries_in, turns_from};
+ghost use Rattle.cluster_run.specs.Playing.{all_deliveries, cluster_log_of, cluster_turns_from, deliveries_in};
 ghost use Rattle.cluster_run.specs.Texts.{cluster_entries_text, group_mark};
 ghost use Rattle.group_cluster.specs.History.{HasFewEvents};
 ghost use Rattle.cluster_play.specs.Doing.{IsReadyCluster};
@@ -26,7 +26,7 @@ pub(crate) fn drain(
     requires ready { IsReadyCluster (2 ^ 59) cluster.old }
     ensures cluster { OnOk result (cluster.new ≡ cluster_after cluster.old (all_deliveries cluster.old)) }
     ensures text { OnOk result (text.new.items ≡ text.old.items
-        ++ cluster_entries_text (cluster_log_of (turns_from cluster.old (all_deliveries cluster.old)))) }
+        ++ cluster_entries_text (cluster_log_of (cluster_turns_from cluster.old (all_deliveries cluster.old)))) }
     ensures count { IfOk result (λ count. count ≡ length (all_deliveries cluster.old)) }
 {
     let mut count: u64 = 0;
@@ -47,7 +47,7 @@ fn drain_group(
     requires ready { IsReadyCluster (2 ^ 59) cluster.old }
     ensures cluster { OnOk result (cluster.new ≡ cluster_after cluster.old (deliveries_in cluster.old group)) }
     ensures text { OnOk result (text.new.items ≡ text.old.items
-        ++ cluster_entries_text (cluster_log_of (turns_from cluster.old (deliveries_in cluster.old group)))) }
+        ++ cluster_entries_text (cluster_log_of (cluster_turns_from cluster.old (deliveries_in cluster.old group)))) }
     ensures count { IfOk result (λ count. count ≡ length (deliveries_in cluster.old group)) }
 {
     if cluster.world(group).is_down() {
@@ -68,7 +68,7 @@ fn deliver_all(
     requires ready { IsReadyCluster (2 ^ 59) cluster.old }
     ensures cluster { OnOk result (cluster.new ≡ cluster_after cluster.old (deliveries_in cluster.old group)) }
     ensures text { OnOk result (text.new.items ≡ text.old.items
-        ++ cluster_entries_text (cluster_log_of (turns_from cluster.old (deliveries_in cluster.old group)))) }
+        ++ cluster_entries_text (cluster_log_of (cluster_turns_from cluster.old (deliveries_in cluster.old group)))) }
     ensures count { IfOk result (λ count. count ≡ length (deliveries_in cluster.old group)) }
 {
     let mark = write_mark(alloc, group)?;

@@ -5,7 +5,7 @@ ghost use Rattle.group_layout.specs.Cluster.{MayHappen, cluster_after, cluster_s
 ghost use Rattle.group_layout.specs.declared.event.ClusterEvent.TheVariants.{FailNode, InGroup};
 ghost use Rattle.group_run.specs.Shown.{held};
 ghost use Rattle.scenario_run.specs.Playing.{look};
-ghost use Rattle.cluster_run.specs.Playing.{all_deliveries, cluster_turn, drained_text, group_world, opening_of, turn_text, turns_from};
+ghost use Rattle.cluster_run.specs.Playing.{all_deliveries, cluster_turn, cluster_turns_from, drained_text, group_world, opening_of, turn_text};
 ghost use Rattle.cluster_play.specs.Doing.{IsReadyCluster};
 
 use crate::deliveries::drain;
@@ -127,7 +127,7 @@ impl ClusterPlay {
           moment = self.old.moment;
         }) }
         ensures text { IfOk result (λ text. text.items
-            ≡ drained_text (turns_from self.old.cluster (all_deliveries self.old.cluster))) }
+            ≡ drained_text (cluster_turns_from self.old.cluster (all_deliveries self.old.cluster))) }
     {
         let mut text = Vec::new(alloc);
         let count = drain(alloc, &mut self.cluster, &mut text)?;

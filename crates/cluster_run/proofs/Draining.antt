@@ -14,7 +14,7 @@ use Rattle.group_layout.specs.declared.event.ClusterEvent.{ClusterEvent}
 use Rattle.group_layout.specs.declared.event.ClusterEvent.TheVariants.{InGroup}
 use Rattle.group_layout.proofs.Moves.{IsOrNot, is-or-not, other-world, own-world}
 use Rattle.group_cluster.specs.Plan.{Plan}
-use Rattle.law_progress.specs.Ends.{IsDelivery}
+use Rattle.group_run.specs.Causes.{IsDelivery}
 use Rattle.scenario_run.proofs.Draining.{Lightens, burden, lightens, next-delivers}
 use Rattle.scenario_run.proofs.Truth.{up}
 use Rattle.cluster_run.specs.Led.{IsLedTo}

@@ -9,13 +9,13 @@ use Rattle.group_layout.proofs.Happening.{Even, all-may, clusters_are_runs, even
 use Rattle.group_cluster.specs.Plan.{IsPlan, Plan}
 use Rattle.scenario_run.proofs.Leading as group
 use Rattle.cluster_run.specs.Led.{IsLedTo}
-use Rattle.cluster_run.specs.Playing.{ClusterTurn, cluster_turn, opening_of, turns_from}
+use Rattle.cluster_run.specs.Playing.{ClusterTurn, cluster_turn, cluster_turns_from, opening_of}
 
 -- events that lead from one cluster to another
 pub record Leads (c d : Cluster) (turns : List ClusterTurn) : Type 0 where
   pub events : List ClusterEvent
   pub may : MayAllHappen c events
-  pub turns_are : turns_from c events ≡ turns
+  pub turns_are : cluster_turns_from c events ≡ turns
   pub to : cluster_after c events ≡ d
 
 pub opened : (plan : Plan) → IsPlan plan → IsLedTo plan (opening_of plan)
@@ -26,7 +26,8 @@ pub may-append : (c : Cluster) (es fs : List ClusterEvent) → MayAllHappen c es
 may-append c [] fs first rest = rest
 may-append c (e ∷ es) fs first rest = (first.0, may-append (cluster_step c e).cluster es fs first.1 rest)
 
-pub turns-append : (c : Cluster) (es fs : List ClusterEvent) → turns_from c (es ++ fs) ≡ turns_from c es ++ turns_from (cluster_after c es) fs
+pub turns-append : (c : Cluster) (es fs : List ClusterEvent)
+    → cluster_turns_from c (es ++ fs) ≡ cluster_turns_from c es ++ cluster_turns_from (cluster_after c es) fs
 turns-append c [] fs = refl
 turns-append c (e ∷ es) fs = ap (λ (ts : List ClusterTurn). cluster_turn c e ∷ ts) (turns-append (cluster_step c e).cluster es fs)
 
@@ -39,8 +40,8 @@ leads-then a b c ts us first then = record {
   events = first.events ++ then.events;
   may = may-append a first.events then.events first.may (subst (λ (x : Cluster). MayAllHappen x then.events) (sym first.to) then.may);
   turns_are = turns-append a first.events then.events
-      ∙ ap (λ (xs : List ClusterTurn). xs ++ turns_from (cluster_after a first.events) then.events) first.turns_are
-      ∙ ap (λ (xs : List ClusterTurn). ts ++ xs) (ap (λ (x : Cluster). turns_from x then.events) first.to ∙ then.turns_are);
+      ∙ ap (λ (xs : List ClusterTurn). xs ++ cluster_turns_from (cluster_after a first.events) then.events) first.turns_are
+      ∙ ap (λ (xs : List ClusterTurn). ts ++ xs) (ap (λ (x : Cluster). cluster_turns_from x then.events) first.to ∙ then.turns_are);
   to = after-append a first.events then.events ∙ ap (λ (x : Cluster). cluster_after x then.events) first.to ∙ then.to;
 }
 

@@ -29,10 +29,10 @@ use Rattle.scenario_run.proofs.Running.{parts}
 use Rattle.scenario_run.proofs.Truth.{shows-truth}
 use Rattle.cluster_run.specs.Led.{IsLedTo}
 use Rattle.cluster_run.specs.Playing.{ClusterNext, ClusterPlay, ClusterTurn, by_line, by_words, cluster_log_of, group_world, next_of, opening_of, then_in}
-use Rattle.cluster_run.specs.Playing.{turns_from}
+use Rattle.cluster_run.specs.Playing.{cluster_turns_from}
 use Rattle.cluster_run.specs.Meaning.{failure_line, in_group}
 use Rattle.cluster_run.specs.Promises.{AreTrueLines, HoldsAfter, IsTrueIn, IsTrueLine, IsTrueNamed, ScriptsKeepPromises, cluster_at_end}
-use Rattle.cluster_run.specs.Script.{cluster_script_events, plan_in, turns_of}
+use Rattle.cluster_run.specs.Script.{cluster_script_events, cluster_turns, plan_in}
 use Rattle.cluster_run.specs.declared.fault.ClusterFault.TheVariants.{BadLine}
 use Rattle.cluster_run.proofs.Leading.{Leads, laid, leads-then, led-even, led-group, led-nodes, led-on, none-leads, opened}
 use Rattle.cluster_run.proofs.Meaning.{in_group-below}
@@ -196,7 +196,7 @@ may-front c (suc n) [] may = tt
 may-front c (suc n) (e ∷ es) may = (may.0, may-front (cluster_step c e).cluster n es may.1)
 
 -- the events of turns
-events-are : (c : Cluster) (es : List ClusterEvent) → map (λ turn. turn.event) (turns_from c es) ≡ es
+events-are : (c : Cluster) (es : List ClusterEvent) → map (λ turn. turn.event) (cluster_turns_from c es) ≡ es
 events-are c [] = refl
 events-are c (e ∷ es) = ap (λ (xs : List ClusterEvent). e ∷ xs) (events-are (cluster_step c e).cluster es)
 
@@ -207,7 +207,7 @@ logged-append (t ∷ ts) us =
     ap (λ (xs : List ClusterEntry). tagged t.group t.turn.logged ++ xs) (logged-append ts us)
     ∙ sym (append_assoc (tagged t.group t.turn.logged) (logged_in ts) (logged_in us))
 
-pub logged-all : (c : Cluster) (es : List ClusterEvent) → logged_in (cluster_turns c es) ≡ cluster_log_of (turns_from c es)
+pub logged-all : (c : Cluster) (es : List ClusterEvent) → logged_in (cluster_turns c es) ≡ cluster_log_of (cluster_turns_from c es)
 logged-all c [] = refl
 logged-all c (e ∷ es) =
     logged-append (cluster_step c e).turns (cluster_turns (cluster_step c e).cluster es)
@@ -239,7 +239,7 @@ scripts_keep_promises text whole = record {
   layout : IsLayout plan.shape plan.nodes plan.groups
   layout = laid plan named.limits
 
-  leads : Leads (opening_of plan) named.runs_are.d (turns_of text)
+  leads : Leads (opening_of plan) named.runs_are.d (cluster_turns text)
   leads = named.runs_are.leads
 
   same : leads.events ≡ cluster_script_events text
@@ -248,10 +248,10 @@ scripts_keep_promises text whole = record {
   may : MayAllHappen (opening_of plan) (cluster_script_events text)
   may = subst (MayAllHappen (opening_of plan)) same leads.may
 
-  turns : turns_from (opening_of plan) (cluster_script_events text) ≡ turns_of text
-  turns = ap (turns_from (opening_of plan)) (sym same) ∙ leads.turns_are
+  turns : cluster_turns_from (opening_of plan) (cluster_script_events text) ≡ cluster_turns text
+  turns = ap (cluster_turns_from (opening_of plan)) (sym same) ∙ leads.turns_are
 
-  log : (cluster_at_end plan (cluster_script_events text)).groups.log ≡ cluster_log_of (turns_of text)
+  log : (cluster_at_end plan (cluster_script_events text)).groups.log ≡ cluster_log_of (cluster_turns text)
   log = (clusters_are_runs plan.shape plan.nodes plan.groups (cluster_script_events text) limits layout may).log
       ∙ logged-all (opening_of plan) (cluster_script_events text) ∙ ap cluster_log_of turns
 

@@ -25,7 +25,7 @@ use Rattle.cluster_run.specs.Meaning.{failure_line, groups_line, in_group}
 use Rattle.cluster_run.specs.Led.{IsLedTo}
 use Rattle.cluster_run.specs.Playing.{ClusterPlay, ClusterTurn, all_deliveries, by_event, by_line, by_plan, by_trace}
 use Rattle.cluster_run.specs.Playing.{by_words, drained_text, group_world, next_of, opening_of, quietly, then_by, then_in}
-use Rattle.cluster_run.specs.Playing.{cluster_turn, turn_text, turns_from}
+use Rattle.cluster_run.specs.Playing.{cluster_turn, cluster_turns_from, turn_text}
 use Rattle.cluster_run.specs.declared.fault.ClusterFault.{ClusterFault}
 use Rattle.cluster_run.specs.declared.fault.ClusterFault.TheVariants.{BadLine}
 use Rattle.cluster_run.proofs.Draining.{all-drained}
@@ -123,7 +123,7 @@ module _ (plan : Plan) where
       let es : List ClusterEvent = all_deliveries p.cluster in
       let drains = all-drained plan p.cluster led in
       let q : ClusterPlay = record { cluster = cluster_after p.cluster es; moment = p.moment } in
-      let both = parts (Some q) next (turns_from p.cluster es) turns (drained_text (turns_from p.cluster es)) text is in
+      let both = parts (Some q) next (cluster_turns_from p.cluster es) turns (drained_text (cluster_turns_from p.cluster es)) text is in
       record {
         play = q;
         is = both.0;

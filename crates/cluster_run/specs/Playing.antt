@@ -49,9 +49,9 @@ quietly play = Goes play [] []
 abbrev pub cluster_turn : Cluster → ClusterEvent → ClusterTurn
 cluster_turn c e = record { event = e; answer = (cluster_step c e).answer; turns = (cluster_step c e).turns }
 
-abbrev pub turns_from : Cluster → List ClusterEvent → List ClusterTurn
-turns_from c [] = []
-turns_from c (e ∷ es) = cluster_turn c e ∷ turns_from (cluster_step c e).cluster es
+abbrev pub cluster_turns_from : Cluster → List ClusterEvent → List ClusterTurn
+cluster_turns_from c [] = []
+cluster_turns_from c (e ∷ es) = cluster_turn c e ∷ cluster_turns_from (cluster_step c e).cluster es
 
 -- what turns logged, in order
 abbrev pub cluster_log_of : List ClusterTurn → List ClusterEntry
@@ -90,7 +90,7 @@ abbrev pub drained_text : List ClusterTurn → List ℕ
 drained_text turns = cluster_entries_text (cluster_log_of turns) ++ (codes "drained " ++ (decimal (length turns) ++ codes "\n"))
 
 abbrev pub by_drain : ClusterPlay → List ClusterEvent → ClusterNext
-by_drain p es = Goes (Some (record { cluster = cluster_after p.cluster es; moment = p.moment })) (turns_from p.cluster es) (drained_text (turns_from p.cluster es))
+by_drain p es = Goes (Some (record { cluster = cluster_after p.cluster es; moment = p.moment })) (cluster_turns_from p.cluster es) (drained_text (cluster_turns_from p.cluster es))
 
 abbrev pub by_show : ClusterPlay → ℕ → ProcessId → Run → ClusterNext
 by_show p j from run = Goes (Some p) [] (look (group_world p j) from (held (group_world p j) from run) ++ 10 ∷ [])

@@ -5,13 +5,12 @@ use Rattle.group_types.specs.declared.process.ProcessId.{ProcessId}
 use Rattle.group_message.specs.declared.message.Message.{Message}
 use Rattle.group_message.specs.declared.message.Message.TheVariants as tells
 use Rattle.group_message.specs.declared.message.Session.{Session}
-use Rattle.group_run.specs.Fitting.{Fits, ReadFits}
+use Rattle.group_run.specs.Fitting.{Fits, IsForData, ReadFits}
 use Rattle.group_run.specs.Process.{Process}
 use Rattle.head_service.specs.Serving.{Serving, serving}
 use Rattle.process_service.specs.Coming.{LeavesFew, NoticeComes}
 use Rattle.process_service.specs.Standing.{Standing, standing}
 use Rattle.data_process.specs.Coming.{CanAsk, FitsData}
-use Rattle.data_process.specs.Steps.{IsForData}
 use Rattle.data_process.specs.Values.{DataHolding, data_process_of}
 
 module _ {b : Bool} {s : Dimensions} {from : ProcessId} {p : Process} where

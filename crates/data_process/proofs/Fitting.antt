@@ -5,9 +5,9 @@ use Rattle.group_types.specs.Names.{IsProcess}
 use Rattle.group_types.specs.declared.process.ProcessId.{ProcessId}
 use Rattle.group_message.specs.declared.message.Message.{Message}
 use Rattle.group_message.specs.declared.message.Message.TheVariants as tells
-use Rattle.group_run.specs.Fitting.{Fits}
+use Rattle.group_run.specs.Fitting.{Fits, IsForData}
 use Rattle.group_run.specs.Process.{Process}
-use Rattle.data_process.specs.Steps.{ComesToData, IsForData}
+use Rattle.data_process.specs.Steps.{ComesToData}
 
 pub fitting-comes : (s : Dimensions) (from : ProcessId) (message : Message) (p : Process) → IsForData message
     → Fits s from message p → ComesToData s from message p

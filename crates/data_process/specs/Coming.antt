@@ -4,10 +4,9 @@ use Rattle.group_types.specs.Dimensions.{Dimensions}
 use Rattle.group_types.specs.declared.process.ProcessId.{ProcessId}
 use Rattle.group_message.specs.declared.message.Message.{Message}
 use Rattle.group_message.specs.declared.message.Session.{Session}
-use Rattle.group_run.specs.Fitting.{Fits}
+use Rattle.group_run.specs.Fitting.{Fits, IsForData}
 use Rattle.group_run.specs.Process.{Process}
 use Rattle.process_service.specs.Coming.{IsParity, LeavesFew}
-use Rattle.data_process.specs.Steps.{IsForData}
 
 -- a message fits, is of a kind that is for a data process, and leaves no more than m known dead
 pub record FitsData (s : Dimensions) (from : ProcessId) (m : Message) (p : Process) : Type 0 where

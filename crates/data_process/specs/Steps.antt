@@ -1,5 +1,5 @@
 -- What comes to a data process.
-use Rattle.std.specs.Prelude.{◌≡◌, ◌<◌, false, ⊤}
+use Rattle.std.specs.Prelude.{◌≡◌, ◌<◌, false}
 use Rattle.group_types.specs.Dimensions.{Dimensions}
 use Rattle.group_types.specs.Names.{IsProcess}
 use Rattle.group_types.specs.declared.process.ProcessId.{ProcessId}
@@ -15,10 +15,3 @@ ComesToData s from (tells.Ack _ d _) p = IsProcess s from × (d.0 < s.k)
 ComesToData s from (tells.ReadBlock _ block _) p = block < s.blocks
 ComesToData s from (tells.Notice dead) p = IsProcess s dead × (knows_dead p.known dead ≡ false)
 ComesToData s from _ p = ⊥
-
--- a message of these kinds
-abbrev pub IsForData : Message → Type 0
-IsForData (tells.Ack _ _ _) = ⊤
-IsForData (tells.ReadBlock _ _ _) = ⊤
-IsForData (tells.Notice _) = ⊤
-IsForData _ = ⊥

@@ -7,29 +7,29 @@ use Rattle.etcd_words.specs.declared.ask.Ask.{Ask}
 use Rattle.etcd_words.specs.declared.ask.Ask.TheVariants.{Grant, Renew, Revoke, Register, Range, Condemn, Watch}
 
 -- a key or a value, in base 64
-abbrev pub coded : List ℕ → List ℕ
-coded text = encode_of standard text
+abbrev pub base64_text : List ℕ → List ℕ
+base64_text text = encode_of standard text
 
 -- the keys from one to before another
 abbrev pub range_text : List ℕ → List ℕ → List ℕ
-range_text from to = codes "{\"key\":\"" ++ (coded from ++ (codes "\",\"range_end\":\"" ++ (coded to ++ codes "\"}")))
+range_text from to = codes "{\"key\":\"" ++ (base64_text from ++ (codes "\",\"range_end\":\"" ++ (base64_text to ++ codes "\"}")))
 
 -- that a key holds a value, as an operation of a transaction
 abbrev pub put_text : List ℕ → List ℕ → List ℕ
-put_text key value = codes "{\"request_put\":{\"key\":\"" ++ (coded key ++ (codes "\",\"value\":\"" ++ (coded value ++ codes "\"}}")))
+put_text key value = codes "{\"request_put\":{\"key\":\"" ++ (base64_text key ++ (codes "\",\"value\":\"" ++ (base64_text value ++ codes "\"}}")))
 
 -- the same, as long as a lease lasts
 abbrev pub leased_put_text : List ℕ → List ℕ → ℕ → List ℕ
 leased_put_text key value lease =
-    codes "{\"request_put\":{\"key\":\"" ++ (coded key ++ (codes "\",\"value\":\"" ++ (coded value ++ (codes "\",\"lease\":" ++ (decimal lease ++ codes "}}")))))
+    codes "{\"request_put\":{\"key\":\"" ++ (base64_text key ++ (codes "\",\"value\":\"" ++ (base64_text value ++ (codes "\",\"lease\":" ++ (decimal lease ++ codes "}}")))))
 
 -- that a key changed last at a revision, and that one isn't there, as comparisons of a transaction
 abbrev pub unchanged_text : List ℕ → ℕ → List ℕ
 unchanged_text key revision =
-    codes "{\"key\":\"" ++ (coded key ++ (codes "\",\"target\":\"MOD\",\"result\":\"EQUAL\",\"mod_revision\":" ++ (decimal revision ++ codes "}")))
+    codes "{\"key\":\"" ++ (base64_text key ++ (codes "\",\"target\":\"MOD\",\"result\":\"EQUAL\",\"mod_revision\":" ++ (decimal revision ++ codes "}")))
 
 abbrev pub absent_text : List ℕ → List ℕ
-absent_text key = codes "{\"key\":\"" ++ (coded key ++ codes "\",\"target\":\"VERSION\",\"result\":\"EQUAL\",\"version\":0}")
+absent_text key = codes "{\"key\":\"" ++ (base64_text key ++ codes "\",\"target\":\"VERSION\",\"result\":\"EQUAL\",\"version\":0}")
 
 -- the two transactions
 abbrev pub register_text : ℕ → List ℕ → List ℕ → List ℕ → List ℕ

@@ -1,6 +1,6 @@
 ghost use Rattle.std.specs.Prelude.{◌≡◌, IfOk};
 ghost use Rattle.std.specs.String.{string_bytes};
-ghost use Rattle.etcd_words.specs.Asking.{absent_text, body_text, coded, condemn_text, leased_put_text, put_text, range_text, register_text, unchanged_text};
+ghost use Rattle.etcd_words.specs.Asking.{absent_text, base64_text, body_text, condemn_text, leased_put_text, put_text, range_text, register_text, unchanged_text};
 
 use crate::ask::Ask;
 use base64::engine::general_purpose::STANDARD;
@@ -109,7 +109,7 @@ fn absent(alloc: Global, key: &str) -> Result<String, AllocError>
 
 /// A text in base 64, as the gateway takes keys and values.
 fn coded(alloc: Global, text: &str) -> Result<String, AllocError>
-    ensures { IfOk result (λ code. string_bytes code ≡ coded text.now) }
+    ensures { IfOk result (λ code. string_bytes code ≡ base64_text text.now) }
 {
     STANDARD.encode(alloc, text.as_bytes())
 }

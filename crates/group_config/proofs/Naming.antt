@@ -8,7 +8,7 @@ use Rattle.toml.specs.View.{items_view, view}
 use Rattle.toml.specs.declared.value.Value.{Value}
 use Rattle.group_config.proofs.Answering.{answered, fails}
 use Rattle.group_config.specs.MemberReading.{IsMemberOutcome}
-use Rattle.group_config.specs.MemberTable.{entries_of, entry_of, index_of}
+use Rattle.group_config.specs.MemberTable.{entries_of, entry_of, member_index}
 use Rattle.group_config.specs.Reading.{follow}
 use Rattle.group_config.specs.declared.member_entry.MemberEntry.{MemberEntry}
 use Rattle.group_config.specs.declared.member_fault.MemberFault.{MemberFault}
@@ -23,13 +23,15 @@ pub from-next : (at : ℕ) (found : Option ℕ) → from (at + 1) found ≡ from
 from-next at None = refl
 from-next at (Some n) = ap (λ (n : ℕ). Some n) (omega arith)
 
-pub index-here : (name : List ℕ) (e : MemberEntry) (es : List MemberEntry) (at : ℕ) → bytes_eq e.name name ≡ true → from at (index_of name (e ∷ es)) ≡ Some at
-index-here name e es at same = ap (λ (b : Bool). from at (if b then Some 0 else option_map suc (index_of name es))) same ∙ ap (λ (n : ℕ). Some n) (omega arith)
+pub index-here : (name : List ℕ) (e : MemberEntry) (es : List MemberEntry) (at : ℕ) → bytes_eq e.name name ≡ true
+    → from at (member_index name (e ∷ es)) ≡ Some at
+index-here name e es at same =
+    ap (λ (b : Bool). from at (if b then Some 0 else option_map suc (member_index name es))) same ∙ ap (λ (n : ℕ). Some n) (omega arith)
 
 pub index-next : (name : List ℕ) (e : MemberEntry) (es : List MemberEntry) (at : ℕ) → bytes_eq e.name name ≡ false
-    → from at (index_of name (e ∷ es)) ≡ from (at + 1) (index_of name es)
-index-next name e es at apart = ap (λ (b : Bool). from at (if b then Some 0 else option_map suc (index_of name es)))
-    apart ∙ sym (from-next at (index_of name es))
+    → from at (member_index name (e ∷ es)) ≡ from (at + 1) (member_index name es)
+index-next name e es at apart = ap (λ (b : Bool). from at (if b then Some 0 else option_map suc (member_index name es)))
+    apart ∙ sym (from-next at (member_index name es))
 
 -- members before those that are read
 abbrev pub behind : List MemberEntry → Result (List MemberEntry) MemberKey → Result (List MemberEntry) MemberKey

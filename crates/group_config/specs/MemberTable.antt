@@ -34,14 +34,14 @@ entries_of no_items = Ok []
 entries_of (item d ds) = follow (entry_of d) (λ e. follow (entries_of ds) (λ es. Ok (e ∷ es)))
 
 -- the index of the first member of this name
-abbrev pub index_of : List ℕ → List MemberEntry → Option ℕ
-index_of name [] = None
-index_of name (e ∷ es) = if bytes_eq e.name name then Some 0 else option_map suc (index_of name es)
+abbrev pub member_index : List ℕ → List MemberEntry → Option ℕ
+member_index name [] = None
+member_index name (e ∷ es) = if bytes_eq e.name name then Some 0 else option_map suc (member_index name es)
 
 -- no two have one name
 abbrev pub names_differ : List MemberEntry → Bool
 names_differ [] = true
-names_differ (e ∷ es) = is_none (index_of e.name es) && names_differ es
+names_differ (e ∷ es) = is_none (member_index e.name es) && names_differ es
 
 -- so many, whose names differ
 abbrev pub counted : ℕ → List MemberEntry → Result (List MemberEntry) MemberKey
@@ -52,5 +52,5 @@ members_of count found = check key.Members (option_and_then as_array found) (λ 
 
 -- the index of the member of the name that is given, or else stands in the settings
 abbrev pub own_of : Option (List ℕ) → Option Data → List MemberEntry → Option ℕ
-own_of (Some word) found es = index_of word es
-own_of None found es = option_and_then (λ name. index_of name es) (text found)
+own_of (Some word) found es = member_index word es
+own_of None found es = option_and_then (λ name. member_index name es) (text found)

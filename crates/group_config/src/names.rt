@@ -1,11 +1,11 @@
 ghost use Rattle.std.specs.Prelude.{◌≡◌, ◌<◌, length, IfSome};
-ghost use Rattle.group_config.specs.MemberTable.{index_of, names_differ};
+ghost use Rattle.group_config.specs.MemberTable.{member_index, names_differ};
 
 use crate::member_entry::MemberEntry;
 
 /// The index of the first member of this name.
 pub(crate) fn index_of(name: &str, entries: &[MemberEntry]) -> Option<usize>
-    ensures found { result ≡ index_of name.now entries.now }
+    ensures found { result ≡ member_index name.now entries.now }
     ensures range { IfSome result (λ n. n < length entries.now) }
 {
     let mut left = entries;

@@ -10,7 +10,7 @@ use Rattle.group_run.specs.Headline.{IsRunFrom}
 use Rattle.group_run.specs.World.{World, step, turns_from, world_after}
 use Rattle.law_moves.proofs.Reading.{some-same}
 use Rattle.law_log.proofs.Turnings.{asks-self}
-use Rattle.group_eras.specs.Promise.{asks_among}
+use Rattle.group_run.specs.Causes.{asks_among}
 use Rattle.group_eras.specs.Told.{Bases, event_in, op_for_era}
 
 pub turns-long : (w : World) (es : List Event) → length (turns_from w es) ≡ length es

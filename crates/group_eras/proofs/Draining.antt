@@ -18,7 +18,7 @@ use Rattle.law_progress.specs.Drains.{NextComes}
 use Rattle.law_progress.specs.Ends.{IsDelivery}
 use Rattle.law_progress.proofs.Whole.{drains-whole, next-comes}
 use Rattle.law_causes.proofs.Drained.{next_always}
-use Rattle.group_run.specs.Causes.{IsFailure}
+use Rattle.group_run.specs.Causes.{IsDelivery, IsFailure}
 use Rattle.group_layout.proofs.Deaths.{dead-step, same-dead}
 use Rattle.group_eras.specs.Carry.{drained, draining}
 use Rattle.group_eras.proofs.Resting.{IsStill, Rests}

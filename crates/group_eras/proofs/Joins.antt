@@ -26,7 +26,7 @@ use Rattle.law_updates.proofs.Keys.{key-eq}
 use Rattle.law_log.proofs.Tables.{home-below}
 use Rattle.group_eras.specs.Eras.{EraEntry}
 use Rattle.group_eras.specs.Promise.{AreTold}
-use Rattle.group_eras.specs.Told.{Bases, op_for_era, told_reply, with_base, with_cas, without_base}
+use Rattle.group_eras.specs.Told.{Bases, based_reply, op_for_era, with_base, with_cas, without_base}
 use Rattle.group_eras.proofs.Shifts.{Alike, Gone, HasCas, IsSet, LeavesCas, Same, cas-live, ruling-cas, ruling-shift, same-live, set-shift, shift, shift_ruling}
 
 pub key-cas : (f : ℕ → ℕ) (act : Act) → key_of (with_cas f act) ≡ key_of act
@@ -45,7 +45,7 @@ key-cas f (Decr key by) = refl
 -- a reply that accepts an op has no number of a partition
 abbrev pub Tells : Ruling → Type 0
 Tells (Refused reply) = Unit {0}
-Tells (Accepted reply leaves) = (bases : Bases) (d : ℕ) → told_reply bases d reply ≡ reply
+Tells (Accepted reply leaves) = (bases : Bases) (d : ℕ) → based_reply bases d reply ≡ reply
 
 joined-tells : (n : ℕ) (h : Holding) (value : List ℕ) → Tells (joined n h value)
 joined-tells n h value = by (nat_le (length value) longest_value) where
@@ -166,14 +166,14 @@ module _ (bases : Bases) (k : ℕ) (some : 1 ≤ k) (Free : List ℕ → Type 0)
           (ruling-cas op.moment (count_of own key + 1) act (live_at op.moment (own.items key)) (omega arith)
           (cas-live bases (home key) op.moment (own.items key) own-cas))
 
-      pub reply-joined : reply_of all op ≡ told_reply bases (home key) (reply_of own (op_for_era bases k op))
+      pub reply-joined : reply_of all op ≡ based_reply bases (home key) (reply_of own (op_for_era bases k op))
       reply-joined = ap reply_in ruling-joined ∙ by (ruling_on own (op_for_era bases k op)) (accepting own) where
         -- a reply that accepts has no number
         accepting : (t : Contents) → Tells (ruling_on t (op_for_era bases k op))
         accepting t = tells op.moment (count_of t (key_of (op_for_era bases k op).act) + 1) (op_for_era bases k op).act
             (live_at op.moment (t.items (key_of (op_for_era bases k op).act)))
 
-        by : (r : Ruling) → Tells r → reply_in (shift_ruling bases (home key) r) ≡ told_reply bases (home key) (reply_in r)
+        by : (r : Ruling) → Tells r → reply_in (shift_ruling bases (home key) r) ≡ based_reply bases (home key) (reply_in r)
         by (Refused reply) tells = refl
         by (Accepted reply left) tells = sym (tells bases (home key))
 
@@ -249,7 +249,7 @@ module _ (bases : Bases) (k : ℕ) (some : 1 ≤ k) (Free : List ℕ → Type 0)
       (after-joined all own joined op sets.0) in
       let rest = told-legal asked era (table_after all op) (table_after own x.op) xs ys next legal.1 are.2 sets.1 in (
         (
-          told.reply ∙ ap (told_reply bases (home (key_of op.act))) (legal.0 ∙ ap (reply_of own) is)
+          told.reply ∙ ap (based_reply bases (home (key_of op.act))) (legal.0 ∙ ap (reply_of own) is)
               ∙ sym (reply-joined all own joined op sets.0),
           rest.0,
         ),

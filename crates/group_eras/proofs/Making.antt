@@ -32,8 +32,9 @@ use Rattle.law_log.proofs.Turnings.{asks_counted, get-last}
 use Rattle.law_headline.proofs.Headlines.{headline_always}
 use Rattle.law_answers.proofs.Entries.{after-more, run-more, turns-more}
 use Rattle.group_eras.specs.Eras.{EraEntry, Eras, era_step, logged_in_era}
-use Rattle.group_eras.specs.Promise.{AreTold, IsAskOf, IsEra, TellsEntry, asks_among}
-use Rattle.group_eras.specs.Told.{Bases, event_in, op_for_era, op_out, told_entry, told_op, told_reply, with_base, with_cas, without_base}
+use Rattle.group_run.specs.Causes.{asks_among}
+use Rattle.group_eras.specs.Promise.{AreTold, IsAskOf, IsEra, TellsEntry}
+use Rattle.group_eras.specs.Told.{Bases, based_reply, event_in, op_for_era, op_out, told_entry, told_op, with_base, with_cas, without_base}
 use Rattle.group_eras.proofs.Asking.{WasAsked, among-all, among-before, among-in, among-map, turn-event, turns-asks, turns-long, was-asked}
 use Rattle.group_eras.proofs.Joins.{key-cas}
 use Rattle.group_eras.proofs.Logging.{AllHaveCas, BringsCas, accepted-brings, own-or-accepted}
@@ -305,7 +306,7 @@ module _ (e : Eras) (era : IsEra e) (event : Event) (may : MayCome e.world event
           name = refl;
           was_asked = subst (IsAskOf asked name) (sym is) (record { place = f.place; at = f.at; there = f.there; counted = f.counted });
           op = f.came_in ∙ ap (op_for_era e.bases k) (sym is);
-          reply = ap (λ (key : List ℕ). told_reply e.bases (home_of key k) entry.reply)
+          reply = ap (λ (key : List ℕ). based_reply e.bases (home_of key k) entry.reply)
               (ap (λ (x : Asked). key_of x.act) (f.came_in ∙ ap (op_for_era e.bases k) (sym is))
               ∙ key-cas (without_base e.bases (home_of (key_of (told_op e.bases k (call_of e.world event) entry).act)
               k)) (told_op e.bases k (call_of e.world event) entry).act);

@@ -18,7 +18,7 @@ use Rattle.group_run.specs.World.{World, after, opening, step, turns_of, world_a
 use Rattle.law_moves.proofs.Reading.{grown-is, some-same}
 use Rattle.law_log.proofs.Turnings.{asks-self}
 use Rattle.law_headline.proofs.Headlines.{headline_always}
-use Rattle.group_eras.specs.Promise.{asks_among}
+use Rattle.group_run.specs.Causes.{asks_among}
 use Rattle.group_eras.proofs.Asking.{among-before, turn-event, turns-asks}
 use Rattle.group_eras.proofs.Making.{asked-among}
 

@@ -30,7 +30,7 @@ use Rattle.group_calls.specs.declared.event.Event.{Event}
 use Rattle.group_calls.specs.declared.event.Event.TheVariants.{Ask, Collect, Deliver, Fail, Flush, Trace}
 use Rattle.run_alloc.specs.Free.{NoPlace}
 use Rattle.group_run.specs.Applying.{head_at, held_at, replica_of}
-use Rattle.group_run.specs.Causes.{AskCause, FindsNoRun, IsReady, home_in, replica_for, table_now}
+use Rattle.group_run.specs.Causes.{AskCause, FindsNoRun, IsDelivery, IsReady, home_in, replica_for, table_now}
 use Rattle.group_run.specs.Free.{is_free}
 use Rattle.group_run.specs.Headline.{IsRun, IsRunFrom, MayCome}
 use Rattle.group_run.specs.History.{history}
@@ -54,7 +54,6 @@ use Rattle.law_answers.proofs.Entries.{after-more, turns-more}
 use Rattle.law_causes.specs.Calls.{HoldsTicket, IsCollected}
 use Rattle.law_causes.proofs.Calls.{tickets_held_always}
 use Rattle.law_causes.proofs.Lasting.{held_last_always}
-use Rattle.law_progress.specs.Ends.{IsDelivery}
 use Rattle.group_eras.specs.Carry.{draining}
 use Rattle.group_eras.specs.Eras.{carrier}
 use Rattle.group_eras.proofs.Draining.{Delivers, NoFailure, after-is, dead-after, dead-still, delivers, delivery-still}

@@ -20,7 +20,7 @@ use Rattle.group_run.specs.Process.{Node}
 use Rattle.group_run.specs.Replica.{items_after}
 use Rattle.group_run.specs.World.{World, after, opening, opening_node, step}
 use Rattle.law_moves.proofs.Reading.{at-indices}
-use Rattle.law_progress.specs.Ends.{IsDelivery}
+use Rattle.group_run.specs.Causes.{IsDelivery}
 use Rattle.group_layout.proofs.Deaths.{none-dead, none-dead-at}
 use Rattle.group_eras.specs.Carry.{Parcel, drained, draining, set_of, setting}
 use Rattle.group_eras.proofs.Draining.{after-is}

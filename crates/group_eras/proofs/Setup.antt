@@ -35,7 +35,7 @@ use Rattle.law_log.proofs.Calls.{asked_always, each-contained}
 use Rattle.law_log.proofs.Ties.{HasEntry}
 use Rattle.law_headline.proofs.All.{whole-always}
 use Rattle.law_headline.proofs.Promises.{stands-always}
-use Rattle.law_progress.specs.Ends.{IsDelivery}
+use Rattle.group_run.specs.Causes.{IsDelivery}
 use Rattle.group_eras.specs.Carry.{Parcel, draining, expiry_of, set_of}
 use Rattle.group_eras.specs.Eras.{carrier}
 use Rattle.group_eras.proofs.Draining.{after-is, delivery-still}

@@ -12,7 +12,7 @@ use Rattle.memc_table.specs.declared.holding.Holding.{Holding}
 use Rattle.memc_table.specs.declared.reply.Reply.TheVariants as reply
 use Rattle.memc_table.specs.declared.ruling.Ruling.{Ruling}
 use Rattle.memc_table.specs.declared.ruling.Ruling.TheVariants.{Accepted, Refused}
-use Rattle.group_eras.specs.Told.{Bases, told_reply, with_base, with_cas, without_base}
+use Rattle.group_eras.specs.Told.{Bases, based_reply, with_base, with_cas, without_base}
 
 -- an item has a cas number above 0
 abbrev pub HasCas : Option Holding → Type 0
@@ -37,7 +37,7 @@ module _ (bases : Bases) (d : ℕ) where
   shift (Some h) = Some (shifted h)
 
   abbrev pub shift_ruling : Ruling → Ruling
-  shift_ruling (Refused reply) = Refused (told_reply bases d reply)
+  shift_ruling (Refused reply) = Refused (based_reply bases d reply)
   shift_ruling (Accepted reply leaves) = Accepted reply (shift leaves)
 
   -- an item over all eras, and in the current one: the same but for the base, or dead at every moment and unknown

@@ -21,7 +21,7 @@ use Rattle.group_calls.specs.declared.event.Cause.TheVariants as cause
 use Rattle.group_calls.specs.declared.event.Event.{Event}
 use Rattle.group_calls.specs.declared.event.Event.TheVariants.{Ask}
 use Rattle.group_run.specs.Applying.{replica_of}
-use Rattle.group_run.specs.Causes.{AskCause, home_in}
+use Rattle.group_run.specs.Causes.{AskCause, asks_among, home_in}
 use Rattle.group_run.specs.Headline.{KeepsAll, MayCome}
 use Rattle.group_run.specs.Meaning.{IsDown, count_logged, is_dead, process_of, updates_of}
 use Rattle.group_run.specs.Replica.{last_of}
@@ -37,8 +37,8 @@ use Rattle.law_headline.proofs.Promises.{stands-always}
 use Rattle.law_answers.proofs.Asks.{asks_always}
 use Rattle.group_eras.specs.Eras.{EraEntry, Eras, era_step, turn_in}
 use Rattle.group_eras.specs.Numbers.{RepliesAreLogged, TicketsAreNew}
-use Rattle.group_eras.specs.Promise.{asks_among, table_over}
-use Rattle.group_eras.specs.Told.{Bases, op_for_era, op_out, told_answer, told_entry, told_reply, with_base, without_base}
+use Rattle.group_eras.specs.Promise.{table_over}
+use Rattle.group_eras.specs.Told.{Bases, based_reply, op_for_era, op_out, told_answer, told_entry, with_base, without_base}
 use Rattle.group_eras.proofs.Asking.{turns-asks}
 use Rattle.group_eras.proofs.Joins.{key-cas}
 use Rattle.group_eras.proofs.Making as making
@@ -49,7 +49,7 @@ use Rattle.group_eras.proofs.Standing.{Stands, own_table}
 
 -- what is told as a reply was one, and what is told as a ticket
 told-replied : (bases : Bases) (d : ℕ) (a : Answer) (r : Reply) → told_answer bases d a ≡ says.Reply r → (x : Reply)
-    × (a ≡ says.Reply x) × (told_reply bases d x ≡ r)
+    × (a ≡ says.Reply x) × (based_reply bases d x ≡ r)
 told-replied bases d (says.Reply x) r is = (x, refl, cc is)
 told-replied bases d (says.Ticket n) r is = absurd (cc is)
 told-replied bases d (says.Retry (cause.Pending e n)) r is = absurd (cc is)
@@ -129,7 +129,7 @@ module _ (e : Eras) (stands : Stands e) (caller : ℕ) (op : Asked) (p : Process
       let tell : Entry → EraEntry = λ y. (e.era, told_entry e.bases k (Some c) y) in
       let told : told_entry e.bases k (Some c) entry ≡ call_entry name op r
       = ap₂ (λ (o : Asked) (y : Reply). call_entry name o y) (ap (λ (b : Bool). if b then op else op_out e.bases k came) (call-refl name))
-      (ap (λ (key : List ℕ). told_reply e.bases (home_of key k) x) (key-cas (without_base e.bases d) op.act) ∙ was.2) in
+      (ap (λ (key : List ℕ). based_reply e.bases (home_of key k) x) (key-cas (without_base e.bases d) op.act) ∙ was.2) in
       subst (λ (y : Entry). Contains (map tell turn.logged) (e.era, y)) told (contains-map tell turn.logged entry logged)
 
   pub ticketed : (n : ℕ) → (era_step e (Ask caller op p)).answer ≡ says.Ticket n → count_of (table_over e) (key_of op.act) < n

@@ -24,7 +24,7 @@ use Rattle.group_run.specs.Meaning.{Heads, IsDown, IsDrained, is_dead}
 use Rattle.group_run.specs.Progress.{AskedDrained, AsksDrained, IsNoFailure, block_waits, waits_here}
 use Rattle.group_run.specs.World.{World, after, opening, step, turns_from, world_after}
 use Rattle.law_answers.proofs.Entries.{after-more, run-more}
-use Rattle.law_progress.specs.Ends.{IsDelivery}
+use Rattle.group_run.specs.Causes.{IsDelivery}
 use Rattle.law_progress.proofs.Waits.{few_waits_always}
 use Rattle.group_eras.specs.Carry.{Getting, drained, draining, get_with, got_behind, is_retry, only_got}
 use Rattle.group_eras.specs.Eras.{carrier}

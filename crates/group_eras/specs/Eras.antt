@@ -15,7 +15,7 @@ use Rattle.group_run.specs.Meaning.{count_logged}
 use Rattle.group_run.specs.Shown.{stamp_of}
 use Rattle.group_run.specs.World.{World, call_of, opening, step}
 use Rattle.group_eras.specs.Range.{IsInRange}
-use Rattle.group_eras.specs.Told.{Bases, event_in, told_entry, told_stamp, told_to}
+use Rattle.group_eras.specs.Told.{Bases, event_in, told_entry, told_of_event, told_stamp}
 
 -- an entry of the log over all eras: its era, and the entry as it is told
 abbrev pub EraEntry : Type 0
@@ -54,7 +54,7 @@ era_step e event = record {
     bases = e.bases;
     log = e.log ++ logged_in_era e event (turn_in e event).logged;
   };
-  answer = told_to e.bases e.world.shape.k event (turn_in e event).answer;
+  answer = told_of_event e.bases e.world.shape.k event (turn_in e event).answer;
   logged = logged_in_era e event (turn_in e event).logged;
 }
 

@@ -13,17 +13,18 @@ use Rattle.memc_table.specs.Contents.{Contents, count_of, empty_table}
 use Rattle.memc_table.specs.Expiry.{is_live}
 use Rattle.memc_table.specs.declared.holding.Holding.{Holding}
 use Rattle.group_calls.specs.Log.{IsLegal, table_of}
-use Rattle.group_calls.specs.Turns.{CallName, asks_in, name_of}
+use Rattle.group_calls.specs.Turns.{CallName, name_of}
 use Rattle.group_calls.specs.declared.entry.Entry.{Entry}
 use Rattle.group_calls.specs.declared.event.Event.{Event}
 use Rattle.group_calls.specs.declared.event.Event.TheVariants.{Ask}
+use Rattle.group_run.specs.Causes.{asks_among}
 use Rattle.group_run.specs.Headline.{Headline, IsRun}
 use Rattle.group_run.specs.Meaning.{IsDrained, is_dead}
 use Rattle.group_run.specs.World.{World, after, opening}
 use Rattle.group_eras.specs.Carry.{begun, carried}
 use Rattle.group_eras.specs.Eras.{EraEntry, Eras, MayMake, era_step, first_era}
 use Rattle.group_eras.specs.Refusal.{CanCarry, IsAtRest, IsSuccessor}
-use Rattle.group_eras.specs.Told.{Bases, event_in, op_for_era, told_reply}
+use Rattle.group_eras.specs.Told.{Bases, based_reply, event_in, op_for_era}
 
 -- what happens over eras: an event, the carrying of all items into a fresh group, or the beginning of one that want of
 -- memory cut short after so many events
@@ -59,11 +60,6 @@ one_log e = map (λ x. x.1) e.log
 abbrev pub table_over : Eras → Contents
 table_over e = table_of (empty_table e.world.shape.k) (one_log e)
 
--- how often a caller asked
-abbrev pub asks_among : ℕ → List Event → ℕ
-asks_among caller [] = 0
-asks_among caller (e ∷ es) = asks_in caller e + asks_among caller es
-
 -- an event of a list is the ask of this name for this op
 pub record IsAskOf (events : List Event) (name : CallName) (op : Asked) : Type 0 where
   pub place : ℕ
@@ -76,7 +72,7 @@ pub record TellsEntry (bases : Bases) (k : ℕ) (asked : List Event) (entry told
   pub name : name_of told ≡ name_of entry
   pub was_asked : IsAskOf asked (name_of told) told.op
   pub op : entry.op ≡ op_for_era bases k told.op
-  pub reply : told.reply ≡ told_reply bases (home_of (key_of told.op.act) k) entry.reply
+  pub reply : told.reply ≡ based_reply bases (home_of (key_of told.op.act) k) entry.reply
 
 -- entry by entry
 abbrev pub AreTold : Bases → ℕ → List Event → ℕ → List Entry → List EraEntry → Type 0

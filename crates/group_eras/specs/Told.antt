@@ -30,21 +30,21 @@ abbrev pub without_base : Bases → ℕ → ℕ → ℕ
 without_base bases d n = n - at 0 bases d
 
 -- a reply on a key of partition d
-abbrev pub told_reply : Bases → ℕ → Reply → Reply
-told_reply bases d (reply.Value item) = reply.Value (record item { cas = with_base bases d item.cas })
-told_reply bases d other = other
+abbrev pub based_reply : Bases → ℕ → Reply → Reply
+based_reply bases d (reply.Value item) = reply.Value (record item { cas = with_base bases d item.cas })
+based_reply bases d other = other
 
 -- an answer to a call on a key of partition d
 abbrev pub told_answer : Bases → ℕ → Answer → Answer
-told_answer bases d (says.Reply r) = says.Reply (told_reply bases d r)
+told_answer bases d (says.Reply r) = says.Reply (based_reply bases d r)
 told_answer bases d (says.Ticket n) = says.Ticket (with_base bases d n)
 told_answer bases d (says.Retry (cause.Pending e n)) = says.Retry (cause.Pending e (with_base bases e.0 n))
 told_answer bases d other = other
 
 -- an answer to an event: only an ask is answered with numbers of a partition
-abbrev pub told_to : Bases → ℕ → Event → Answer → Answer
-told_to bases k (Ask caller op p) answer = told_answer bases (home_of (key_of op.act) k) answer
-told_to bases k _ answer = answer
+abbrev pub told_of_event : Bases → ℕ → Event → Answer → Answer
+told_of_event bases k (Ask caller op p) answer = told_answer bases (home_of (key_of op.act) k) answer
+told_of_event bases k _ answer = answer
 
 -- the cas number that an act brings, changed
 abbrev pub with_cas : (ℕ → ℕ) → Act → Act
@@ -71,7 +71,7 @@ told_op bases k (Some c) entry = if same_call c.name (name_of entry) then c.op e
 
 -- an entry of the era's log
 abbrev pub told_entry : Bases → ℕ → Option AskedCall → Entry → Entry
-told_entry bases k asking entry = call_entry (name_of entry) (told_op bases k asking entry) (told_reply bases (home_of (key_of entry.op.act) k) entry.reply)
+told_entry bases k asking entry = call_entry (name_of entry) (told_op bases k asking entry) (based_reply bases (home_of (key_of entry.op.act) k) entry.reply)
 
 -- a stamp whose numbers are of the partitions from d on
 abbrev pub told_stamp : Bases → ℕ → List ℕ → List ℕ

@@ -1,5 +1,5 @@
 ghost use Rattle.std.specs.Prelude.{◌≡◌, ◌↔◌, IsTrue, Some};
-ghost use Rattle.group_wire.specs.May.{waits_for};
+ghost use Rattle.group_wire.specs.May.{awaited_member};
 ghost use Rattle.group_wire.specs.Serving.{again, call_learned, stage_given_up, stage_told};
 ghost use Rattle.group_wire.specs.State as wire;
 ghost use Rattle.group_member.specs.Callers.{answer_told_at, is_unasked, is_unknown, stage_of, waits_for_told};
@@ -88,7 +88,7 @@ impl OpenCall {
 
     /// The member that it waits for.
     pub fn waits_for(&self) -> Option<ProcessId>
-        ensures { result ≡ waits_for self.now.stage }
+        ensures { result ≡ awaited_member self.now.stage }
     {
         match self.stage {
             CallStage::AskedOf(x) | CallStage::TracedAt(x) => Some(x),

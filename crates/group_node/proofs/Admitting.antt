@@ -6,12 +6,12 @@ use Rattle.group_types.specs.declared.process.ProcessId.TheVariants.{DataNode, P
 use Rattle.group_message.specs.declared.message.Message.{Message}
 use Rattle.group_message.specs.declared.message.Message.TheVariants as tells
 use Rattle.group_run.specs.Process.{Process}
-use Rattle.law_answers.specs.Deliveries.{IsFor, IsForData}
+use Rattle.group_run.specs.Fitting.{IsForData, IsForParity}
+use Rattle.law_answers.specs.Deliveries.{IsFor}
 use Rattle.process_service.specs.Current.{IsNoMark}
 use Rattle.process_service.specs.Standing.{Standing}
 use Rattle.data_process.specs.Coming as to_data
 use Rattle.parity_process.specs.Coming as to_parity
-use Rattle.parity_process.specs.Coming.{IsForParity}
 use Rattle.group_node.specs.Delivering.{Comes}
 use Rattle.group_node.specs.Roles.{IsNamed, standing_in}
 use Rattle.group_node.specs.declared.process.Role.{Role}

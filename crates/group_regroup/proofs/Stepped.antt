@@ -22,7 +22,7 @@ use Rattle.group_calls.specs.declared.event.Event.TheVariants.{Ask, Collect, Del
 use Rattle.group_run.specs.World.{AskedCall, Ticket, World, WorldStep, call_of, next_name, same_call, step}
 use Rattle.law_moves.proofs.Reading.{grown-is}
 use Rattle.group_eras.specs.Eras.{EraEntry, era_step}
-use Rattle.group_eras.specs.Told.{Bases, event_in, op_for_era, op_out, told_entry, told_op, told_reply}
+use Rattle.group_eras.specs.Told.{Bases, based_reply, event_in, op_for_era, op_out, told_entry, told_op}
 use Rattle.group_regroup.specs.declared.changing.Lowered.{Lowered}
 use Rattle.group_regroup.specs.Kept.{covers, eras_of, is_low, lowered_by, lowered_until, op_asked, past_from, told_at, told_from}
 use Rattle.group_regroup.proofs.Asked.{logged-ops}
@@ -103,7 +103,7 @@ module _ (bases : Bases) (k era : ℕ) where
       ap (λ (asked : Option Asked). (
         era,
         call_entry (name_of e) (unwrap_or asked (op_out bases k e.op))
-            (told_reply bases (home_of (key_of e.op.act) k) e.reply),
+            (based_reply bases (home_of (key_of e.op.act) k) e.reply),
       ) ∷ told_from bases k era (l ++ x ∷ []) (suc p) es)
       here
       ∙ ap (λ (rest : List EraEntry). (era, told_at bases k l p e) ∷ rest) (told-early l x (suc p) es (omega (arith, low)))
@@ -121,7 +121,7 @@ module _ (bases : Bases) (k era : ℕ) where
       → Each (AreFound l c p high) es → told_from bases k era l p es ≡ map (tell_by c) es
   told-found l c p high [] fits all = refl
   told-found l c p high (e ∷ es) fits (here, rest) =
-      ap (λ (op : Asked). (era, call_entry (name_of e) op (told_reply bases (home_of (key_of e.op.act) k) e.reply))
+      ap (λ (op : Asked). (era, call_entry (name_of e) op (based_reply bases (home_of (key_of e.op.act) k) e.reply))
       ∷ told_from bases k era l (suc p) es) (here p (omega arith) (omega (arith, fits)))
       ∙ ap (λ (zs : List EraEntry). tell_by c e ∷ zs) (told-found l c (suc p) high es (omega (arith, fits)) (later es rest)) where
         later : (es : List Entry) → Each (AreFound l c p high) es → Each (AreFound l c (suc p) high) es

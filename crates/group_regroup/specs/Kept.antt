@@ -14,7 +14,7 @@ use Rattle.group_calls.specs.declared.event.Event.TheVariants.{Ask}
 use Rattle.group_run.specs.World.{World}
 use Rattle.group_eras.specs.Eras.{EraEntry, Eras}
 use Rattle.group_eras.specs.Promise.{IsLed}
-use Rattle.group_eras.specs.Told.{Bases, op_out, told_reply}
+use Rattle.group_eras.specs.Told.{Bases, based_reply, op_out}
 use Rattle.group_regroup.specs.declared.changing.Lowered.{Lowered}
 
 -- it is the call that this name names, and the event that asked it logged the entry at the place
@@ -29,7 +29,7 @@ op_asked (x ∷ xs) place name = if covers x place name then Some x.op else op_a
 -- the entry at a place of the current world's log, as it is told
 abbrev pub told_at : Bases → ℕ → List Lowered → ℕ → Entry → Entry
 told_at bases k lowered place entry = call_entry (name_of entry) (unwrap_or (op_asked lowered place (name_of entry)) (op_out bases k entry.op))
-    (told_reply bases (home_of (key_of entry.op.act) k) entry.reply)
+    (based_reply bases (home_of (key_of entry.op.act) k) entry.reply)
 
 -- the entries from a place on
 abbrev pub told_from : Bases → ℕ → ℕ → List Lowered → ℕ → List Entry → List EraEntry

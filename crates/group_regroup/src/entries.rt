@@ -2,7 +2,7 @@ ghost use Rattle.std.specs.Prelude.{◌≡◌, ◌≤◌, ◌+◌, ◌==◌, ◌
 ghost use Rattle.std.specs.Option.{unwrap_or};
 ghost use Rattle.group_types.specs.Lists.{at};
 ghost use Rattle.group_calls.specs.Turns.{name_of};
-ghost use Rattle.group_eras.specs.Told.{op_out, told_reply};
+ghost use Rattle.group_eras.specs.Told.{based_reply, op_out};
 ghost use Rattle.group_regroup.specs.Kept.{covers, op_asked, told_at};
 
 use crate::changing::{Lowered, base_of};
@@ -100,7 +100,7 @@ fn raised(bases: &[u64], k: u32, op: &Op) -> Result<Op, AllocError>
 // A reply whose cas number has the base added.
 fn told_reply(base: u64, reply: &Reply) -> Result<Reply, AllocError>
     ensures { IfOk result (λ told. (bases : List ℕ) (d : ℕ) → at 0 bases d ≡ base
-        → told ≡ told_reply bases d reply.now) }
+        → told ≡ based_reply bases d reply.now) }
 {
     match reply {
         Reply::Value(item) => {

@@ -3,7 +3,7 @@ ghost use Rattle.group_calls.specs.declared.event.Event.TheVariants as happens;
 ghost use Rattle.group_run.specs.Headline.{MayCome};
 ghost use Rattle.group_run.specs.World.{step};
 ghost use Rattle.group_eras.specs.Eras.{MayMake, era_step};
-ghost use Rattle.group_eras.specs.Told.{event_in, op_for_era, told_to};
+ghost use Rattle.group_eras.specs.Told.{event_in, op_for_era, told_of_event};
 ghost use Rattle.group_regroup.specs.Kept.{IsLowBase, is_low, lowered_by, lowered_until};
 ghost use Rattle.group_regroup.specs.Laws.{NumbersFitAlways};
 
@@ -67,7 +67,7 @@ fn make(world: &mut World, bases: &[u64], event: &Event) -> Result<Out, AllocErr
     requires may { MayCome world.old event.now }
     ensures world { IfOk result (λ _. world.new
         ≡ (step world.old (event_in bases.now world.old.shape.k event.now)).world) }
-    ensures answer { IfOk result (λ out. out.answer ≡ told_to bases.now world.old.shape.k event.now
+    ensures answer { IfOk result (λ out. out.answer ≡ told_of_event bases.now world.old.shape.k event.now
         (step world.old (event_in bases.now world.old.shape.k event.now)).turn.answer) }
     ensures logged { IfOk result (λ out. out.logged
         ≡ length (step world.old (event_in bases.now world.old.shape.k event.now)).turn.logged) }
@@ -92,7 +92,7 @@ fn ask(
     requires may { MayCome world.old (happens.Ask caller op.now at) }
     ensures world { IfOk result (λ _. world.new ≡ (step world.old
         (happens.Ask caller (op_for_era bases.now world.old.shape.k op.now) at)).world) }
-    ensures answer { IfOk result (λ out. out.answer ≡ told_to bases.now world.old.shape.k
+    ensures answer { IfOk result (λ out. out.answer ≡ told_of_event bases.now world.old.shape.k
         (happens.Ask caller op.now at) (step world.old
         (happens.Ask caller (op_for_era bases.now world.old.shape.k op.now) at)).turn.answer) }
     ensures logged { IfOk result (λ out. out.logged ≡ length

@@ -1,7 +1,7 @@
 ghost use Rattle.std.specs.Prelude.{◌≡◌, ◌+◌, ◌<◌, ◌^◌, ℕ, List};
 ghost use Rattle.group_types.specs.Lists.{at};
 ghost use Rattle.group_calls.specs.declared.event.Answer.TheVariants as says;
-ghost use Rattle.group_eras.specs.Told.{told_answer, told_reply};
+ghost use Rattle.group_eras.specs.Told.{based_reply, told_answer};
 ghost use Rattle.group_regroup.specs.Fitting.{AnswerFits, ReplyFits};
 
 use crate::changing::base_of;
@@ -26,7 +26,7 @@ pub(crate) fn told_answer(bases: &[u64], partition: u32, answer: Answer) -> Answ
 
 fn told_reply(base: u64, reply: Reply) -> Reply
     requires { ReplyFits base reply }
-    ensures { (bases : List ℕ) (d : ℕ) → at 0 bases d ≡ base → result ≡ told_reply bases d reply }
+    ensures { (bases : List ℕ) (d : ℕ) → at 0 bases d ≡ base → result ≡ based_reply bases d reply }
 {
     match reply {
         Reply::Value(item) => Reply::Value(Item {

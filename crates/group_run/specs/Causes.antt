@@ -1,5 +1,5 @@
 -- The cause of each answer of a step, what an answer leaves as it was, and when a call is answered.
-use Rattle.std.specs.Prelude.{ℕ, suc, ◌≡◌, ◌≢◌, ◌<◌, ◌≤◌, ◌⊎◌, ◌==◌, ◌&&◌, Bool, true, false, ⊤, [], length, Option, Some, None, Contains}
+use Rattle.std.specs.Prelude.{ℕ, suc, ◌≡◌, ◌≢◌, ◌<◌, ◌≤◌, ◌⊎◌, ◌==◌, ◌&&◌, Bool, true, false, ⊤, ◌+◌, List, [], ◌∷◌, length, Option, Some, None, Contains}
 use Rattle.group_types.specs.Dimensions.{space_of}
 use Rattle.group_types.specs.Hash.{home_of}
 use Rattle.group_types.specs.Lists.{at}
@@ -15,7 +15,7 @@ use Rattle.memc_table.specs.Contents.{Contents, empty_table, reply_of, table_aft
 use Rattle.memc_table.specs.declared.holding.Holding.{Holding}
 use Rattle.group_message.specs.declared.kept.Kept.{Kept}
 use Rattle.group_calls.specs.Log.{table_of}
-use Rattle.group_calls.specs.Turns.{accepts}
+use Rattle.group_calls.specs.Turns.{accepts, asks_in}
 use Rattle.group_calls.specs.declared.event.Answer.{Answer}
 use Rattle.group_calls.specs.declared.event.Answer.TheVariants.{AlreadyDead, Done, Down, Gone, Idle, Lost, Moved, NoSpace, NotYet, Reply, Retry, Stale, Stranger, Ticket}
 use Rattle.group_calls.specs.declared.event.Cause.TheVariants.{Block, Pending}
@@ -282,6 +282,16 @@ AskLeaves w after answer = (after.nodes ≡ w.nodes) × KeepsLedger w after
 -- each answer to an ask leaves what it should
 abbrev pub AsksLeave : World → Type 0
 AsksLeave w = (caller : ℕ) (op : Asked) (p : ProcessId) → MayCome w (Ask caller op p) → AskLeaves w (step w (Ask caller op p)).world (step w (Ask caller op p)).turn.answer
+
+-- the event is a delivery
+abbrev pub IsDelivery : Event → Type 0
+IsDelivery (Deliver _ _) = Unit {0}
+IsDelivery _ = ⊥
+
+-- how many asks of a caller are among events
+abbrev pub asks_among : ℕ → List Event → ℕ
+asks_among caller [] = 0
+asks_among caller (e ∷ es) = asks_in caller e + asks_among caller es
 
 -- the event is a failure
 abbrev pub IsFailure : Event → Type 0

@@ -23,6 +23,20 @@ use Rattle.group_run.specs.Process.{Process, Head}
 use Rattle.group_run.specs.Replica.{Replica, callers, slot_in, run_of, freed_by, items_after, applied_to, last_of, with_log, with_update}
 use Rattle.group_run.specs.Rows.{parity_number, copy_in, accepts_mark}
 
+-- to a data process come acknowledgements, questions for a block, and notices
+abbrev pub IsForData : Message → Type 0
+IsForData (tells.Ack _ _ _) = ⊤
+IsForData (tells.ReadBlock _ _ _) = ⊤
+IsForData (tells.Notice _) = ⊤
+IsForData _ = ⊥
+
+-- to a parity process comes all but questions, and of blocks and rows those of its own sessions
+abbrev pub IsForParity : ProcessId → Message → Type 0
+IsForParity name (tells.ReadBlock _ _ _) = ⊥
+IsForParity name (tells.Block session _ _) = session.leader ≡ name
+IsForParity name (tells.Row session _ _) = session.leader ≡ name
+IsForParity name _ = ⊤
+
 -- a run of `len` addresses, all in the space
 pub record IsRunOf (space len : ℕ) (run : Run) : Type 0 where
   pub long : run.len ≡ len

@@ -12,7 +12,8 @@ use Rattle.memc_table.specs.Asked.{Asked}
 use Rattle.group_calls.specs.declared.event.Answer.{Answer}
 use Rattle.group_calls.specs.declared.event.Answer.TheVariants as says
 use Rattle.law_log.proofs.Turnings.{get-last, get-left}
-use Rattle.group_wire.specs.Composed.{Made, asks_among}
+use Rattle.group_run.specs.Causes.{asks_among}
+use Rattle.group_wire.specs.Composed.{Made}
 use Rattle.group_wire.specs.Sets.{Processes, changed_at, changed_from, one_or}
 use Rattle.group_wire.specs.Shown.{IsOfCall, WasMade}
 use Rattle.group_wire.specs.State.{Request, Told, Stage, Unasked, AskedOf, Unknown, TracedAt, Answered, OpenCall, Gateways, gateway_of}

@@ -18,7 +18,8 @@ use Rattle.group_run.specs.Asking.{collect_from}
 use Rattle.group_run.specs.Heading.{partition}
 use Rattle.group_wire.specs.Actions.{Action, Begin, Send, Read, Treat, Collect, Flush, Learn, Receive, GiveUp, Cut, Say}
 use Rattle.group_wire.specs.Actions.{Hear, Permit, Take, Ping, Pong, Count, Show, LetGo, Stop}
-use Rattle.group_wire.specs.Composed.{Composed, Made, asks_among, call_given_up, composed_with, events_of, failures_at}
+use Rattle.group_run.specs.Causes.{asks_among}
+use Rattle.group_wire.specs.Composed.{Composed, Made, call_given_up, composed_with, events_of, failures_at}
 use Rattle.group_wire.specs.Composed.{given_up, lost_ask, made_by, message_made, opening_composed, request_made}
 use Rattle.group_wire.specs.Composed.{stands_if}
 use Rattle.group_wire.specs.May.{MayAct}

@@ -21,9 +21,10 @@ use Rattle.group_run.specs.Heading.{partition}
 use Rattle.group_run.specs.World.{front_if}
 use Rattle.group_wire.specs.Actions.{Action, Begin, Send, Read, Treat, Collect, Flush, Learn, Receive, GiveUp, Cut, Say}
 use Rattle.group_wire.specs.Actions.{Hear, Permit, Take, Ping, Pong, Count, Show, LetGo, Stop}
-use Rattle.group_wire.specs.Composed.{Composed, Made, asks_among, call_given_up, composed_with, events_of, failed_after}
+use Rattle.group_run.specs.Causes.{asks_among}
+use Rattle.group_wire.specs.Composed.{Composed, Made, call_given_up, composed_with, events_of, failed_after}
 use Rattle.group_wire.specs.Composed.{failures_at, given_up, lost_ask, message_made, request_made, stands_if}
-use Rattle.group_wire.specs.May.{CallIsTold, IsToldBefore, MayAct, WaitsForDead, call_waits_for, waits_for}
+use Rattle.group_wire.specs.May.{CallIsTold, IsToldBefore, MayAct, WaitsForDead, awaited_member, call_waits_for}
 use Rattle.group_wire.specs.Sets.{Processes, changed, either, one_or, with_one, without_nth}
 use Rattle.group_wire.specs.State.{Request, AskFor, TraceOf, Told, Stage, Unasked, AskedOf, Unknown, TracedAt, Answered}
 use Rattle.group_wire.specs.State.{OpenCall, Gateways, Group, gateway_of, opening_group}
@@ -303,7 +304,7 @@ module _ (c : Composed) (caller : ℕ) (b : PositionedAt c.group c.failed (asked
         c.group.gateways.parked caller) (asked_in c caller) (c.group.gateways.next caller) o.position) is fits.1
 
     waits_at : Some x ≡ Some dead.member
-    waits_at = sym (ap call_waits_for call ∙ ap waits_for is) ∙ dead.waits
+    waits_at = sym (ap call_waits_for call ∙ ap awaited_member is) ∙ dead.waits
 
     member : x ≡ dead.member
     member = ap (λ (q : Option ProcessId). elim q [ None ↦ x | Some y ↦ y ]) waits_at
@@ -491,7 +492,7 @@ positioned-step c (LetGo caller) some may barred held b = positioned-as _ _ _ _ 
     (λ lives. goes (c.group.gateways.call caller) may.1 (b.calls caller lives)))
   where
     -- a call that waits for no member has no ask that can still be treated
-    at_end : (o : OpenCall) (stage : Stage) → waits_for stage ≡ None
+    at_end : (o : OpenCall) (stage : Stage) → awaited_member stage ≡ None
         → StageFits c.group.shape c.failed (waits c.group.shape c.group.words.cut c.group.gateways.requests
         c.group.gateways.parked caller) (asked_in c caller) (c.group.gateways.next caller) o.position stage
         → CallFits c.group.shape c.failed (waits c.group.shape c.group.words.cut c.group.gateways.requests

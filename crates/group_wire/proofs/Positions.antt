@@ -16,7 +16,8 @@ use Rattle.group_calls.specs.declared.event.Event.TheVariants as event
 use Rattle.group_wire.specs.Sets.{Processes, changed, changed_at, changed_from, entry_at, one_or, without_nth}
 use Rattle.group_wire.specs.State.{Request, AskFor, Told, Stage, Unasked, AskedOf, Unknown, TracedAt, Answered, OpenCall, Gateways, gateway_of}
 use Rattle.group_wire.specs.Sending.{sent_on}
-use Rattle.group_wire.specs.Composed.{Composed, Made, asks_among}
+use Rattle.group_run.specs.Causes.{asks_among}
+use Rattle.group_wire.specs.Composed.{Composed, Made}
 use Rattle.group_wire.proofs.Changes.{changed-pairs, changed_at-each, changed_at-here, one_or-is}
 use Rattle.group_wire.proofs.Requests.{Living, Placed, asked_once, cut-fewer, none-left, one-waiting, placed-cut}
 use Rattle.group_wire.proofs.Requests.{placed-fail, placed-once, placed-read, placed-taken, read-fewer, taken-fewer}

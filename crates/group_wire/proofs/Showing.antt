@@ -20,7 +20,8 @@ use Rattle.group_run.specs.World.{World, opening, step, turns_from, turns_of}
 use Rattle.law_log.proofs.Turnings.{asks-self, contained-get, get-left}
 use Rattle.law_headline.proofs.Headlines.{headline_always}
 use Rattle.group_wire.specs.Actions.{Action, Show}
-use Rattle.group_wire.specs.Composed.{AreActions, Composed, Made, asks_among, composed, events_of}
+use Rattle.group_run.specs.Causes.{asks_among}
+use Rattle.group_wire.specs.Composed.{AreActions, Composed, Made, composed, events_of}
 use Rattle.group_wire.specs.Laws.{NoTwoHoldAll, SentAlive}
 use Rattle.group_wire.specs.May.{CallIsTold, IsToldBefore, MayAct}
 use Rattle.group_wire.specs.Shown.{IsLoggedSinceBegun, IsOfCall, ShownIsLogged, ShownIsMade, Shows, events_before}

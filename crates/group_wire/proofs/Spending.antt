@@ -21,7 +21,8 @@ use Rattle.group_run.specs.Asking.{collect_from}
 use Rattle.group_run.specs.Heading.{partition}
 use Rattle.group_wire.specs.Actions.{Action, Begin, Send, Read, Treat, Collect, Flush, Learn, Receive, GiveUp, Cut, Say}
 use Rattle.group_wire.specs.Actions.{Hear, Permit, Take, Ping, Pong, Count, Show, LetGo, Stop}
-use Rattle.group_wire.specs.Composed.{AreActions, AreActionsFrom, Composed, Made, asks_among, call_given_up, composed}
+use Rattle.group_run.specs.Causes.{asks_among}
+use Rattle.group_wire.specs.Composed.{AreActions, AreActionsFrom, Composed, Made, call_given_up, composed}
 use Rattle.group_wire.specs.Composed.{composed_from, composed_with, events_of, failures_at, given_up, lost_ask, made_by}
 use Rattle.group_wire.specs.Composed.{message_made, opening_composed, request_made, stands_if}
 use Rattle.group_wire.specs.May.{MayAct}

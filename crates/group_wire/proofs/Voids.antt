@@ -22,7 +22,8 @@ use Rattle.group_run.specs.Heading.{partition}
 use Rattle.group_run.specs.Process.{Head, Process}
 use Rattle.group_message.specs.declared.kept.Kept.{Kept}
 use Rattle.law_log.proofs.Turnings.{get-last, get-left}
-use Rattle.group_wire.specs.Composed.{Made, asks_among}
+use Rattle.group_run.specs.Causes.{asks_among}
+use Rattle.group_wire.specs.Composed.{Made}
 use Rattle.group_wire.specs.Sets.{Processes}
 use Rattle.group_wire.specs.Serving.{handed_to, stage_told, told_of}
 use Rattle.group_wire.specs.Shown.{events_before}

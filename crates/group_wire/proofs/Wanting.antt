@@ -11,7 +11,8 @@ use Rattle.memc_table.specs.Asked.{Asked}
 use Rattle.group_calls.specs.Turns.{asks_in}
 use Rattle.group_calls.specs.declared.event.Event.TheVariants as event
 use Rattle.law_log.proofs.Turnings.{asks-self}
-use Rattle.group_wire.specs.Composed.{Made, asks_among}
+use Rattle.group_run.specs.Causes.{asks_among}
+use Rattle.group_wire.specs.Composed.{Made}
 use Rattle.group_wire.specs.Sets.{Processes, changed, changed_from, one_or, without_nth}
 use Rattle.group_wire.specs.Shown.{events_before}
 use Rattle.group_wire.specs.State.{Request, AskFor, TraceOf, OpenCall, Gateways, gateway_of}

@@ -33,10 +33,11 @@ use Rattle.law_headline.proofs.Headlines.{headline_always}
 use Rattle.law_answers.proofs.Entries.{turns-more}
 use Rattle.group_wire.specs.Actions.{Action, Begin, Send, Read, Treat, Collect, Flush, Learn, Receive, GiveUp, Cut, Say}
 use Rattle.group_wire.specs.Actions.{Hear, Permit, Take, Ping, Pong, Count, Show, LetGo, Stop}
-use Rattle.group_wire.specs.Composed.{AreActions, AreActionsFrom, Composed, Made, asks_among, call_given_up, composed}
+use Rattle.group_run.specs.Causes.{asks_among}
+use Rattle.group_wire.specs.Composed.{AreActions, AreActionsFrom, Composed, Made, call_given_up, composed}
 use Rattle.group_wire.specs.Composed.{composed_from, composed_with, events_of, failures_at, given_up, lost_ask}
 use Rattle.group_wire.specs.Composed.{message_made, opening_composed, request_made, stands_if}
-use Rattle.group_wire.specs.May.{MayAct, call_waits_for, waits_for}
+use Rattle.group_wire.specs.May.{MayAct, awaited_member, call_waits_for}
 use Rattle.group_wire.specs.Sets.{Processes, changed, changed_from, either, one_or, with_one}
 use Rattle.group_wire.specs.State.{Request, AskFor, TraceOf, Stage, Unasked, AskedOf, Unknown, TracedAt, Answered, OpenCall, Works, gateway_of}
 use Rattle.group_wire.specs.Sending.{heard_first, parked_at, stepped, treating, words_after, works_received, works_treated}
@@ -259,7 +260,7 @@ module _ (c : Composed) (h : Whole c) where
     by (Answered t n) at_stage f = same
     by (AskedOf x) at_stage f = which (nat_le (asks_among caller (events_of c)) o.position) where
       waits_at : Some x ≡ Some may.1.member
-      waits_at = sym (ap call_waits_for is ∙ ap waits_for at_stage) ∙ may.1.waits
+      waits_at = sym (ap call_waits_for is ∙ ap awaited_member at_stage) ∙ may.1.waits
 
       member : x ≡ may.1.member
       member = ap (λ (q : Option ProcessId). elim q [ None ↦ x | Some y ↦ y ]) waits_at

@@ -7,12 +7,12 @@ use Rattle.group_types.specs.Shape.{IsShape}
 use Rattle.group_types.specs.declared.process.ProcessId.{ProcessId}
 use Rattle.memc_table.specs.Asked.{Asked}
 use Rattle.group_message.specs.declared.message.Message.{Message}
-use Rattle.group_calls.specs.Turns.{asks_in}
 use Rattle.group_calls.specs.declared.event.Answer.{Answer}
 use Rattle.group_calls.specs.declared.event.Answer.TheVariants as says
 use Rattle.group_calls.specs.declared.event.Event.{Event}
 use Rattle.group_calls.specs.declared.event.Event.TheVariants as event
 use Rattle.group_run.specs.Asking.{collect_from}
+use Rattle.group_run.specs.Causes.{asks_among}
 use Rattle.group_run.specs.Heading.{partition}
 use Rattle.group_run.specs.World.{front_if}
 use Rattle.group_wire.specs.Actions.{Action, Begin, Treat, Collect, Flush, Receive, GiveUp, Permit, Take}
@@ -40,11 +40,6 @@ pub record Composed : Type 0 where
 -- the events of the machine
 abbrev pub events_of : Composed → List Event
 events_of c = map (λ x. x.event) c.made
-
--- how many asks of a caller are among events
-abbrev pub asks_among : ℕ → List Event → ℕ
-asks_among caller [] = 0
-asks_among caller (e ∷ es) = asks_in caller e + asks_among caller es
 
 -- an event stands where its member hasn't failed
 abbrev pub stands_if : Bool → List Made → List Made

@@ -10,7 +10,8 @@ use Rattle.group_run.specs.Headline.{Headline, IsRun}
 use Rattle.group_run.specs.Meaning.{IsDown, is_dead, link, process_of}
 use Rattle.group_run.specs.World.{World, after, turns_of}
 use Rattle.group_wire.specs.Actions.{Action, Receive, Take}
-use Rattle.group_wire.specs.Composed.{AreActions, Composed, asks_among, composed, events_of}
+use Rattle.group_run.specs.Causes.{asks_among}
+use Rattle.group_wire.specs.Composed.{AreActions, Composed, composed, events_of}
 use Rattle.group_wire.specs.May.{MayAct}
 use Rattle.group_wire.specs.Sets.{one_or, size_of}
 use Rattle.group_wire.specs.State.{OpenCall, AskedOf, gateway_of}

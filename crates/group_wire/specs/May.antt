@@ -30,14 +30,14 @@ pub record IsCaller (g : Group) (caller : ℕ) : Type 0 where
   pub gateway : IsHere g (gateway_of g.shape caller)
 
 -- the member that an open call waits for
-abbrev pub waits_for : Stage → Option ProcessId
-waits_for (AskedOf x) = Some x
-waits_for (TracedAt x) = Some x
-waits_for _ = None
+abbrev pub awaited_member : Stage → Option ProcessId
+awaited_member (AskedOf x) = Some x
+awaited_member (TracedAt x) = Some x
+awaited_member _ = None
 
 abbrev pub call_waits_for : Option OpenCall → Option ProcessId
 call_waits_for None = None
-call_waits_for (Some opened) = waits_for opened.stage
+call_waits_for (Some opened) = awaited_member opened.stage
 
 -- a member waits for one whose death it has taken
 pub record WaitsForDead (g : Group) (caller : ℕ) : Type 0 where

@@ -70,17 +70,17 @@ pub record ScheduleRow (s : Dimensions) (actions : List Action) (answers : List 
   pub fails : lost_at (composed s actions) ≡ lost
 
 -- the kind of a message, as frames have it
-abbrev pub kind_of : Message → ℕ
-kind_of (tells.Update _ _ _ _) = 1
-kind_of (tells.Ack _ _ _) = 2
-kind_of (tells.Stable _ _ _) = 3
-kind_of (tells.Adopt _ _ _ _) = 4
-kind_of (tells.ReadBlock _ _ _) = 5
-kind_of (tells.Block _ _ _) = 6
-kind_of (tells.Mark _ _ _ _ _) = 7
-kind_of (tells.Row _ _ _) = 8
-kind_of (tells.Cease _) = 9
-kind_of (tells.Notice _) = 10
+abbrev pub message_kind : Message → ℕ
+message_kind (tells.Update _ _ _ _) = 1
+message_kind (tells.Ack _ _ _) = 2
+message_kind (tells.Stable _ _ _) = 3
+message_kind (tells.Adopt _ _ _ _) = 4
+message_kind (tells.ReadBlock _ _ _) = 5
+message_kind (tells.Block _ _ _) = 6
+message_kind (tells.Mark _ _ _ _ _) = 7
+message_kind (tells.Row _ _ _) = 8
+message_kind (tells.Cease _) = 9
+message_kind (tells.Notice _) = 10
 
 -- the action at a place of a schedule may not come, while all those before it may
 pub record RefusesAction (s : Dimensions) (actions : List Action) (place : ℕ) (wrong : Action) : Type 0 where
@@ -103,8 +103,8 @@ pub record BreaksShown (s : Dimensions) (actions : List Action) (place : ℕ) (w
 -- one in which a wire has other messages than the machine's link
 pub record BreaksLink (s : Dimensions) (actions : List Action) (place : ℕ) (wrong : Action) (x p : ProcessId) (wire linked : List ℕ) : Type 0 where
   pub refuses : RefusesAction s actions place wrong
-  pub here : map kind_of ((composed s actions).group.works.messages x p) ≡ wire
-  pub there : map kind_of (link (machine (composed s actions)) x p) ≡ linked
+  pub here : map message_kind ((composed s actions).group.works.messages x p) ≡ wire
+  pub there : map message_kind (link (machine (composed s actions)) x p) ≡ linked
 
 -- a run in which a data process is cut and fails, and its death is taken
 abbrev pub AFailureMayCome : Type 0

@@ -8,7 +8,8 @@ use Rattle.group_calls.specs.declared.event.Event.{Event}
 use Rattle.group_calls.specs.declared.event.Event.TheVariants as event
 use Rattle.group_run.specs.World.{turns_of}
 use Rattle.group_wire.specs.Actions.{Action, Show}
-use Rattle.group_wire.specs.Composed.{AreActions, Composed, Made, asks_among, composed, events_of}
+use Rattle.group_run.specs.Causes.{asks_among}
+use Rattle.group_wire.specs.Composed.{AreActions, Composed, Made, composed, events_of}
 use Rattle.group_wire.specs.Composition.{machine}
 use Rattle.group_wire.specs.Laws.{NoTwoHoldAll}
 use Rattle.group_wire.specs.May.{MayAct}

@@ -1,5 +1,5 @@
 -- What comes to a process by its kind, how many dead a process may learn of, and of which of its own sessions marks come.
-use Rattle.std.specs.Prelude.{ℕ, ◌≡◌, ◌≢◌, ◌≤◌, ⊤, List, ◌∷◌}
+use Rattle.std.specs.Prelude.{ℕ, ◌≡◌, ◌≢◌, ◌≤◌, List, ◌∷◌}
 use Rattle.group_types.specs.Dimensions.{Dimensions}
 use Rattle.group_types.specs.Names.{IsProcess}
 use Rattle.group_types.specs.declared.process.Partition.{Partition}
@@ -11,24 +11,11 @@ use Rattle.group_message.specs.declared.message.Message.{Message}
 use Rattle.group_message.specs.declared.message.Message.TheVariants as tells
 use Rattle.group_message.specs.declared.message.Session.{Session}
 use Rattle.group_calls.specs.declared.event.Event.{Event}
+use Rattle.group_run.specs.Fitting.{IsForData, IsForParity}
 use Rattle.group_run.specs.Headline.{IsRun}
 use Rattle.group_run.specs.Meaning.{IsDown, Lives, link, process_of}
 use Rattle.group_run.specs.Rows.{parity_number}
 use Rattle.group_run.specs.World.{World, after}
-
--- to a data process come acknowledgements, questions for a block, and notices
-abbrev pub IsForData : Message → Type 0
-IsForData (tells.Ack _ _ _) = ⊤
-IsForData (tells.ReadBlock _ _ _) = ⊤
-IsForData (tells.Notice _) = ⊤
-IsForData _ = ⊥
-
--- to a parity process comes all but questions, and of blocks and rows those of its own sessions
-abbrev pub IsForParity : ProcessId → Message → Type 0
-IsForParity name (tells.ReadBlock _ _ _) = ⊥
-IsForParity name (tells.Block session _ _) = session.leader ≡ name
-IsForParity name (tells.Row session _ _) = session.leader ≡ name
-IsForParity name _ = ⊤
 
 abbrev pub IsFor : ProcessId → Message → Type 0
 IsFor (DataNode d) m = IsForData m

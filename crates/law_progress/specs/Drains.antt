@@ -9,7 +9,7 @@ use Rattle.group_run.specs.Headline.{IsRun, MayCome}
 use Rattle.group_run.specs.Meaning.{IsDown}
 use Rattle.group_run.specs.Progress.{load_of}
 use Rattle.group_run.specs.World.{World, after, step, world_after}
-use Rattle.law_progress.specs.Ends.{IsDelivery}
+use Rattle.group_run.specs.Causes.{IsDelivery}
 
 -- an event adds little to the weight of what is on its way
 abbrev pub most_rise : ℕ

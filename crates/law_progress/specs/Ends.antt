@@ -5,20 +5,12 @@ use Rattle.group_types.specs.Dimensions.{Dimensions}
 use Rattle.group_types.specs.declared.process.ProcessId.{ProcessId}
 use Rattle.group_calls.specs.declared.event.Answer.TheVariants as says
 use Rattle.group_calls.specs.declared.event.Event.{Event}
-use Rattle.group_calls.specs.declared.event.Event.TheVariants.{Ask, Collect, Deliver, Fail, Flush, Trace}
+use Rattle.group_calls.specs.declared.event.Event.TheVariants.{Deliver}
+use Rattle.group_run.specs.Causes.{IsDelivery}
 use Rattle.group_run.specs.Headline.{IsRun, IsRunFrom, MayCome}
 use Rattle.group_run.specs.Meaning.{IsDown, IsDrained}
 use Rattle.group_run.specs.Progress.{DeliveryLowers, load_of}
 use Rattle.group_run.specs.World.{World, after, step, world_after}
-
--- the event is a delivery
-abbrev pub IsDelivery : Event → Type 0
-IsDelivery (Deliver from to) = Unit {0}
-IsDelivery (Ask caller op p) = ⊥
-IsDelivery (Collect caller call p) = ⊥
-IsDelivery (Fail p keep) = ⊥
-IsDelivery (Flush p) = ⊥
-IsDelivery (Trace caller call d p) = ⊥
 
 -- the events are deliveries, and with each of them a message comes
 abbrev pub AllDelivered : World → List Event → Type 0

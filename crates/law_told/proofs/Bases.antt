@@ -19,7 +19,7 @@ use Rattle.group_run.specs.Meaning.{is_update_of}
 use Rattle.group_run.specs.World.{World}
 use Rattle.group_eras.specs.Eras.{EraEntry, Eras}
 use Rattle.group_eras.specs.Promise.{AreTold, TellsEntry, one_log}
-use Rattle.group_eras.specs.Told.{Bases, told_reply, without_base}
+use Rattle.group_eras.specs.Told.{Bases, based_reply, without_base}
 use Rattle.group_eras.proofs.Joins.{key-cas}
 use Rattle.group_eras.proofs.Lists.{map-both}
 use Rattle.group_eras.proofs.Standing.{Stands}
@@ -57,7 +57,7 @@ filter-both era (x ∷ xs) ys = by (is_earlier era x) (filter-both era xs ys) wh
   by false rest = rest
 
 -- a reply is told as accepted where it is
-accepts-told : (bases : Bases) (d : ℕ) (r : Reply) → accepts (told_reply bases d r) ≡ accepts r
+accepts-told : (bases : Bases) (d : ℕ) (r : Reply) → accepts (based_reply bases d r) ≡ accepts r
 accepts-told bases d (reply.Value item) = refl
 accepts-told bases d reply.Miss = refl
 accepts-told bases d reply.Stored = refl

@@ -31,7 +31,7 @@ use Rattle.group_cluster.specs.Plan.{IsPlan, Plan}
 use Rattle.cluster_run.specs.Meaning.{failure_line, in_group}
 use Rattle.cluster_run.specs.Playing.{ClusterNext, ClusterPlay, ClusterTurn, all_deliveries, by_drain, by_event}
 use Rattle.cluster_run.specs.Playing.{by_line, by_trace, by_words, cluster_log_of, group_world, next_of, opening_of, then_by}
-use Rattle.cluster_run.specs.Playing.{then_in, turns_from}
+use Rattle.cluster_run.specs.Playing.{cluster_turns_from, then_in}
 use Rattle.cluster_run.specs.Script.{plan_in}
 use Rattle.cluster_run.specs.Texts.{cluster_answer_text, cluster_entries_text, cluster_entry_text}
 use Rattle.cluster_run.specs.declared.fault.ClusterFault.TheVariants.{BadLine}
@@ -90,14 +90,14 @@ said-last line es other =
 step-logs : (c : Cluster) (e : ClusterEvent) → (cluster_step c e).cluster.groups.log ≡ c.groups.log ++ logged_in (cluster_step c e).turns
 step-logs c e = log-moved c.groups (moves_of c e)
 
-events-log : (c : Cluster) (es : List ClusterEvent) → (cluster_after c es).groups.log ≡ c.groups.log ++ cluster_log_of (turns_from c es)
+events-log : (c : Cluster) (es : List ClusterEvent) → (cluster_after c es).groups.log ≡ c.groups.log ++ cluster_log_of (cluster_turns_from c es)
 events-log c [] = sym (append-nil c.groups.log)
 events-log c (e ∷ es) =
     events-log (cluster_step c e).cluster es
-    ∙ ap (λ (log : List ClusterEntry). log ++ cluster_log_of (turns_from (cluster_step c e).cluster es)) (step-logs c e)
-    ∙ append_assoc c.groups.log (logged_in (cluster_step c e).turns) (cluster_log_of (turns_from (cluster_step c e).cluster es))
+    ∙ ap (λ (log : List ClusterEntry). log ++ cluster_log_of (cluster_turns_from (cluster_step c e).cluster es)) (step-logs c e)
+    ∙ append_assoc c.groups.log (logged_in (cluster_step c e).turns) (cluster_log_of (cluster_turns_from (cluster_step c e).cluster es))
 
-events-are : (c : Cluster) (es : List ClusterEvent) → cluster_events_in (turns_from c es) ≡ es
+events-are : (c : Cluster) (es : List ClusterEvent) → cluster_events_in (cluster_turns_from c es) ≡ es
 events-are c [] = refl
 events-are c (e ∷ es) = ap (λ (xs : List ClusterEvent). e ∷ xs) (events-are (cluster_step c e).cluster es)
 
@@ -158,7 +158,7 @@ trace-comes p line j caller call e = by (nat_lt call (at 0 (group_world p j).ask
 drain-comes : (p : ClusterPlay) (line : List ℕ) (es : List ClusterEvent) → line_meaning (Some p.cluster.groups.shape) line
     ≡ Ok Drain → ComesTo p line (by_drain p es)
 drain-comes p line es reads =
-    let turns : List ClusterTurn = turns_from p.cluster es in
+    let turns : List ClusterTurn = cluster_turns_from p.cluster es in
     let wrote : List ℕ = codes "drained " ++ decimal (length turns) in
     let same = ap (cluster_after p.cluster) (events-are p.cluster es) in
     record {

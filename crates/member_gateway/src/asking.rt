@@ -4,7 +4,7 @@ ghost use Rattle.member_gateway.specs.Calls.{GoesQuietly};
 use crate::links::Links;
 use crate::sets::{has, place_of, with};
 use crate::work::MemberWork;
-use group_types::{Partition, ProcessId, Shape, home};
+use group_types::{Partition, ProcessId, Shape};
 use link_frames::Frame;
 
 impl MemberWork {
@@ -53,12 +53,11 @@ impl MemberWork {
 
     // The process of lowest rank of a call's partition whose death isn't taken.
     fn head_for(&self, caller: u32) -> Option<ProcessId> {
-        if !self.member.has_caller(caller) {
+        if !self.member.has_caller(caller) || self.member.caller(caller).call().is_none() {
             return None;
         }
-        let call = self.member.caller(caller).call()?;
-        let shape = self.member.shape();
-        self.head_of(home(call.op().act().key(), shape.k()))
+        let hash = self.calls.note(caller)?.hash;
+        self.head_of(Partition(hash % self.member.shape().k()))
     }
 
     /// The process of lowest rank of a partition whose death isn't taken.

@@ -1,6 +1,5 @@
 use crate::links::Links;
-use crate::sets::{has, many, without};
-use group_types::Shape;
+use crate::sets::{first, without};
 use link_frames::Frame;
 
 /// A frame that a member's call made, and to which processes it is still to go.
@@ -13,13 +12,12 @@ struct Held {
 /// The frame that there was no memory for, if there is one. Nothing goes out before it.
 #[derive(Drop)]
 pub(crate) struct Outgoing {
-    shape: Shape,
     held: Option<Held>,
 }
 
 impl Outgoing {
-    pub(crate) fn new(shape: Shape) -> Outgoing {
-        Outgoing { shape, held: None }
+    pub(crate) fn new() -> Outgoing {
+        Outgoing { held: None }
     }
 
     /// Whether a frame can be made.
@@ -29,7 +27,7 @@ impl Outgoing {
 
     /// A frame goes to each of a set, or is kept for those that there is no memory for.
     pub(crate) fn post<L: Links>(&mut self, links: &mut L, to: u32, frame: Frame) {
-        let to = put_to(links, self.shape, to, &frame);
+        let to = put_to(links, to, &frame);
         if to == 0 {
             drop(frame);
         } else {
@@ -46,10 +44,14 @@ impl Outgoing {
 }
 
 // A frame is put on the links to a set: those are left that there was no memory for.
-fn put_to<L: Links>(links: &mut L, shape: Shape, to: u32, frame: &Frame) -> u32 {
-    let mut left = to;
-    'names: for x in 0..many(shape) {
-        if has(to, x) && links.put(x, frame).is_ok() {
+fn put_to<L: Links>(links: &mut L, to: u32, frame: &Frame) -> u32 {
+    let (mut rest, mut left) = (to, to);
+    'names: for _ in 0..u32::BITS {
+        let Some(x) = first(rest) else {
+            return left;
+        };
+        rest = without(rest, x);
+        if links.put(x, frame).is_ok() {
             left = without(left, x);
         }
     }

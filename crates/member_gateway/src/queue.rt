@@ -22,6 +22,10 @@ impl Queue {
         }
     }
 
+    pub(crate) fn is_empty(&self) -> bool {
+        self.waiters.is_empty()
+    }
+
     pub(crate) fn push(&mut self, waiter: Waiter) -> Result<(), AllocError> {
         self.waiters.push_back(waiter)?;
         Ok(())

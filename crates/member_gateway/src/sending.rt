@@ -39,7 +39,7 @@ impl MemberWork {
     fn ping<L: Links>(&mut self, links: &mut L)
         ensures goes { GoesQuietly self.old self.new }
     {
-        if !self.outgoing.is_clear() {
+        if !self.outgoing.is_clear() || self.fence.unshown() == 0 {
             return;
         }
         let (uncut, now) = (self.uncut(), self.moment);

@@ -27,6 +27,14 @@ pub(crate) fn has(set: u32, x: u32) -> bool {
     x < 32 && set >> x & 1 == 1
 }
 
+/// The index of the first process of a set.
+pub(crate) fn first(set: u32) -> Option<u32> {
+    if set == 0 {
+        return None;
+    }
+    Some(set.trailing_zeros())
+}
+
 /// The set with the process at an index.
 pub(crate) fn with(set: u32, x: u32) -> u32 {
     if 32 <= x {

@@ -138,6 +138,9 @@ impl Waiting {
 
     // Offers callers to those that wait, as long as one may have one.
     fn offer_all(&mut self) {
+        if self.gets.is_empty() && self.changes.is_empty() {
+            return;
+        }
         'callers: for _ in 0..self.callers.left() {
             let Some(kind) = self.next_kind() else {
                 return;

@@ -63,7 +63,7 @@ impl MemberWork {
             parking: Parking::new(alloc)?,
             fence: Fence::new(alloc, shape, own)?,
             dues: Dues::new(alloc),
-            outgoing: Outgoing::new(shape),
+            outgoing: Outgoing::new(),
             taken: 0,
             has_word: false,
             has_settled: false,

@@ -4,13 +4,13 @@ use Rattle.group_types.specs.Dimensions.{Dimensions}
 use Rattle.group_types.specs.declared.process.ProcessId.{ProcessId}
 use Rattle.group_message.specs.declared.message.Message.{Message}
 use Rattle.group_message.specs.declared.message.Message.TheVariants as tells
-use Rattle.group_run.specs.Fitting.{Fits}
+use Rattle.group_run.specs.Fitting.{Fits, IsForParity}
 use Rattle.group_run.specs.Process.{Process}
 use Rattle.head_service.specs.Serving.{Serving, serving}
 use Rattle.process_service.specs.Coming.{NoticeComes}
 use Rattle.process_service.specs.Standing.{Standing, standing}
 use Rattle.leader_role.specs.Sound.{IsOfGroup}
-use Rattle.parity_process.specs.Coming.{FitsParity, IsForParity}
+use Rattle.parity_process.specs.Coming.{FitsParity}
 
 module _ {b : Bool} {s : Dimensions} {from : ProcessId} {p : Process} where
   -- a message of a kind that is for each parity process

@@ -1,20 +1,12 @@
 -- What can come to a parity process.
-use Rattle.std.specs.Prelude.{◌≡◌, ◌≤◌, ℕ, ⊤}
+use Rattle.std.specs.Prelude.{◌≡◌, ◌≤◌, ℕ}
 use Rattle.group_types.specs.Dimensions.{Dimensions}
 use Rattle.group_types.specs.declared.process.ProcessId.{ProcessId}
 use Rattle.group_message.specs.declared.message.Message.{Message}
-use Rattle.group_message.specs.declared.message.Message.TheVariants as tells
-use Rattle.group_run.specs.Fitting.{Fits}
+use Rattle.group_run.specs.Fitting.{Fits, IsForParity}
 use Rattle.group_run.specs.Process.{Process}
 use Rattle.group_run.specs.Replica.{Replica, last_of}
 use Rattle.leader_role.specs.Sound.{IsOfGroup}
-
--- all but questions, and of blocks and rows those of its own sessions
-abbrev pub IsForParity : ProcessId → Message → Type 0
-IsForParity name (tells.ReadBlock _ _ _) = ⊥
-IsForParity name (tells.Block session _ _) = session.leader ≡ name
-IsForParity name (tells.Row session _ _) = session.leader ≡ name
-IsForParity name _ = ⊤
 
 -- a message fits, is for the process, and comes as in a group that isn't down
 pub record FitsParity (s : Dimensions) (from : ProcessId) (m : Message) (p : Process) : Type 0 where

@@ -9,7 +9,7 @@ use Rattle.group_run.specs.Meaning.{IsDown}
 use Rattle.group_run.specs.Progress.{load_of}
 use Rattle.group_run.specs.Shown.{is_down}
 use Rattle.group_run.specs.World.{World, step}
-use Rattle.law_progress.specs.Ends.{IsDelivery}
+use Rattle.group_run.specs.Causes.{IsDelivery}
 use Rattle.scenario_run.specs.Playing.{draining_unless_down}
 use Rattle.scenario_run.proofs.Draining.{Lightens, lightens, next-delivers}
 use Rattle.scenario_run.proofs.Leading.{IsLedTo, led-step}

@@ -27,7 +27,7 @@ use Rattle.law_progress.proofs.Loads.{load-is, on_way, way_from, weights}
 use Rattle.law_progress.proofs.Rising.{rises-little}
 use Rattle.law_progress.proofs.Whole.{next-comes}
 use Rattle.law_progress.proofs.Always.{deliveries_lower}
-use Rattle.law_progress.specs.Ends.{IsDelivery}
+use Rattle.group_run.specs.Causes.{IsDelivery}
 use Rattle.group_run.specs.Shown.{is_down}
 use Rattle.scenario_run.specs.Playing.{draining_unless_down}
 use Rattle.scenario_run.proofs.Leading.{IsLedTo, led-step}

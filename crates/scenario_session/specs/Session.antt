@@ -13,15 +13,15 @@ use Rattle.scenario_session.specs.declared.end.SessionEnd.{SessionEnd}
 use Rattle.scenario_session.specs.declared.end.SessionEnd.TheVariants.{Done, Cut, LineTooLong, Worn, ReadFault, WriteFault, Want}
 
 -- how a session ends whose connection ended so
-abbrev pub end_of : Result End ConnectionFault → SessionEnd
-end_of (Ok end.Quit) = Done
-end_of (Ok end.Ended) = Done
-end_of (Ok end.Cut) = Cut
-end_of (Ok end.LineTooLong) = LineTooLong
-end_of (Ok end.Worn) = Worn
-end_of (Err fault.ReadFault) = ReadFault
-end_of (Err fault.WriteFault) = WriteFault
-end_of (Err fault.Want) = Want
+abbrev pub session_end_of : Result End ConnectionFault → SessionEnd
+session_end_of (Ok end.Quit) = Done
+session_end_of (Ok end.Ended) = Done
+session_end_of (Ok end.Cut) = Cut
+session_end_of (Ok end.LineTooLong) = LineTooLong
+session_end_of (Ok end.Worn) = Worn
+session_end_of (Err fault.ReadFault) = ReadFault
+session_end_of (Err fault.WriteFault) = WriteFault
+session_end_of (Err fault.Want) = Want
 
 -- a connection was served over a fresh group of this shape, and ended so; whatever calls lead from that group on, their
 -- ends are those of one table
@@ -34,4 +34,4 @@ pub record IsSessionServed (s : Dimensions) (told : Option ℕ) (input input_now
 pub record HasEndedSession (s : Dimensions) (told : Option ℕ) (input input_now : Input) (held held_now : List ℕ) (end : SessionEnd) : Type 0 where
   pub connection : Result End ConnectionFault
   pub served : IsSessionServed s told input input_now held held_now connection
-  pub ends : end ≡ end_of connection
+  pub ends : end ≡ session_end_of connection

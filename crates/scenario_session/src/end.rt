@@ -1,5 +1,5 @@
 ghost use Rattle.std.specs.Prelude.{◌≡◌};
-ghost use Rattle.scenario_session.specs.Session.{end_of};
+ghost use Rattle.scenario_session.specs.Session.{session_end_of};
 
 use front_end::{ConnectionFault, End};
 
@@ -24,7 +24,7 @@ pub enum SessionEnd {
 
 /// How a session ends whose connection ended so.
 pub(crate) fn end_of(connection: Result<End, ConnectionFault>) -> SessionEnd
-    ensures { result ≡ end_of connection }
+    ensures { result ≡ session_end_of connection }
 {
     match connection {
         Ok(End::Quit) => SessionEnd::Done,

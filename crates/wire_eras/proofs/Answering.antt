@@ -12,7 +12,7 @@ use Rattle.group_calls.specs.Turns.{CallName, call_entry}
 use Rattle.group_calls.specs.declared.entry.Entry.{Entry}
 use Rattle.law_log.proofs.Tables.{table-append}
 use Rattle.law_moves.proofs.Reading.{some-same}
-use Rattle.group_eras.specs.Told.{Bases, op_for_era, told_reply}
+use Rattle.group_eras.specs.Told.{Bases, based_reply, op_for_era}
 use Rattle.group_wire.specs.Actions.{Action}
 use Rattle.group_wire.specs.Composed.{composed}
 use Rattle.group_wire.specs.Shown.{IsLoggedSinceBegun}
@@ -55,11 +55,11 @@ swap bases k (x ∷ xs) (z ∷ zs) (suc i) e y are is told_as =
 pub of-table : (earlier told : List Entry) (s : Dimensions) (actions : List Action) (caller : ℕ) (o : OpenCall)
     (shown : Reply) (asked : Asked) → GoesOnFrom earlier s actions → IsTold earlier s actions told
     → IsLoggedSinceBegun (composed s actions) caller o shown → o.op ≡ op_for_era (bases_of s.k earlier) s.k asked
-    → IsOfTable earlier told s.k (composed s actions) caller o shown asked (told_reply (bases_of s.k earlier) (home_of (key_of asked.act) s.k) shown)
+    → IsOfTable earlier told s.k (composed s actions) caller o shown asked (based_reply (bases_of s.k earlier) (home_of (key_of asked.act) s.k) shown)
 of-table earlier told s actions caller o shown asked goes are logged came =
     let bases : Bases = bases_of s.k earlier in
     let name : CallName = record { caller = caller; call = o.position } in
-    let given : Reply = told_reply bases (home_of (key_of asked.act) s.k) shown in
+    let given : Reply = based_reply bases (home_of (key_of asked.act) s.k) shown in
     let now = swap bases s.k (log_made s actions) told logged.place (call_entry name o.op shown)
     (call_entry name asked given) are logged.entry (record { name = refl; op = came; reply = refl }) in
     record {

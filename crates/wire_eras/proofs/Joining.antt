@@ -13,7 +13,7 @@ use Rattle.memc_table.specs.declared.ruling.Ruling.{Ruling}
 use Rattle.memc_table.specs.declared.ruling.Ruling.TheVariants.{Accepted, Refused}
 use Rattle.group_calls.specs.Log.{IsLegalFrom, table_of}
 use Rattle.group_calls.specs.declared.entry.Entry.{Entry}
-use Rattle.group_eras.specs.Told.{Bases, told_reply}
+use Rattle.group_eras.specs.Told.{Bases, based_reply}
 use Rattle.group_eras.proofs.Joins.{Joined, SetsFree, after-joined, reply-joined}
 use Rattle.wire_eras.specs.Told.{AreToldAs, bases_of, table_left}
 
@@ -50,7 +50,7 @@ module _ (bases : Bases) (k : ℕ) (some : 1 ≤ k) (Free : List ℕ → Type 0)
       (after-joined bases k some Free all own joined y.op sets.0) in
       let rest = legal-on (table_after all y.op) (table_after own x.op) xs ys next legal.1 are.1 sets.1 in (
         (
-          told.reply ∙ ap (told_reply bases (home_of (key_of y.op.act) k)) (legal.0 ∙ ap (reply_of own) told.op)
+          told.reply ∙ ap (based_reply bases (home_of (key_of y.op.act) k)) (legal.0 ∙ ap (reply_of own) told.op)
               ∙ sym (reply-joined bases k some Free all own joined y.op sets.0),
           rest.0,
         ),

@@ -13,7 +13,7 @@ use Rattle.group_calls.specs.Log.{IsLegal}
 use Rattle.group_calls.specs.declared.entry.Entry.{Entry}
 use Rattle.group_calls.specs.declared.event.Answer.TheVariants as says
 use Rattle.group_eras.specs.Promise.{IsItemKept}
-use Rattle.group_eras.specs.Told.{Bases, op_for_era, told_reply, with_base}
+use Rattle.group_eras.specs.Told.{Bases, based_reply, op_for_era, with_base}
 use Rattle.group_wire.specs.Actions.{Action, Show}
 use Rattle.group_wire.specs.Composed.{AreActions, Composed, composed}
 use Rattle.group_wire.specs.Composition.{machine}
@@ -80,4 +80,4 @@ ShownIsOfTable = (earlier told : List Entry) (s : Dimensions) (actions : List Ac
     → GoesOnFrom earlier s actions → IsTold earlier s actions told → NoTwoHoldAll (composed s actions).group
     → MayAct (composed s actions).group (Show caller ping) → Shows (composed s actions) caller o t → t.answer ≡ says.Reply shown
     → o.op ≡ op_for_era (bases_of s.k earlier) s.k asked
-    → IsOfTable earlier told s.k (composed s actions) caller o shown asked (told_reply (bases_of s.k earlier) (home_of (key_of asked.act) s.k) shown)
+    → IsOfTable earlier told s.k (composed s actions) caller o shown asked (based_reply (bases_of s.k earlier) (home_of (key_of asked.act) s.k) shown)

@@ -6,7 +6,7 @@ use Rattle.memc_table.specs.Contents.{Contents, empty_table}
 use Rattle.group_calls.specs.Log.{table_of}
 use Rattle.group_calls.specs.Turns.{name_of}
 use Rattle.group_calls.specs.declared.entry.Entry.{Entry}
-use Rattle.group_eras.specs.Told.{Bases, op_for_era, told_reply}
+use Rattle.group_eras.specs.Told.{Bases, based_reply, op_for_era}
 
 -- the table that a log leaves
 abbrev pub table_left : ℕ → List Entry → Contents
@@ -20,7 +20,7 @@ bases_of k log = (table_left k log).counts
 pub record IsToldAs (bases : Bases) (k : ℕ) (entry told : Entry) : Type 0 where
   pub name : name_of told ≡ name_of entry
   pub op : entry.op ≡ op_for_era bases k told.op
-  pub reply : told.reply ≡ told_reply bases (home_of (key_of told.op.act) k) entry.reply
+  pub reply : told.reply ≡ based_reply bases (home_of (key_of told.op.act) k) entry.reply
 
 -- entry by entry
 abbrev pub AreToldAs : Bases → ℕ → List Entry → List Entry → Type 0

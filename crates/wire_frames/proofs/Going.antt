@@ -10,7 +10,7 @@ use Rattle.edge_io.proofs.Moving.{Appends-nil, Appends-trans, Takes-none, Takes-
 use Rattle.group_message.specs.declared.message.Message.{Message}
 use Rattle.wire_codec.specs.Stream.{DecoderState, HasDecoded, IsBad, IsPartial, ReadsFrames}
 use Rattle.wire_frames.specs.Framed.{HasFramed, HasHalted, HasListed, IsBadOnlyNow, PieceHasCome}
-use Rattle.wire_frames.specs.Line.{line_of, lines_of}
+use Rattle.wire_frames.specs.Line.{line_of, message_lines}
 use Rattle.wire_frames.specs.Pieces.{EndsAs, HasGiven, IsPieceListed, status_in}
 use Rattle.wire_frames.specs.declared.status.FramesStatus.{FramesStatus}
 use Rattle.wire_frames.specs.declared.status.FramesStatus.TheVariants.{Done, Cut, BadFrame, Worn, ReadFault, WriteFault, Want}
@@ -22,7 +22,7 @@ pub record GoesOn (input input_now : Input) (held held_now : List ℕ) (kept : D
   pub consumed : Takes input input_now read
   pub messages : List Message
   pub has_read : HasDecoded kept read messages
-  pub written : Appends held held_now (lines_of messages)
+  pub written : Appends held held_now (message_lines messages)
   pub good : kept.bad ≡ false
   pub counted : length read ≡ count
 
@@ -57,7 +57,7 @@ only-now kept read piece messages h good short = record {
   partial = (rest-good kept read messages h good).1;
 }
 
-lines-append : (messages given : List Message) → lines_of (messages ++ given) ≡ lines_of messages ++ lines_of given
+lines-append : (messages given : List Message) → message_lines (messages ++ given) ≡ message_lines messages ++ message_lines given
 lines-append messages given = flat_map-append line_of messages given
 
 module _ (input middle input_now : Input) (held held_now : List ℕ) (old : DecoderState) (count : ℕ) (goes : GoesOn input middle held held_now old count) where
@@ -121,7 +121,7 @@ module _ (input middle input_now : Input) (held held_now : List ℕ) (old : Deco
     }
 
     halted : (has : HasGiven old new goes.read piece goes.messages)
-        → HasWritten held_now written_now (lines_of has.given) → HasHalted input input_now held written_now
+        → HasWritten held_now written_now (message_lines has.given) → HasHalted input input_now held written_now
     halted has written = record {
       come = come;
       middle = held_now;
@@ -142,7 +142,7 @@ module _ (input middle input_now : Input) (held held_now : List ℕ) (old : Deco
         consumed = Takes-trans input middle input_now goes.read piece goes.consumed takes;
         messages = goes.messages;
         reads = h.reads;
-        written = subst (λ (bytes : List ℕ). Appends held bytes (lines_of goes.messages)) (sym same) goes.written;
+        written = subst (λ (bytes : List ℕ). Appends held bytes (message_lines goes.messages)) (sym same) goes.written;
       },
       rest-bad new (goes.read ++ piece) goes.messages h bad,
       only-now old goes.read piece goes.messages goes.has_read goes.good short,
@@ -152,7 +152,7 @@ module _ (input middle input_now : Input) (held held_now : List ℕ) (old : Deco
     framed-piece Want (inl (good, same)) =
         inr (record {
           come = come;
-          written = subst (λ (bytes : List ℕ). Appends held bytes (lines_of goes.messages))
+          written = subst (λ (bytes : List ℕ). Appends held bytes (message_lines goes.messages))
               (sym same) goes.written;
         })
     framed-piece Want (inr (has, written)) = inl (halted has written)
@@ -163,9 +163,9 @@ module _ (input middle input_now : Input) (held held_now : List ℕ) (old : Deco
 
     -- its messages were listed
     module _ (done : Unit {0}) (has : IsPieceListed old new goes.read goes.messages piece held_now written_now (Ok done)) where
-      all-written : Appends held written_now (lines_of (goes.messages ++ has.0.given))
+      all-written : Appends held written_now (message_lines (goes.messages ++ has.0.given))
       all-written = subst (Appends held written_now) (sym (lines-append goes.messages has.0.given))
-          (Appends-trans held held_now written_now (lines_of goes.messages) (lines_of has.0.given) goes.written has.1)
+          (Appends-trans held held_now written_now (message_lines goes.messages) (message_lines has.0.given) goes.written has.1)
 
       -- and behind them stands a bad frame
       bad-now : new.bad ≡ true → HasFramed input input_now held written_now (BadFrame new.begun)

@@ -9,7 +9,7 @@ use Rattle.wire_codec.specs.Stream.{DecoderState, Feeds, HasDecoded}
 use Rattle.wire_codec.specs.declared.decoder.DecodeFault.{DecodeFault}
 use Rattle.wire_codec.specs.declared.decoder.DecodeFault.TheVariants as decoder
 use Rattle.wire_frames.specs.Faults.{status_of_decoder, status_of_sink}
-use Rattle.wire_frames.specs.Line.{lines_of}
+use Rattle.wire_frames.specs.Line.{message_lines}
 use Rattle.wire_frames.specs.Pieces.{HasGiven, IsPieceListed}
 use Rattle.wire_frames.specs.declared.status.FramesStatus.{FramesStatus}
 use Rattle.wire_frames.proofs.Stands.{never-true}
@@ -41,7 +41,7 @@ module _ (old new : DecoderState) (input : List ℕ) (messages : List Message) (
 
   -- a sink answered a fault
   pub piece-halted : (fault : SinkFault) (result : Result (Unit {0}) FramesStatus)
-      (has : HasGiven old new input piece messages) → HasWritten held now (lines_of has.given)
+      (has : HasGiven old new input piece messages) → HasWritten held now (message_lines has.given)
       → IsErrAnd result (λ s. s ≡ status_of_sink fault)
       → IsPieceListed old new input messages piece held now result
   piece-halted fault (Ok _) has written is = absurd is

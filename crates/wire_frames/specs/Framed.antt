@@ -4,7 +4,7 @@ use Rattle.edge_io.specs.Moving.{Appends, Input, IsEnded, Takes}
 use Rattle.edge_io.specs.Writing.{HasWritten}
 use Rattle.group_message.specs.declared.message.Message.{Message}
 use Rattle.wire_codec.specs.Stream.{IsBad, IsPartial, ReadsFrames, stream_of}
-use Rattle.wire_frames.specs.Line.{lines_of}
+use Rattle.wire_frames.specs.Line.{message_lines}
 use Rattle.wire_frames.specs.declared.status.FramesStatus.{FramesStatus}
 use Rattle.wire_frames.specs.declared.status.FramesStatus.TheVariants.{Done, Cut, BadFrame, Worn}
 use Rattle.wire_frames.specs.declared.status.FramesStatus.TheVariants.{ReadFault, WriteFault, Want}
@@ -22,7 +22,7 @@ pub record HasListed (input input_now : Input) (held held_now rest : List ℕ) :
   pub consumed : Takes input input_now read
   pub messages : List Message
   pub reads : ReadsFrames read messages rest
-  pub written : Appends held held_now (lines_of messages)
+  pub written : Appends held held_now (message_lines messages)
 
 -- no frame was bad before the last bytes, no more than one read takes
 pub record IsBadOnlyNow (read : List ℕ) : Type 0 where
@@ -50,17 +50,17 @@ pub record PieceHasCome (input input_now : Input) : Type 0 where
 pub record HasHalted (input input_now : Input) (held held_now : List ℕ) : Type 0 where
   pub come : PieceHasCome input input_now
   pub middle : List ℕ
-  pub first : Appends held middle (lines_of come.messages)
+  pub first : Appends held middle (message_lines come.messages)
   pub given : List Message
   pub rest : List ℕ
   pub reads : ReadsFrames (come.read ++ come.last) (come.messages ++ given) rest
   pub behind : IsPartial rest ⊎ IsBad rest
-  pub written : HasWritten middle held_now (lines_of given)
+  pub written : HasWritten middle held_now (message_lines given)
 
 -- the lines of the messages before the piece were written, and the piece was not read
 pub record HasUnread (input input_now : Input) (held held_now : List ℕ) : Type 0 where
   pub come : PieceHasCome input input_now
-  pub written : Appends held held_now (lines_of come.messages)
+  pub written : Appends held held_now (message_lines come.messages)
 
 -- what stands at each status
 abbrev pub HasFramed : Input → Input → List ℕ → List ℕ → FramesStatus → Type 0

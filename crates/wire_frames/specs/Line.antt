@@ -10,5 +10,5 @@ abbrev pub line_of : Message → List ℕ
 line_of m = codes "frame " ++ decimal (kind_of m) ++ codes " " ++ decimal (length (frame_body m)) ++ codes "\n"
 
 -- the lines of messages, in order
-abbrev pub lines_of : List Message → List ℕ
-lines_of messages = flat_map line_of messages
+abbrev pub message_lines : List Message → List ℕ
+message_lines messages = flat_map line_of messages

@@ -4,7 +4,7 @@ use Rattle.edge_io.specs.Moving.{Appends}
 use Rattle.edge_io.specs.Writing.{HasWritten}
 use Rattle.group_message.specs.declared.message.Message.{Message}
 use Rattle.wire_codec.specs.Stream.{DecoderState, HasDecoded, IsPartial, ReadsFrames}
-use Rattle.wire_frames.specs.Line.{lines_of}
+use Rattle.wire_frames.specs.Line.{message_lines}
 use Rattle.wire_frames.specs.declared.status.FramesStatus.{FramesStatus}
 use Rattle.wire_frames.specs.declared.status.FramesStatus.TheVariants.{Done, Cut, BadFrame, WriteFault, Want}
 
@@ -27,14 +27,14 @@ pub record HasGiven (before after : DecoderState) (input piece : List ℕ) (mess
 abbrev pub IsPieceListed : DecoderState → DecoderState → List ℕ → List Message → List ℕ → List ℕ → List ℕ
     → Result (Unit {0}) FramesStatus → Type 0
 IsPieceListed before after input messages piece held now (Ok _) =
-    (has : HasGiven before after input piece messages) × Appends held now (lines_of has.given)
+    (has : HasGiven before after input piece messages) × Appends held now (message_lines has.given)
 IsPieceListed before after input messages piece held now (Err (BadFrame at)) =
     HasDecoded after (input ++ piece) messages × (after.bad ≡ true) × (after.begun ≡ at) × (now ≡ held)
 IsPieceListed before after input messages piece held now (Err WriteFault) =
-    (has : HasGiven before after input piece messages) × HasWritten held now (lines_of has.given)
+    (has : HasGiven before after input piece messages) × HasWritten held now (message_lines has.given)
 IsPieceListed before after input messages piece held now (Err Want) =
     ((before.bad ≡ false) × (now ≡ held))
-    ⊎ ((has : HasGiven before after input piece messages) × HasWritten held now (lines_of has.given))
+    ⊎ ((has : HasGiven before after input piece messages) × HasWritten held now (message_lines has.given))
 IsPieceListed before after input messages piece held now (Err _) = ⊥
 
 -- how a stream ends that has these messages: with no rest, or inside a frame

@@ -2,7 +2,7 @@ ghost use Rattle.std.specs.Prelude.{◌≡◌, IfOk};
 ghost use Rattle.std.specs.List.{AllByRecursion};
 ghost use Rattle.std.specs.String.{string_bytes};
 ghost use Rattle.wire_codec.specs.Fits.{HasFrame};
-ghost use Rattle.wire_frames.specs.Line.{line_of, lines_of};
+ghost use Rattle.wire_frames.specs.Line.{line_of, message_lines};
 
 use group_message::Message;
 use std::alloc::{AllocError, Global};
@@ -11,7 +11,7 @@ use wire_codec::{kind_of, spelled_length};
 /// The lines of messages, in order.
 pub(crate) fn lines_of(alloc: Global, messages: &[Message]) -> Result<Vec<u8>, AllocError>
     requires { AllByRecursion HasFrame messages.now }
-    ensures { IfOk result (λ text. text.items ≡ lines_of messages.now) }
+    ensures { IfOk result (λ text. text.items ≡ message_lines messages.now) }
 {
     let mut text = Vec::new(alloc);
     'messages: for message in messages {

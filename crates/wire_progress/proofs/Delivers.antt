@@ -16,7 +16,7 @@ use Rattle.group_run.specs.Meaning.{IsDrained}
 use Rattle.group_run.specs.Progress.{AskedDrained, AsksDrained, IsNoFailure, block_waits, waits_here}
 use Rattle.group_run.specs.World.{World, step, turns_from, world_after}
 use Rattle.law_answers.proofs.Entries.{after-more, run-more, turns-more}
-use Rattle.law_progress.specs.Ends.{IsDelivery}
+use Rattle.group_run.specs.Causes.{IsDelivery}
 
 pub record Delivers (v w : World) : Type 0 where
   pub events : List Event

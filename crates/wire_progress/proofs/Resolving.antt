@@ -9,7 +9,7 @@ use Rattle.memc_table.specs.Asked.{Asked}
 use Rattle.group_wire.specs.Actions.{Action, GiveUp}
 use Rattle.group_wire.specs.Composed.{AreActions, Composed, composed}
 use Rattle.group_wire.specs.GoingOn.{CanBe}
-use Rattle.group_wire.specs.May.{call_waits_for, waits_for}
+use Rattle.group_wire.specs.May.{awaited_member, call_waits_for}
 use Rattle.group_wire.specs.Serving.{gateways_after, if_open, stage_given_up, staged}
 use Rattle.group_wire.specs.Sets.{Processes}
 use Rattle.group_wire.specs.State.{Request, AskFor, TraceOf, Stage, Unasked, AskedOf, Unknown, TracedAt, Answered, OpenCall, gateway_of}
@@ -71,9 +71,9 @@ module _ (s : Dimensions) (named : Processes) (caller : ℕ) (out : named (gatew
       free is = inr (record { serves = serves; call = o; open_call = call; same_op = same_op; free = is })
 
       by : (stage : Stage) → o.stage ≡ stage → Resolved s named caller op (composed s actions)
-      by Unasked is = free (ap waits_for is)
-      by Unknown is = free (ap waits_for is)
-      by (Answered t n) is = free (ap waits_for is)
+      by Unasked is = free (ap awaited_member is)
+      by Unknown is = free (ap awaited_member is)
+      by (Answered t n) is = free (ap awaited_member is)
       by (AskedOf z) is = inl (record {
         serves = serves;
         call = o;
@@ -88,15 +88,15 @@ module _ (s : Dimensions) (named : Processes) (caller : ℕ) (out : named (gatew
         between = between;
       }) where
         at : z ≡ x
-        at = waits z (ap waits_for is)
+        at = waits z (ap awaited_member is)
       by (TracedAt z) is = absurd (only-held x xin between (TraceOf caller o.position (home_of (key_of o.op.act) s.k)) refl
           (subst (λ (y : ProcessId). Waits s (view (composed s actions).group) y
-          (TraceOf caller o.position (home_of (key_of o.op.act) s.k))) (waits z (ap waits_for is))
+          (TraceOf caller o.position (home_of (key_of o.op.act) s.k))) (waits z (ap awaited_member is))
           (awaited o call (TracedAt z) is).1))
 
     -- one that waits for a named member is given up
     gives-up : (o : OpenCall) (x : ProcessId) → (composed s actions).group.gateways.call caller ≡ Some o
-        → waits_for o.stage ≡ Some x → IsProcess s x → named x ≡ true → CanBe s actions (Resolved s named caller o.op)
+        → awaited_member o.stage ≡ Some x → IsProcess s x → named x ≡ true → CanBe s actions (Resolved s named caller o.op)
     gives-up o x call waits member inside = acts s named caller out actions run serves (GiveUp caller) (Resolved s named caller o.op) tt (
       serves.mine,
       record {
@@ -134,7 +134,7 @@ module _ (s : Dimensions) (named : Processes) (caller : ℕ) (out : named (gatew
         (reaches-here Anyhow (composed s actions) (Resolved s named caller o.op) tt
         (inr (record { serves = serves; call = o; open_call = call; same_op = refl; free = is })))
 
-    waiting : (x : ProcessId) → waits_for o.stage ≡ Some x → IsProcess s x → CanBe s actions (Resolved s named caller o.op)
+    waiting : (x : ProcessId) → awaited_member o.stage ≡ Some x → IsProcess s x → CanBe s actions (Resolved s named caller o.op)
     waiting x waits member = which (named x) refl where
       which : (b : Bool) → named x ≡ b → CanBe s actions (Resolved s named caller o.op)
       which true inside = gives-up actions run serves o x call waits member inside
@@ -149,8 +149,8 @@ module _ (s : Dimensions) (named : Processes) (caller : ℕ) (out : named (gatew
         )
 
     by : (stage : Stage) → o.stage ≡ stage → CanBe s actions (Resolved s named caller o.op)
-    by Unasked is = free (ap waits_for is)
-    by Unknown is = free (ap waits_for is)
-    by (Answered t n) is = free (ap waits_for is)
-    by (AskedOf x) is = waiting x (ap waits_for is) (awaited actions run serves o call (AskedOf x) is).0
-    by (TracedAt x) is = waiting x (ap waits_for is) (awaited actions run serves o call (TracedAt x) is).0
+    by Unasked is = free (ap awaited_member is)
+    by Unknown is = free (ap awaited_member is)
+    by (Answered t n) is = free (ap awaited_member is)
+    by (AskedOf x) is = waiting x (ap awaited_member is) (awaited actions run serves o call (AskedOf x) is).0
+    by (TracedAt x) is = waiting x (ap awaited_member is) (awaited actions run serves o call (TracedAt x) is).0

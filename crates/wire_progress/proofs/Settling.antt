@@ -7,7 +7,7 @@ use Rattle.group_types.specs.declared.process.ProcessId.{ProcessId}
 use Rattle.memc_table.specs.Asked.{Asked}
 use Rattle.group_wire.specs.Actions.{Read, Treat, Learn}
 use Rattle.group_wire.specs.Composed.{Composed}
-use Rattle.group_wire.specs.May.{waits_for}
+use Rattle.group_wire.specs.May.{awaited_member}
 use Rattle.group_wire.specs.Sets.{Processes, changed, entry_at, one_or, size_of, without_nth}
 use Rattle.group_wire.specs.State.{Request, Told, Stage, OpenCall, Gateways, Group}
 use Rattle.group_wire.specs.Sending.{parked_at, treating}
@@ -21,7 +21,7 @@ use Rattle.wire_progress.proofs.Tells.{tell-call, tell-parked, tell-requests}
 
 -- the call of a caller is open, for the same op, and waits for nobody but x
 abbrev pub IsOpenFor : ℕ → Asked → ProcessId → Gateways → Type 0
-IsOpenFor caller op x gw = (o : OpenCall) × (gw.call caller ≡ Some o) × (o.op ≡ op) × ((y : ProcessId) → waits_for o.stage ≡ Some y → y ≡ x)
+IsOpenFor caller op x gw = (o : OpenCall) × (gw.call caller ≡ Some o) × (o.op ≡ op) × ((y : ProcessId) → awaited_member o.stage ≡ Some y → y ≡ x)
 
 -- it is this one, and waits for nobody
 abbrev pub IsFreeCall : ℕ → OpenCall → Gateways → Type 0
@@ -78,7 +78,7 @@ module _ (caller : ℕ) (op : Asked) (x : ProcessId) where
     open-learned : (ts : List Told) (gw : Gateways) → IsOpenFor caller op x gw → IsOpenFor caller op x (learned_first y p n ts gw)
     open-learned [] gw is = is
     open-learned (t ∷ rest) gw (o, call, same_op, waits) = by (cases_eq caller t.caller) where
-      still : (b : Bool) (z : ProcessId) → waits_for (one_or b (stage_learned t n o.stage) o.stage) ≡ Some z → waits_for o.stage ≡ Some z
+      still : (b : Bool) (z : ProcessId) → awaited_member (one_or b (stage_learned t n o.stage) o.stage) ≡ Some z → awaited_member o.stage ≡ Some z
       still true z is = learned-waits t n o.stage z is
       still false z is = is
 

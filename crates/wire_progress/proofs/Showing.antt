@@ -15,7 +15,7 @@ use Rattle.group_wire.specs.Actions.{Action}
 use Rattle.group_wire.specs.Composed.{AreActions, Composed, composed, events_of, opening_composed}
 use Rattle.group_wire.specs.Composition.{machine}
 use Rattle.group_wire.specs.GoingOn.{CanBe, CanBeShown, IsEnd, IsShownAs, TakesNamed}
-use Rattle.group_wire.specs.May.{waits_for}
+use Rattle.group_wire.specs.May.{awaited_member}
 use Rattle.group_wire.specs.Sets.{Processes}
 use Rattle.group_wire.specs.State.{AskFor, Stage, Unasked, AskedOf, Unknown, TracedAt, Answered, OpenCall, Gateways, gateway_of}
 use Rattle.group_wire.proofs.Compositions.{runs_compose}
@@ -163,7 +163,7 @@ module _ (s : Dimensions) (named : Processes) (caller : ℕ) (out : named (gatew
 
   to-ask : (actions : List Action) (run : AreActions s actions) → IsToAsk named caller op (composed s actions) → CanBe s actions Shown
   to-ask actions run a =
-      can-be-then (Prepared a.call) Shown s actions (prepared actions run a.serves a.call (a.open_call, ap waits_for a.stage))
+      can-be-then (Prepared a.call) Shown s actions (prepared actions run a.serves a.call (a.open_call, ap awaited_member a.stage))
       (λ more longer p. asks-until (machine (composed s (actions ++ more)))
       (few_waits_always (composed s (actions ++ more)).group.shape (events_of (composed s (actions ++ more)))
       (runs_compose s (actions ++ more) longer).run)
@@ -187,8 +187,8 @@ module _ (s : Dimensions) (named : Processes) (caller : ℕ) (out : named (gatew
           ends = awaited s named caller out actions run f.serves f.call f.open_call
               (Answered t n) is;
         })
-    by (AskedOf x) is = absurd (cc (f.free, ap waits_for is))
-    by (TracedAt x) is = absurd (cc (f.free, ap waits_for is))
+    by (AskedOf x) is = absurd (cc (f.free, ap awaited_member is))
+    by (TracedAt x) is = absurd (cc (f.free, ap awaited_member is))
     by Unknown is =
         can-be-then (Prepared f.call) Shown s actions (prepared actions run f.serves f.call (f.open_call, f.free))
         (λ more longer p. can-be-then (λ c. Answers named caller f.call.op c ⊎ IsToAsk named caller f.call.op c) Shown s (actions ++ more)

@@ -7,14 +7,14 @@ use Rattle.memc_table.specs.declared.act.Act.TheVariants as act
 use Rattle.group_calls.specs.declared.event.Answer.{Answer}
 use Rattle.group_calls.specs.declared.event.Answer.TheVariants as says
 use Rattle.group_wire.specs.GoingOn.{IsEnd}
-use Rattle.group_wire.specs.May.{waits_for}
+use Rattle.group_wire.specs.May.{awaited_member}
 use Rattle.group_wire.specs.Serving.{again, stage_given_up, stage_learned, stage_told}
 use Rattle.group_wire.specs.Sets.{one_or}
 use Rattle.group_wire.specs.State.{Told, Stage, Unasked, AskedOf, Unknown, TracedAt, Answered}
 
 -- it waits for no member
 abbrev pub IsFree : Stage → Type 0
-IsFree stage = waits_for stage ≡ None
+IsFree stage = awaited_member stage ≡ None
 
 -- what was told ends a call, or it is asked again, or traced
 pub told-either : (t : Told) (n : ℕ) (a : Answer) (b : Bool) → ((stage_told t n a b ≡ Answered t n) × IsEnd a)
@@ -49,18 +49,18 @@ told-either t n (says.Stale i) false = inr (inl refl)
 pub told-free : (t : Told) (n : ℕ) (a : Answer) (b : Bool) → IsFree (stage_told t n a b)
 told-free t n a b = by (told-either t n a b) where
   by : ((stage_told t n a b ≡ Answered t n) × IsEnd a) ⊎ (stage_told t n a b ≡ Unasked) ⊎ (stage_told t n a b ≡ Unknown) → IsFree (stage_told t n a b)
-  by (inl (is, end)) = ap waits_for is
-  by (inr (inl is)) = ap waits_for is
-  by (inr (inr is)) = ap waits_for is
+  by (inl (is, end)) = ap awaited_member is
+  by (inr (inl is)) = ap awaited_member is
+  by (inr (inr is)) = ap awaited_member is
 
 -- an answer makes a call wait for nobody else
-pub learned-waits : (t : Told) (n : ℕ) (stage : Stage) (y : ProcessId) → waits_for (stage_learned t n stage) ≡ Some y → waits_for stage ≡ Some y
+pub learned-waits : (t : Told) (n : ℕ) (stage : Stage) (y : ProcessId) → awaited_member (stage_learned t n stage) ≡ Some y → awaited_member stage ≡ Some y
 learned-waits t n (AskedOf z) y is = by t.traced is where
-  by : (b : Bool) → waits_for (one_or b (AskedOf z) (stage_told t n t.answer b)) ≡ Some y → waits_for (AskedOf z) ≡ Some y
+  by : (b : Bool) → awaited_member (one_or b (AskedOf z) (stage_told t n t.answer b)) ≡ Some y → awaited_member (AskedOf z) ≡ Some y
   by true is = is
   by false is = absurd (cc (is, told-free t n t.answer false))
 learned-waits t n (TracedAt z) y is = by t.traced is where
-  by : (b : Bool) → waits_for (one_or b (stage_told t n t.answer b) (TracedAt z)) ≡ Some y → waits_for (TracedAt z) ≡ Some y
+  by : (b : Bool) → awaited_member (one_or b (stage_told t n t.answer b) (TracedAt z)) ≡ Some y → awaited_member (TracedAt z) ≡ Some y
   by true is = absurd (cc (is, told-free t n t.answer true))
   by false is = is
 learned-waits t n Unasked y is = is
@@ -92,8 +92,8 @@ again-either (act.Decr key by) = inr refl
 pub given-up-free : (op : Asked) (stage : Stage) → IsFree (stage_given_up op stage)
 given-up-free op (AskedOf x) = by (again-either op.act) where
   by : (again op.act ≡ Unasked) ⊎ (again op.act ≡ Unknown) → IsFree (again op.act)
-  by (inl is) = ap waits_for is
-  by (inr is) = ap waits_for is
+  by (inl is) = ap awaited_member is
+  by (inr is) = ap awaited_member is
 given-up-free op (TracedAt x) = refl
 given-up-free op Unasked = refl
 given-up-free op Unknown = refl

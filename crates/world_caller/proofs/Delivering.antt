@@ -13,7 +13,7 @@ use Rattle.group_run.specs.World.{World, after, step}
 use Rattle.law_moves.proofs.Events.{FramedHistory}
 use Rattle.law_moves.proofs.Runs.{framed-from, framed-opening}
 use Rattle.law_progress.specs.Drains.{NextComes}
-use Rattle.law_progress.specs.Ends.{IsDelivery}
+use Rattle.group_run.specs.Causes.{IsDelivery}
 use Rattle.law_progress.proofs.Whole.{next-comes}
 use Rattle.law_progress.proofs.Steps.{world-is}
 use Rattle.group_run.specs.Shown.{is_down}

@@ -13,11 +13,10 @@ use Rattle.group_calls.specs.declared.event.Answer.TheVariants as says
 use Rattle.group_calls.specs.declared.event.Cause.TheVariants as cause
 use Rattle.group_calls.specs.declared.event.Event.{Event}
 use Rattle.group_calls.specs.declared.event.Event.TheVariants.{Ask, Collect, Deliver, Fail, Flush, Trace}
-use Rattle.group_run.specs.Causes.{AskCause, home_in}
+use Rattle.group_run.specs.Causes.{AskCause, IsDelivery, home_in}
 use Rattle.group_run.specs.Meaning.{IsDown, IsDrained}
 use Rattle.group_run.specs.Progress.{AsksDrained, IsNoFailure, waits_here}
 use Rattle.group_run.specs.World.{World, step}
-use Rattle.law_progress.specs.Ends.{IsDelivery}
 use Rattle.world_caller.specs.Calling.{IsOwnStep, Serves, next_of_ask, next_of_collect}
 use Rattle.world_caller.specs.declared.stage.Next.{Next}
 use Rattle.world_caller.specs.declared.stage.Next.TheVariants.{Ends, Goes}

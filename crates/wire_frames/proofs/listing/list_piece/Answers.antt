@@ -4,7 +4,7 @@ use Rattle.edge_io.specs.Moving.{Appends}
 use Rattle.edge_io.specs.Writing.{HasWritten}
 use Rattle.group_message.specs.declared.message.Message.{Message}
 use Rattle.wire_codec.specs.Fits.{HasFrame}
-use Rattle.wire_frames.specs.Line.{lines_of}
+use Rattle.wire_frames.specs.Line.{message_lines}
 use Rattle.wire_frames.proofs.Lines.{later-have}
 use Rattle.wire_frames.proofs.Piecing.{has-given, piece-fault, piece-halted}
 use Rattle.wire_frames.proofs.Stands.{never-true}
@@ -30,8 +30,8 @@ returns-in_err-write_all-clause-listed g c = λ input messages h.
     let held = g.K.Sink.held c.args.sink.now in
     let now = g.K.Sink.held c.write_all.new.sink in
     let good : c.args.decoder.now.bad ≡ false = never-true c.args.decoder.now.bad (λ was. absurd (cc (c.in_ok-given.ensures.again was).0)) in
-    let text : c.deref.result.now ≡ lines_of c.in_ok-given.given = c.deref.ensures.value ∙ c.in_ok-lines.ensures
-    ∙ ap (λ (ms : List Message). lines_of ms) c.messages.ensures in
+    let text : c.deref.result.now ≡ message_lines c.in_ok-given.given = c.deref.ensures.value ∙ c.in_ok-lines.ensures
+    ∙ ap (λ (ms : List Message). message_lines ms) c.messages.ensures in
     piece-halted old new input messages piece held now c.in_err-write_all.field-0.0 c.from_residual-in_err-write_all.result
     (has-given old new input messages piece held now c.in_ok-given.given h good c.in_ok-given.ensures.messages)
     (subst (λ (bytes : List ℕ). HasWritten held now bytes) text c.in_err-write_all.ensures.part) c.from_residual-in_err-write_all.ensures.1
@@ -42,8 +42,8 @@ returns-clause-listed g c = λ input messages h.
     let held = g.K.Sink.held c.args.sink.now in
     let now = g.K.Sink.held c.write_all.new.sink in
     let good : c.args.decoder.now.bad ≡ false = never-true c.args.decoder.now.bad (λ was. absurd (cc (c.in_ok-given.ensures.again was).0)) in
-    let text : c.deref.result.now ≡ lines_of c.in_ok-given.given = c.deref.ensures.value ∙ c.in_ok-lines.ensures
-    ∙ ap (λ (ms : List Message). lines_of ms) c.messages.ensures in (
+    let text : c.deref.result.now ≡ message_lines c.in_ok-given.given = c.deref.ensures.value ∙ c.in_ok-lines.ensures
+    ∙ ap (λ (ms : List Message). message_lines ms) c.messages.ensures in (
       has-given old c.feed.new.self input messages c.args.piece.now held now c.in_ok-given.given h good c.in_ok-given.ensures.messages,
       subst (λ (bytes : List ℕ). Appends held now bytes) text c.in_ok-write_all.ensures.whole,
     )
