@@ -37,8 +37,11 @@ impl MemberWork {
     fn read<L: Links>(&mut self, links: &mut L, x: u32, from: ProcessId)
         ensures goes { GoesQuietly self.old self.new }
     {
+        if !self.member.may_read(from) {
+            return;
+        }
         'frames: for _ in 0..FRAMES {
-            if !self.is_clear() || !self.member.may_read(from) {
+            if !self.is_clear() {
                 return;
             }
             let Some(frame) = links.take(x) else {
@@ -55,7 +58,7 @@ impl MemberWork {
         ensures goes { GoesQuietly self.old self.new }
     {
         match frame {
-            Frame::Message(message) => return self.reads_message(links, x, from, message),
+            Frame::Message(_) => return self.reads_message(links, x, from, frame),
             Frame::Request(request) => return self.reads_request(links, x, from, request),
             Frame::Told(told) => self.learn(links, x, from, told),
             Frame::Said(names) => self.hear(links, from, names),
@@ -71,15 +74,18 @@ impl MemberWork {
         links: &mut L,
         x: u32,
         from: ProcessId,
-        message: Message,
+        frame: Frame,
     ) -> bool
         ensures goes { GoesQuietly self.old self.new }
     {
-        let takes = self.takes_message(links, x, from, &message);
+        let takes = match &frame {
+            Frame::Message(message) => self.takes_message(links, x, from, message),
+            _ => true,
+        };
         if takes {
-            drop(message);
+            drop(frame);
         } else {
-            links.give_back(x, Frame::Message(message));
+            links.give_back(x, frame);
         }
         takes
     }

@@ -101,30 +101,31 @@ impl MemberWork {
         if x == self.own {
             return;
         }
+        let is_cut = self.member.has_cut(to);
         'messages: for _ in 0..MESSAGES {
-            if !self.hands_out(links, x, to) {
+            let handed = if is_cut {
+                self.loses_one(x)
+            } else {
+                self.hands_out(links, x)
+            };
+            if !handed {
                 return;
             }
         }
     }
 
     // Whether there was a message for it, and room.
-    fn hands_out<L: Links>(&mut self, links: &mut L, x: u32, to: ProcessId) -> bool
+    fn hands_out<L: Links>(&mut self, links: &mut L, x: u32) -> bool
         ensures goes { GoesQuietly self.old self.new }
     {
-        let is_cut = self.member.has_cut(to);
-        if !self.outgoing.is_clear() || !is_cut && !links.has_room(x) {
+        if !self.outgoing.is_clear() || !links.has_room(x) {
             return false;
         }
         let Some(message) = self.hand_out_one(x) else {
             return false;
         };
-        if is_cut {
-            drop(message);
-        } else {
-            self.outgoing
-                .post(links, with(0, x), Frame::Message(message));
-        }
+        self.outgoing
+            .post(links, with(0, x), Frame::Message(message));
         true
     }
 }

@@ -24,7 +24,7 @@ pub struct Sizes {
 }
 
 /// Reads a line without its end.
-#[tactic(auto, unfolding(crate::specs::Line::line_of))]
+#[tactic(auto, unfolding(crate::specs::Line::parsed_line))]
 pub(crate) fn read_line(alloc: Global, line: &[u8]) -> Result<Line, AllocError>
     ensures { IfOk result (λ read. read ≡ parsed_line line.now) }
 {
@@ -247,7 +247,7 @@ fn read_count(alloc: Global, up: bool, words: &[&[u8]]) -> Result<Line, AllocErr
     }
 }
 
-#[tactic(auto, unfolding(crate::specs::Line::count_of))]
+#[tactic(auto, unfolding(crate::specs::Line::counter_of))]
 fn count(
     alloc: Global,
     up: bool,

@@ -72,7 +72,7 @@ fn write_value(alloc: Global, len: u32) -> Result<String, AllocError>
     format!(in alloc; "*{len}*61")
 }
 
-#[tactic(auto, unfolding(crate::specs::Rounds::process_word))]
+#[tactic(auto, unfolding(crate::specs::Rounds::process_name))]
 fn write_process(alloc: Global, process: ProcessId) -> Result<String, AllocError>
     ensures { IfOk result (λ text. string_bytes text ≡ process_name process) }
 {
@@ -82,7 +82,7 @@ fn write_process(alloc: Global, process: ProcessId) -> Result<String, AllocError
     }
 }
 
-#[tactic(auto, unfolding(crate::specs::Rounds::asked_at))]
+#[tactic(auto, unfolding(crate::specs::Rounds::asked_process))]
 fn process_asked(number: u32, home: u32) -> ProcessId
     ensures { result ≡ asked_process number home }
 {
@@ -93,7 +93,7 @@ fn process_asked(number: u32, home: u32) -> ProcessId
     }
 }
 
-#[tactic(auto, unfolding(crate::specs::Rounds::process_at))]
+#[tactic(auto, unfolding(crate::specs::Rounds::process_numbered))]
 fn nth_process(n: u32) -> ProcessId
     ensures { result ≡ process_numbered n }
 {

@@ -50,7 +50,7 @@ fn act(alloc: Global, verb: Verb, key: &[u8], words: &[&[u8]]) -> Result<Act, Li
     }
 }
 
-#[tactic(auto, unfolding(crate::specs::Acts::act_by))]
+#[tactic(auto, unfolding(crate::specs::Acts::act_of_verb))]
 fn get(alloc: Global, key: &[u8], words: &[&[u8]]) -> Result<Act, LineFault>
     ensures meaning { IsReadAs result (act_of_verb Verb.Get key.now (map (λ word. word.now) words.now)) }
     ensures bytes { IfOk result (λ act. act_value act ≡ []) }
@@ -62,7 +62,7 @@ fn get(alloc: Global, key: &[u8], words: &[&[u8]]) -> Result<Act, LineFault>
     Ok(Act::Get { key })
 }
 
-#[tactic(auto, unfolding(crate::specs::Acts::act_by))]
+#[tactic(auto, unfolding(crate::specs::Acts::act_of_verb))]
 fn read_stored(
     alloc: Global,
     mode: StoreMode,
@@ -79,7 +79,7 @@ fn read_stored(
     Ok(stored(mode, key, read_store(alloc, flags, words)?))
 }
 
-#[tactic(auto, unfolding(crate::specs::Acts::act_by))]
+#[tactic(auto, unfolding(crate::specs::Acts::act_of_verb))]
 fn compare(alloc: Global, key: &[u8], words: &[&[u8]]) -> Result<Act, LineFault>
     ensures meaning { IsReadAs result (act_of_verb Verb.Cas key.now (map (λ word. word.now) words.now)) }
     ensures bytes { IfOk result (λ act. All (λ b. b < 256) (act_value act)) }
@@ -99,7 +99,7 @@ fn compare(alloc: Global, key: &[u8], words: &[&[u8]]) -> Result<Act, LineFault>
     })
 }
 
-#[tactic(auto, unfolding(crate::specs::Acts::act_by))]
+#[tactic(auto, unfolding(crate::specs::Acts::act_of_verb))]
 fn delete(alloc: Global, key: &[u8], words: &[&[u8]]) -> Result<Act, LineFault>
     ensures meaning { IsReadAs result (act_of_verb Verb.Delete key.now (map (λ word. word.now) words.now)) }
     ensures bytes { IfOk result (λ act. act_value act ≡ []) }
@@ -111,7 +111,7 @@ fn delete(alloc: Global, key: &[u8], words: &[&[u8]]) -> Result<Act, LineFault>
     Ok(Act::Delete { key })
 }
 
-#[tactic(auto, unfolding(crate::specs::Acts::act_by))]
+#[tactic(auto, unfolding(crate::specs::Acts::act_of_verb))]
 fn touch(alloc: Global, key: &[u8], words: &[&[u8]]) -> Result<Act, LineFault>
     ensures meaning { IsReadAs result (act_of_verb Verb.Touch key.now (map (λ word. word.now) words.now)) }
     ensures bytes { IfOk result (λ act. act_value act ≡ []) }
@@ -124,7 +124,7 @@ fn touch(alloc: Global, key: &[u8], words: &[&[u8]]) -> Result<Act, LineFault>
     Ok(Act::Touch { key, expiry })
 }
 
-#[tactic(auto, unfolding(crate::specs::Acts::act_by))]
+#[tactic(auto, unfolding(crate::specs::Acts::act_of_verb))]
 fn append(alloc: Global, key: &[u8], words: &[&[u8]]) -> Result<Act, LineFault>
     ensures meaning { IsReadAs result (act_of_verb Verb.Append key.now (map (λ word. word.now) words.now)) }
     ensures bytes { IfOk result (λ act. All (λ b. b < 256) (act_value act)) }
@@ -137,7 +137,7 @@ fn append(alloc: Global, key: &[u8], words: &[&[u8]]) -> Result<Act, LineFault>
     Ok(Act::Append { key, value })
 }
 
-#[tactic(auto, unfolding(crate::specs::Acts::act_by))]
+#[tactic(auto, unfolding(crate::specs::Acts::act_of_verb))]
 fn prepend(alloc: Global, key: &[u8], words: &[&[u8]]) -> Result<Act, LineFault>
     ensures meaning { IsReadAs result (act_of_verb Verb.Prepend key.now (map (λ word. word.now) words.now)) }
     ensures bytes { IfOk result (λ act. All (λ b. b < 256) (act_value act)) }
@@ -150,7 +150,7 @@ fn prepend(alloc: Global, key: &[u8], words: &[&[u8]]) -> Result<Act, LineFault>
     Ok(Act::Prepend { key, value })
 }
 
-#[tactic(auto, unfolding(crate::specs::Acts::act_by))]
+#[tactic(auto, unfolding(crate::specs::Acts::act_of_verb))]
 fn incr(alloc: Global, key: &[u8], words: &[&[u8]]) -> Result<Act, LineFault>
     ensures meaning { IsReadAs result (act_of_verb Verb.Incr key.now (map (λ word. word.now) words.now)) }
     ensures bytes { IfOk result (λ act. act_value act ≡ []) }
@@ -163,7 +163,7 @@ fn incr(alloc: Global, key: &[u8], words: &[&[u8]]) -> Result<Act, LineFault>
     Ok(Act::Incr { key, by })
 }
 
-#[tactic(auto, unfolding(crate::specs::Acts::act_by))]
+#[tactic(auto, unfolding(crate::specs::Acts::act_of_verb))]
 fn decr(alloc: Global, key: &[u8], words: &[&[u8]]) -> Result<Act, LineFault>
     ensures meaning { IsReadAs result (act_of_verb Verb.Decr key.now (map (λ word. word.now) words.now)) }
     ensures bytes { IfOk result (λ act. act_value act ≡ []) }
@@ -208,7 +208,7 @@ fn stored(mode: StoreMode, key: Key, store: Store) -> Act
 }
 
 /// Reads flags, a value, and an exptime where there is one.
-#[tactic(auto, unfolding(crate::specs::Acts::store_of))]
+#[tactic(auto, unfolding(crate::specs::Acts::store_of_words))]
 fn read_store(alloc: Global, flags: &[u8], words: &[&[u8]]) -> Result<Store, LineFault>
     ensures meaning { IsReadAs result (store_of_words flags.now (map (λ word. word.now) words.now)) }
     ensures bytes { IfOk result (λ store. All (λ b. b < 256) store.value) }

@@ -11,7 +11,7 @@ use std::alloc::Global;
 use vector_stamp::Stamp;
 
 /// A process.
-#[tactic(auto, unfolding(crate::specs::Reading::process_at))]
+#[tactic(auto, unfolding(crate::specs::Reading::decode_process))]
 pub fn take_process(bytes: &[u8]) -> Result<(ProcessId, &[u8]), ReadFault>
     ensures { Gives (λ x. (x.0, x.1.now)) result (decode_process bytes.now) }
 {

@@ -9,7 +9,7 @@ use group_types::{ByteList, Partition, Rank};
 use std::alloc::Global;
 
 /// The message that a text is, if it is the whole of it.
-#[tactic(auto, unfolding(crate::specs::Reading::message_of))]
+#[tactic(auto, unfolding(crate::specs::Reading::message_in))]
 pub fn read_message(alloc: Global, text: &[u8]) -> Result<Message, ReadFault>
     ensures { Gives (λ m. m) result (message_in text.now) }
 {

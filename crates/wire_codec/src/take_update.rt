@@ -121,7 +121,7 @@ pub fn take_long(bytes: &[u8]) -> Result<(&[u8], &[u8]), ReadFault>
     take(rest, len as usize)
 }
 
-#[tactic(auto, unfolding(crate::specs::Reading::run_at))]
+#[tactic(auto, unfolding(crate::specs::Reading::decode_run))]
 fn take_run(bytes: &[u8]) -> Result<(Run, &[u8]), ReadFault>
     ensures { Gives (λ x. (x.0, x.1.now)) result (decode_run bytes.now) }
 {
