@@ -13,6 +13,7 @@ mod notice;
 mod server;
 mod service;
 mod telling;
+mod terms;
 mod told_caller;
 
 pub use fault::ServiceFault;
@@ -21,3 +22,4 @@ pub use notice::{Notice, Silent};
 pub use ready_worker::ReadyListener;
 pub use server::serve_group;
 pub use service::serve;
+pub use terms::Terms;

@@ -9,10 +9,10 @@ use crate::deliverer::Deliverer;
 use crate::desk::Desk;
 use crate::losses::Losses;
 use crate::notice::Notice;
+use crate::terms::Terms;
 use edge_io::Clock;
-use group_config::Settings;
 use group_stage::{Seats, Stage};
-use node_worker::{Gate, ServeFault};
+use node_worker::{Gate, ServeFault, Serving};
 use ready_worker::{ReadyListener, serve_either};
 use std::alloc::Global;
 use std::sync::Wait;
@@ -26,23 +26,20 @@ pub fn serve_group<R: Threads + Wait + Sync, L: ReadyListener, G: Gate, N: Notic
     rt: &R,
     alloc: Global,
     listener: &mut L,
-    gate: &G,
     stage: &Stage,
     seats: Seats,
-    settings: &Settings,
-    notice: &N,
-    clock: &T,
+    terms: &Terms<'_, G, N, T>,
 ) -> Result<u64, ServeFault>
 where
     L::Incoming: Drop,
     L::Outgoing: Drop,
-    requires { IsGroupOf settings.now stage.now seats.seats }
+    requires { IsGroupOf terms.now.settings.now stage.now seats.seats }
     ensures accepted { IfOk result (λ n. HasAccepted (L.accepted listener.old)
-        (L.accepted listener.new) settings.now.connections n) }
-    ensures done { IfOk result (λ n. IsDone settings.now.connections n (L.over listener.new)) }
+        (L.accepted listener.new) terms.now.settings.now.connections n) }
+    ensures done { IfOk result (λ n. IsDone terms.now.settings.now.connections n (L.over listener.new)) }
     ensures fault { HasCauseOf (L.faults listener.old) (L.faults listener.new) result ServeFault.AcceptFault }
     ensures at_fault { OnErr result ((n : ℕ) × HasAccepted (L.accepted listener.old)
-        (L.accepted listener.new) settings.now.connections n) }
+        (L.accepted listener.new) terms.now.settings.now.connections n) }
     ensures want { result ≡ Err ServeFault.Want → listener.new ≡ listener.old }
     ensures same_at { L.at listener.new ≡ L.at listener.old }
 {
@@ -52,18 +49,8 @@ where
     };
     let mut deliverer = Deliverer::new(stage, own);
     let losses = Losses::new(stage.shape().k());
-    match Desk::new(rt, alloc, stage, rest, settings.control, &losses) {
-        Ok(desk) => serve_beside(
-            rt,
-            alloc,
-            listener,
-            gate,
-            &mut deliverer,
-            &desk,
-            settings,
-            notice,
-            clock,
-        ),
+    match Desk::new(rt, alloc, stage, rest, terms.settings.control, &losses) {
+        Ok(desk) => serve_beside(rt, alloc, listener, &mut deliverer, &desk, terms),
         Err(_) => Err(ServeFault::Want),
     }
 }
@@ -73,23 +60,20 @@ fn serve_beside<R: Threads + Wait + Sync, L: ReadyListener, G: Gate, N: Notice, 
     rt: &R,
     alloc: Global,
     listener: &mut L,
-    gate: &G,
     deliverer: &mut Deliverer<'_>,
     desk: &Desk<'_, '_, R>,
-    settings: &Settings,
-    notice: &N,
-    clock: &T,
+    terms: &Terms<'_, G, N, T>,
 ) -> Result<u64, ServeFault>
 where
     L::Incoming: Drop,
     L::Outgoing: Drop,
-    requires { desk.now.control ≡ settings.now.control }
+    requires { desk.now.control ≡ terms.now.settings.now.control }
     ensures accepted { IfOk result (λ n. HasAccepted (L.accepted listener.old)
-        (L.accepted listener.new) settings.now.connections n) }
-    ensures done { IfOk result (λ n. IsDone settings.now.connections n (L.over listener.new)) }
+        (L.accepted listener.new) terms.now.settings.now.connections n) }
+    ensures done { IfOk result (λ n. IsDone terms.now.settings.now.connections n (L.over listener.new)) }
     ensures fault { HasCauseOf (L.faults listener.old) (L.faults listener.new) result ServeFault.AcceptFault }
     ensures at_fault { OnErr result ((n : ℕ) × HasAccepted (L.accepted listener.old)
-        (L.accepted listener.new) settings.now.connections n) }
+        (L.accepted listener.new) terms.now.settings.now.connections n) }
     ensures want { result ≡ Err ServeFault.Want → listener.new ≡ listener.old }
     ensures same_at { L.at listener.new ≡ L.at listener.old }
 {
@@ -97,37 +81,41 @@ where
     // Where no thread can be made the first of the two runs last, and the bell has rung.
     let ((), end) = thread::join_mut(
         rt,
-        &mut || deliverer.run(rt, &bell, desk.losses(), notice),
-        &mut || { serve_and_ring(rt, alloc, listener, gate, &bell, desk, settings, clock) },
+        &mut || deliverer.run(rt, &bell, desk.losses(), terms.notice),
+        &mut || { serve_and_ring(rt, alloc, listener, &bell, desk, terms) },
     );
     end
 }
 
 /// Serves the connections over the callers of a desk, and rings the bell behind the last.
-fn serve_and_ring<R: Threads + Wait + Sync, L: ReadyListener, G: Gate, T: Clock>(
+fn serve_and_ring<R: Threads + Wait + Sync, L: ReadyListener, G: Gate, N, T: Clock>(
     rt: &R,
     alloc: Global,
     listener: &mut L,
-    gate: &G,
     bell: &Bell,
     desk: &Desk<'_, '_, R>,
-    settings: &Settings,
-    clock: &T,
+    terms: &Terms<'_, G, N, T>,
 ) -> Result<u64, ServeFault>
 where
     L::Incoming: Drop,
     L::Outgoing: Drop,
     ensures accepted { IfOk result (λ n. HasAccepted (L.accepted listener.old)
-        (L.accepted listener.new) settings.now.connections n) }
-    ensures done { IfOk result (λ n. IsDone settings.now.connections n (L.over listener.new)) }
+        (L.accepted listener.new) terms.now.settings.now.connections n) }
+    ensures done { IfOk result (λ n. IsDone terms.now.settings.now.connections n (L.over listener.new)) }
     ensures fault { HasCauseOf (L.faults listener.old) (L.faults listener.new) result ServeFault.AcceptFault }
     ensures at_fault { OnErr result ((n : ℕ) × HasAccepted (L.accepted listener.old)
-        (L.accepted listener.new) settings.now.connections n) }
+        (L.accepted listener.new) terms.now.settings.now.connections n) }
     ensures want { result ≡ Err ServeFault.Want → listener.new ≡ listener.old }
     ensures same_at { L.at listener.new ≡ L.at listener.old }
 {
-    let (workers, connections) = (settings.workers, settings.connections);
-    let end = serve_either(rt, alloc, listener, desk, gate, workers, connections, clock);
+    let serving = Serving {
+        port: desk,
+        gate: terms.gate,
+        clock: terms.clock,
+        workers: terms.settings.workers,
+        connections: terms.settings.connections,
+    };
+    let end = serve_either(rt, alloc, listener, &serving);
     bell.ring();
     end
 }

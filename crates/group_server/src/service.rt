@@ -9,6 +9,7 @@ ghost use Rattle.group_server.specs.Steps.{HasNotOpened, HasReported, IsGivenOr}
 use crate::fault::ServiceFault;
 use crate::notice::Notice;
 use crate::server::serve_group;
+use crate::terms::Terms;
 use edge_io::{Clock, Sink, Source, write_all};
 use group_config::{ConfigFault, Settings, find_served, read_settings, read_text};
 use group_stage::Stage;
@@ -98,9 +99,13 @@ where
     // A port is never open for a group that there is no memory for.
     let (stage, seats) = Stage::new(alloc, settings.shape, settings.workers + 2)?;
     open(settings, sink, listener, notice)?;
-    let end = serve_group(
-        rt, alloc, listener, &OpenGate, &stage, seats, settings, notice, clock,
-    );
+    let terms = Terms {
+        settings,
+        gate: &OpenGate,
+        notice,
+        clock,
+    };
+    let end = serve_group(rt, alloc, listener, &stage, seats, &terms);
     report(alloc, sink, end)
 }
 

@@ -1,5 +1,6 @@
 use crate::gate::Gate;
 use crate::port::Port;
+use crate::serving::Serving;
 use edge_io::{Clock, Sink, Source};
 use front_end::{Caller, serve_connection};
 use std::alloc::Global;
@@ -18,19 +19,13 @@ pub(crate) struct Hall<'h, P, G, T> {
 
 impl<'h, Q: Caller + Drop, P: Port<Lent = Q>, G: Gate, T: Clock> Hall<'h, P, G, T> {
     /// Nothing is being served.
-    pub(crate) fn new(
-        alloc: Global,
-        port: &'h P,
-        gate: &'h G,
-        clock: &'h T,
-        workers: u32,
-    ) -> Hall<'h, P, G, T> {
+    pub(crate) fn new(alloc: Global, serving: &Serving<'h, P, G, T>) -> Hall<'h, P, G, T> {
         Hall {
             alloc,
-            port,
-            gate,
-            clock,
-            workers: u64::from(workers),
+            port: serving.port,
+            gate: serving.gate,
+            clock: serving.clock,
+            workers: u64::from(serving.workers),
             serving: AtomicU64::new(0),
         }
     }

@@ -7,9 +7,11 @@ mod fault;
 mod gate;
 mod hall;
 mod port;
+mod serving;
 mod workers;
 
 pub use fault::ServeFault;
 pub use gate::{Gate, OpenGate};
 pub use port::Port;
+pub use serving::Serving;
 pub use workers::serve_all;

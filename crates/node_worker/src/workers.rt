@@ -7,6 +7,7 @@ use crate::fault::ServeFault;
 use crate::gate::Gate;
 use crate::hall::Hall;
 use crate::port::Port;
+use crate::serving::Serving;
 use edge_io::{Clock, Failed, Listener, Sink, Source};
 use front_end::Caller;
 use std::alloc::Global;
@@ -20,8 +21,8 @@ struct Accepted<'a, L> {
     end: Result<u64, Failed>,
 }
 
-/// Serves the connections of a listener until `connections` of them were accepted, where that isn't 0, or the
-/// listener says that none comes. While fewer than `workers` are being served a thread of its own serves the next;
+/// Serves the connections of a listener until as many were accepted as `serving` says, if it says so, or the
+/// listener says that none comes. While fewer than its workers are being served a thread of its own serves the next;
 /// else, or where no thread can be made, the accepting thread does. It returns once all are served.
 ///
 /// `AcceptFault`: the listener counted a fault; those that were accepted before are served.
@@ -29,25 +30,21 @@ pub fn serve_all<R: Threads + Wait + Sync, L: Listener, P: Port, G: Gate, T: Clo
     rt: &R,
     alloc: Global,
     listener: &mut L,
-    port: &P,
-    gate: &G,
-    workers: u32,
-    connections: u64,
-    clock: &T,
+    serving: &Serving<'_, P, G, T>,
 ) -> Result<u64, ServeFault>
 where
     L::Incoming: Drop,
     L::Outgoing: Drop,
     ensures accepted { IfOk result (λ n. HasAccepted (L.accepted listener.old)
-        (L.accepted listener.new) connections n) }
-    ensures done { IfOk result (λ n. IsDone connections n (L.over listener.new)) }
+        (L.accepted listener.new) serving.now.connections n) }
+    ensures done { IfOk result (λ n. IsDone serving.now.connections n (L.over listener.new)) }
     ensures fault { HasCauseOf (L.faults listener.old) (L.faults listener.new) result ServeFault.AcceptFault }
     ensures only { IfErr result (λ fault. fault ≡ ServeFault.AcceptFault) }
     ensures at_fault { OnErr result ((n : ℕ) × HasAccepted (L.accepted listener.old)
-        (L.accepted listener.new) connections n) }
+        (L.accepted listener.new) serving.now.connections n) }
     ensures same_at { L.at listener.new ≡ L.at listener.old }
 {
-    let hall = Hall::new(alloc, port, gate, clock, workers);
+    let hall = Hall::new(alloc, serving);
     let Accepted { listener: _, end } = serve_in_scope::<
         R,
         L::Incoming,
@@ -57,7 +54,7 @@ where
         P,
         G,
         T,
-    >(rt, listener, &hall, connections);
+    >(rt, listener, &hall, serving.connections);
     end.map_err(ServeFault::from)
 }
 

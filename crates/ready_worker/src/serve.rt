@@ -13,7 +13,7 @@ use edge_io::{Clock, Failed};
 use front_end::{AtOnce, Caller, Overlap};
 use mio::Waker;
 use mio::net::TcpStream;
-use node_worker::{Port, ServeFault};
+use node_worker::{Port, ServeFault, Serving};
 use std::alloc::Global;
 use std::sync::Wait;
 use std::thread::{Parker, Scope, Threads};
@@ -29,28 +29,25 @@ struct Accepted<'a, L> {
     end: Result<u64, ServeFault>,
 }
 
-/// Serves the connections of a port, by so many workers, until `connections` of them were accepted, where that isn't 0.
+/// Serves the connections of a port until as many were accepted as `serving` says, if it says so.
 /// It returns once all are over. Once a connection was accepted an accept that fails is tried again, so that no fault of
 /// the port ends what is served. There is want of memory only before the first is accepted.
-pub fn serve_ready<R: Threads + Wait + Sync, L: ReadyListener, P: Port, T: Clock>(
+pub fn serve_ready<R: Threads + Wait + Sync, L: ReadyListener, P: Port, G, T: Clock>(
     rt: &R,
     alloc: Global,
     listener: &mut L,
-    port: &P,
-    workers: u32,
-    connections: u64,
-    clock: &T,
+    serving: &Serving<'_, P, G, T>,
 ) -> Result<u64, ServeFault>
     requires ready { L.ready listener.old ≡ true }
     ensures accepted { IfOk result (λ n. HasAccepted (L.accepted listener.old)
-        (L.accepted listener.new) connections n) }
-    ensures done { IfOk result (λ n. IsDone connections n (L.over listener.new)) }
+        (L.accepted listener.new) serving.now.connections n) }
+    ensures done { IfOk result (λ n. IsDone serving.now.connections n (L.over listener.new)) }
     ensures fault { HasCauseOf (L.faults listener.old) (L.faults listener.new) result ServeFault.AcceptFault }
     ensures at_fault { OnErr result (L.accepted listener.new ≡ L.accepted listener.old) }
     ensures want { result ≡ Err ServeFault.Want → listener.new ≡ listener.old }
     ensures same_at { L.at listener.new ≡ L.at listener.old }
 {
-    let Ok(crew) = crew_of(alloc, listener, workers) else {
+    let Ok(crew) = crew_of(alloc, listener, serving.workers) else {
         return Err(ServeFault::Want);
     };
     let Ok(hall) = Hall::new(alloc, &crew) else {
@@ -61,9 +58,9 @@ pub fn serve_ready<R: Threads + Wait + Sync, L: ReadyListener, P: Port, T: Clock
         listener,
         &hall,
         crew,
-        port,
-        clock,
-        connections,
+        serving.port,
+        serving.clock,
+        serving.connections,
     );
     end
 }

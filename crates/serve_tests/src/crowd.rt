@@ -4,7 +4,7 @@ use crate::shop::Shop;
 use crate::unsteady::Unsteady;
 use edge_io::{FixedClock, Listener};
 use memc_table::Table;
-use node_worker::{OpenGate, ServeFault};
+use node_worker::{OpenGate, ServeFault, Serving};
 use ready_worker::{ReadyListener, serve_either};
 use std::alloc::{AllocError, Global};
 use std::io::{ErrorKind, Read, Write};
@@ -42,16 +42,14 @@ where
         Ok(table) => {
             let table = Mutex::new(table);
             let (shop, clock) = (Shop::new(rt, &table), FixedClock::new(0));
-            serve_either(
-                &rt,
-                alloc,
-                port,
-                &shop,
-                &OpenGate,
+            let serving = Serving {
+                port: &shop,
+                gate: &OpenGate,
+                clock: &clock,
                 workers,
                 connections,
-                &clock,
-            )
+            };
+            serve_either(&rt, alloc, port, &serving)
         }
         Err(AllocError) => Err(ServeFault::Want),
     }

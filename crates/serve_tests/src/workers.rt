@@ -3,7 +3,7 @@ use crate::memory::{hears, listener, same};
 use crate::shop::Shop;
 use edge_io::{FixedClock, Listener};
 use memc_table::Table;
-use node_worker::{Gate, OpenGate, ServeFault, serve_all};
+use node_worker::{Gate, OpenGate, ServeFault, Serving, serve_all};
 use std::alloc::{AllocError, Global};
 use std::sync::atomic::{AtomicBool, Ordering};
 use std::sync::{Mutex, Wait};
@@ -81,16 +81,14 @@ where
         Ok(table) => {
             let table = Mutex::new(table);
             let (shop, clock) = (Shop::new(rt, &table), FixedClock::new(0));
-            serve_all(
-                &rt,
-                alloc,
-                listener,
-                &shop,
+            let serving = Serving {
+                port: &shop,
                 gate,
+                clock: &clock,
                 workers,
                 connections,
-                &clock,
-            )
+            };
+            serve_all(&rt, alloc, listener, &serving)
         }
         Err(AllocError) => Err(ServeFault::Want),
     }

@@ -4,7 +4,7 @@ ghost use Rattle.group_stage.specs.Seated.{IsOf};
 use crate::server::stages::{listener, settings_of};
 use edge_io::FixedClock;
 use group_calls::Answer;
-use group_server::{Silent, serve_group};
+use group_server::{Silent, Terms, serve_group};
 use group_stage::{Seat, Stage, StageAnswer};
 use group_types::{Key, Payload, ProcessId, Shape, home};
 use memc_table::{Act, Op};
@@ -124,17 +124,13 @@ fn settles<R: Threads + Wait + Abort + Sync>(rt: &R, alloc: Global) -> bool {
         settled: AtomicBool::new(false),
     };
     let mut clients = listener(alloc, &[b"quit\r\n".as_slice()], &[]).expect(rt, "there is memory");
-    let served = serve_group(
-        rt,
-        alloc,
-        &mut clients,
-        &gate,
-        &stage,
-        seats,
-        &settings,
-        &Silent,
-        &FixedClock::new(0),
-    );
+    let terms = Terms {
+        settings: &settings,
+        gate: &gate,
+        notice: &Silent,
+        clock: &FixedClock::new(0),
+    };
+    let served = serve_group(rt, alloc, &mut clients, &stage, seats, &terms);
     let settled = gate.settled.load(Ordering::SeqCst);
     drop(gate);
     served == Ok(1) && settled

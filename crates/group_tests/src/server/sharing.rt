@@ -4,7 +4,7 @@ ghost use Rattle.group_stage.specs.Seated.{IsOf};
 use crate::server::stages::{STORED, STORES, listener, settings_of};
 use edge_io::{FixedClock, MemoryListener};
 use front_end::Caller;
-use group_server::{Silent, serve_group};
+use group_server::{Silent, Terms, serve_group};
 use group_stage::{Seat, Stage};
 use group_types::{Key, Shape};
 use memc_proto::CallEnd;
@@ -54,17 +54,13 @@ fn serve_and_read<R: Threads + Wait + Abort + Sync>(
     let Some(spare) = seats.take() else {
         unreachable!()
     };
-    let served = serve_group(
-        rt,
-        alloc,
-        clients,
-        &OpenGate,
-        &stage,
-        seats,
-        &settings,
-        &Silent,
-        &FixedClock::new(0),
-    );
+    let terms = Terms {
+        settings: &settings,
+        gate: &OpenGate,
+        notice: &Silent,
+        clock: &FixedClock::new(0),
+    };
+    let served = serve_group(rt, alloc, clients, &stage, seats, &terms);
     let get = get(rt, alloc);
     let found = read(&get, &stage, spare);
     drop(get);

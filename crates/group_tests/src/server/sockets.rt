@@ -3,7 +3,7 @@ use crate::program::clocks::Ticking;
 use crate::server::narrow::Narrow;
 use crate::server::stages::settings_of;
 use edge_io::Listener;
-use group_server::{Silent, serve_group};
+use group_server::{Silent, Terms, serve_group};
 use group_stage::Stage;
 use group_types::Shape;
 use node_worker::{OpenGate, ServeFault};
@@ -57,9 +57,13 @@ where
     let Ok((stage, seats)) = Stage::new(alloc, shape, 4) else {
         return Err(ServeFault::Want);
     };
-    serve_group(
-        rt, alloc, port, &OpenGate, &stage, seats, &settings, &Silent, clock,
-    )
+    let terms = Terms {
+        settings: &settings,
+        gate: &OpenGate,
+        notice: &Silent,
+        clock,
+    };
+    serve_group(rt, alloc, port, &stage, seats, &terms)
 }
 
 /// What a client says that stores a value and reads it often.

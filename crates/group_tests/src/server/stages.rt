@@ -3,7 +3,7 @@ ghost use Rattle.std.specs.Prelude.{◌≡◌, ◌≤◌, IfOk};
 
 use edge_io::{FixedClock, MemoryListener};
 use group_config::{ConfigFault, Settings, read_settings};
-use group_server::{Silent, serve_group};
+use group_server::{Silent, Terms, serve_group};
 use group_stage::Stage;
 use group_types::Shape;
 use node_worker::{Gate, ServeFault};
@@ -68,15 +68,11 @@ pub fn serve<R: Threads + Wait + Sync, G: Gate>(
     let Ok((stage, all)) = Stage::new(alloc, shape, seats) else {
         return Err(ServeFault::Want);
     };
-    serve_group(
-        rt,
-        alloc,
-        listener,
+    let terms = Terms {
+        settings: &settings,
         gate,
-        &stage,
-        all,
-        &settings,
-        &Silent,
-        &FixedClock::new(0),
-    )
+        notice: &Silent,
+        clock: &FixedClock::new(0),
+    };
+    serve_group(rt, alloc, listener, &stage, all, &terms)
 }
