@@ -12,7 +12,7 @@ returns c = record {
   messages = c.in_ok-tell.ensures
       ∙ ap (λ (xs : List Sent). xs
       ++ to_all c.args.peers.now (tells.Update c.rank.result c.args.partition c.in_ok-update.update c.args.applied))
-      c.new-sent.ensures.items
+      c.in_ok-sent.ensures.items
       ∙ ap (λ (r : ℕ). to_all c.args.peers.now (tells.Update (record { 0 = r }) c.args.partition c.in_ok-update.update c.args.applied)) c.rank.ensures
       ∙ ap (λ (u : Update). to_all c.args.peers.now (tells.Update (record { 0 = c.args.head.now.rank }) c.args.partition
       u c.args.applied)) c.in_ok-update.ensures;
