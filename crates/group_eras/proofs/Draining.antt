@@ -15,7 +15,6 @@ use Rattle.group_run.specs.Progress.{load_of}
 use Rattle.group_run.specs.World.{World, after, opening, opening_node, step, world_after}
 use Rattle.law_answers.proofs.Entries.{after-more, run-more}
 use Rattle.law_progress.specs.Drains.{NextComes}
-use Rattle.law_progress.specs.Ends.{IsDelivery}
 use Rattle.law_progress.proofs.Whole.{drains-whole, next-comes}
 use Rattle.law_causes.proofs.Drained.{next_always}
 use Rattle.group_run.specs.Causes.{IsDelivery, IsFailure}
