@@ -3,7 +3,7 @@ ghost use Rattle.member_gateway.specs.Calls.{GoesQuietly};
 
 use crate::links::Links;
 use crate::parking::Event;
-use crate::sets::{has, many, members_of, names_of, place_of, with};
+use crate::sets::{has, many, members_of, names_of, place_of, with, without};
 use crate::work::MemberWork;
 use group_node::process_at;
 use group_types::{CALLERS, ProcessId};
@@ -59,6 +59,7 @@ impl MemberWork {
         }
         let x = place_of(self.shape(), x);
         links.cut(x);
+        self.uncut = without(self.uncut, x);
         self.fence.cut(x);
         self.has_word = true;
         true
@@ -70,8 +71,7 @@ impl MemberWork {
     {
         let set = self.say_cut();
         let names = names_of(self.shape(), &set);
-        let to = self.uncut();
-        self.outgoing.post(links, to, Frame::Said(names));
+        self.outgoing.post(links, self.uncut, Frame::Said(names));
     }
 
     /// Permits and takes the deaths that can be, where there was a word.

@@ -4,7 +4,7 @@ ghost use Rattle.member_gateway.specs.Calls.{GoesQuietly};
 
 use crate::links::Links;
 use crate::parking::Event;
-use crate::sets::{many, with};
+use crate::sets::{has, many, with};
 use crate::work::MemberWork;
 use group_member::Received;
 use group_message::Message;
@@ -37,11 +37,8 @@ impl MemberWork {
     fn read<L: Links>(&mut self, links: &mut L, x: u32, from: ProcessId)
         ensures goes { GoesQuietly self.old self.new }
     {
-        if !self.member.may_read(from) {
-            return;
-        }
         'frames: for _ in 0..FRAMES {
-            if !self.is_clear() {
+            if !self.is_clear() || !has(self.uncut, x) {
                 return;
             }
             let Some(frame) = links.take(x) else {
@@ -58,7 +55,7 @@ impl MemberWork {
         ensures goes { GoesQuietly self.old self.new }
     {
         match frame {
-            Frame::Message(_) => return self.reads_message(links, x, from, frame),
+            Frame::Message(message) => return self.reads_message(links, x, from, message),
             Frame::Request(request) => return self.reads_request(links, x, from, request),
             Frame::Told(told) => self.learn(links, x, from, told),
             Frame::Said(names) => self.hear(links, from, names),
@@ -74,18 +71,15 @@ impl MemberWork {
         links: &mut L,
         x: u32,
         from: ProcessId,
-        frame: Frame,
+        message: Message,
     ) -> bool
         ensures goes { GoesQuietly self.old self.new }
     {
-        let takes = match &frame {
-            Frame::Message(message) => self.takes_message(links, x, from, message),
-            _ => true,
-        };
+        let takes = self.takes_message(links, x, from, &message);
         if takes {
-            drop(frame);
+            drop(message);
         } else {
-            links.give_back(x, frame);
+            links.give_back(x, Frame::Message(message));
         }
         takes
     }

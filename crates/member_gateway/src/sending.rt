@@ -3,10 +3,8 @@ ghost use Rattle.std.specs.Prelude.{◌≡◌};
 ghost use Rattle.member_gateway.specs.Calls.{GoesQuietly};
 
 use crate::links::Links;
-use crate::sets::{many, members_of, with};
+use crate::sets::{has, many, members_of, with};
 use crate::work::MemberWork;
-use group_node::process_at;
-use group_types::ProcessId;
 use link_frames::Frame;
 
 /// How often a member tells how far it has settled, in milliseconds.
@@ -31,7 +29,7 @@ impl MemberWork {
         self.flush();
         let shape = self.shape();
         'links: for x in 0..many(shape) {
-            self.hand_out(links, x, process_at(shape, x));
+            self.hand_out(links, x);
         }
     }
 
@@ -42,7 +40,7 @@ impl MemberWork {
         if !self.outgoing.is_clear() || self.fence.unshown() == 0 {
             return;
         }
-        let (uncut, now) = (self.uncut(), self.moment);
+        let (uncut, now) = (self.uncut, self.moment);
         let Some(to) = self.fence.due(uncut, now) else {
             return;
         };
@@ -95,20 +93,14 @@ impl MemberWork {
     }
 
     // Hands out what the member's process has for a process, as long as there is room. What is for one that is cut is lost.
-    fn hand_out<L: Links>(&mut self, links: &mut L, x: u32, to: ProcessId)
+    fn hand_out<L: Links>(&mut self, links: &mut L, x: u32)
         ensures goes { GoesQuietly self.old self.new }
     {
         if x == self.own {
             return;
         }
-        let is_cut = self.member.has_cut(to);
         'messages: for _ in 0..MESSAGES {
-            let handed = if is_cut {
-                self.loses_one(x)
-            } else {
-                self.hands_out(links, x)
-            };
-            if !handed {
+            if !self.hands_out(links, x) {
                 return;
             }
         }
@@ -118,14 +110,19 @@ impl MemberWork {
     fn hands_out<L: Links>(&mut self, links: &mut L, x: u32) -> bool
         ensures goes { GoesQuietly self.old self.new }
     {
-        if !self.outgoing.is_clear() || !links.has_room(x) {
+        let is_cut = !has(self.uncut, x);
+        if !self.outgoing.is_clear() || !is_cut && !links.has_room(x) {
             return false;
         }
         let Some(message) = self.hand_out_one(x) else {
             return false;
         };
-        self.outgoing
-            .post(links, with(0, x), Frame::Message(message));
+        if is_cut {
+            drop(message);
+        } else {
+            self.outgoing
+                .post(links, with(0, x), Frame::Message(message));
+        }
         true
     }
 }

@@ -27,6 +27,15 @@ pub(crate) fn has(set: u32, x: u32) -> bool {
     x < 32 && set >> x & 1 == 1
 }
 
+/// All processes of a group.
+pub(crate) fn all(shape: Shape) -> u32 {
+    let mut set = 0;
+    'names: for x in 0..many(shape) {
+        set = with(set, x);
+    }
+    set
+}
+
 /// The index of the first process of a set.
 pub(crate) fn first(set: u32) -> Option<u32> {
     if set == 0 {

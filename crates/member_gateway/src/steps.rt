@@ -89,7 +89,7 @@ impl MemberWork {
         self.member.flush().is_ok()
     }
 
-    /// The oldest message for the process at an index, which isn't cut, is handed out.
+    /// The oldest message for the process at an index is handed out; for one that is cut it is lost.
     pub(crate) fn hand_out_one(&mut self, x: u32) -> Option<Message>
         ensures goes { GoesQuietly self.old self.new }
     {
@@ -99,24 +99,9 @@ impl MemberWork {
         }
         let to = process_at(shape, x);
         if self.member.has_cut(to) {
-            return None;
+            return self.member.take_lost(to);
         }
         self.member.hand_out(to)
-    }
-
-    /// The oldest message for the process at an index, which is cut, is lost. Whether there was one.
-    pub(crate) fn loses_one(&mut self, x: u32) -> bool
-        ensures goes { GoesQuietly self.old self.new }
-    {
-        let shape = self.member.shape();
-        if shape.k() + shape.m() <= x {
-            return false;
-        }
-        let to = process_at(shape, x);
-        if !self.member.has_cut(to) {
-            return false;
-        }
-        self.member.take_lost(to).is_some()
     }
 
     /// A ping goes to a set, if a number is left for it.

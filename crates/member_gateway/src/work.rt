@@ -7,9 +7,9 @@ use crate::dues::Dues;
 use crate::fence::{Answered, Fence};
 use crate::outgoing::Outgoing;
 use crate::parking::Parking;
-use crate::sets::{many, with};
+use crate::sets::{all, without};
 use group_member::{CallStage, Member};
-use group_node::{index_of, process_at};
+use group_node::index_of;
 use group_types::{CALLERS, Partition, ProcessId, Shape};
 use std::alloc::{AllocError, Global};
 use std::collections::VecDeque;
@@ -22,6 +22,8 @@ pub(crate) struct MemberWork {
     pub(crate) member: Member,
     pub(crate) name: ProcessId,
     pub(crate) own: u32,
+    // The others that aren't cut, as a set.
+    pub(crate) uncut: u32,
     pub(crate) moment: u64,
     pub(crate) calls: Calls,
     pub(crate) parking: Parking,
@@ -58,6 +60,7 @@ impl MemberWork {
             member: Member::new(alloc, shape, name)?,
             name,
             own,
+            uncut: without(all(shape), own),
             moment: 0,
             calls: Calls::new(alloc)?,
             parking: Parking::new(alloc)?,
@@ -80,18 +83,6 @@ impl MemberWork {
     /// Whether a call can be made that makes a frame, or by which something settles.
     pub(crate) fn is_clear(&self) -> bool {
         self.outgoing.is_clear() && self.dues.len() == 0
-    }
-
-    /// The others that aren't cut, as a set.
-    pub(crate) fn uncut(&self) -> u32 {
-        let mut set = 0;
-        let shape = self.member.shape();
-        'others: for x in 0..many(shape) {
-            if self.member.may_read(process_at(shape, x)) {
-                set = with(set, x);
-            }
-        }
-        set
     }
 
     /// Where the call of a caller of the member stands by now: it is to be asked, or waits to be shown.
