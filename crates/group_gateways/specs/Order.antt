@@ -9,7 +9,8 @@ pub both_same : {G : Type 0} (leads : G → G → Type 0) → IsOrder leads → 
 both_same leads order None = tt
 both_same leads order (Some one) = order.same one
 
-pub both_on : {G : Type 0} (leads : G → G → Type 0) → IsOrder leads → (one two three : Option G) → Both leads one two → Both leads two three → Both leads one three
+pub both_on : {G : Type 0} (leads : G → G → Type 0) → IsOrder leads → (one two three : Option G) → Both leads one two
+    → Both leads two three → Both leads one three
 both_on leads order None None None first then = tt
 both_on leads order (Some one) (Some two) (Some three) first then = order.on one two three first then
 both_on leads order None None (Some three) first then = absurd then

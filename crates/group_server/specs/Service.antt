@@ -54,7 +54,8 @@ module _ {L : Type 0} (listened : L → List ℕ → L → Type 0) (tells : L �
   HasServedBy settings held held_now l l_now (Ok n) =
       HasHandedOut settings n l l_now × IsDone settings.connections n (tells l_now).over × Appends held held_now (listening ++ served n)
   HasServedBy settings held held_now l l_now (Err AcceptFault) =
-      (((tells l_now).accepted ≡ (tells l).accepted) × ((tells l_now).at ≡ (tells l).at) × (held_now ≡ held)) ⊎ ((n : ℕ) × HasHandedOut settings n l l_now × Appends held held_now listening)
+      (((tells l_now).accepted ≡ (tells l).accepted) × ((tells l_now).at ≡ (tells l).at) × (held_now ≡ held))
+      ⊎ ((n : ℕ) × HasHandedOut settings n l l_now × Appends held held_now listening)
   HasServedBy settings held held_now l l_now (Err WriteFault) = (n : ℕ) × HasHandedOut settings n l l_now × HasWritten held held_now (listening ++ served n)
   HasServedBy settings held held_now l l_now (Err Want) = (n : ℕ) × HasWritten held held_now (listening ++ served n)
   HasServedBy settings held held_now l l_now (Err _) = ⊥
@@ -65,4 +66,5 @@ module _ {L : Type 0} (listened : L → List ℕ → L → Type 0) (tells : L �
   HasServedGroup input input_now held held_now l l_now (Err (BadConfig key)) = HasRefused input input_now key × (held_now ≡ held) × (l_now ≡ l)
   HasServedGroup input input_now held held_now l l_now (Err ReadFault) = (held_now ≡ held) × (l_now ≡ l)
   HasServedGroup input input_now held held_now l l_now (Err Want) = (n : ℕ) × HasWritten held held_now (listening ++ served n)
-  HasServedGroup input input_now held held_now l l_now result = (settings : Settings) × HasGivenSettings input input_now settings × HasServedBy settings held held_now l l_now result
+  HasServedGroup input input_now held held_now l l_now result = (settings : Settings)
+      × HasGivenSettings input input_now settings × HasServedBy settings held held_now l l_now result

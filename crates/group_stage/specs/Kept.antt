@@ -73,7 +73,8 @@ pub record KeepsPlan (plan : Plan) (st : State (Option NodeStanding) View) : Typ
   -- a process's word is above 0 exactly where one seat holds its node
   pub taken : (p : ℕ) → p < processes_of plan.shape → total (holding p) st.views ≡ flag (word_in st.words p)
   -- what was met is what was cleared and what the word has above 1
-  pub counts : (p : ℕ) → p < processes_of plan.shape → total (met_of p) st.views + flag (word_in st.words p) ≡ total (cleared_of p) st.views + word_in st.words p
+  pub counts : (p : ℕ) → p < processes_of plan.shape → total (met_of p) st.views + flag (word_in st.words p)
+      ≡ total (cleared_of p) st.views + word_in st.words p
   pub home : (p : ℕ) → p < processes_of plan.shape → word_in st.words p ≡ 0
       → get_elem? st.homes (slot_of p) ≡ maybe.some (maybe.some (Some (standing_at plan.shape schedule p)))
   pub each : (j : ℕ) (v : View) → get_elem? st.views j ≡ maybe.some v → FitsStage plan.shape schedule (slice_index st.words (drawing_of plan.shape)) v

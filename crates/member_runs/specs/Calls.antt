@@ -4,9 +4,12 @@ use Rattle.group_types.specs.declared.process.ProcessId.{ProcessId}
 use Rattle.membership.specs.Members.{Membership, knows_dead}
 use Rattle.memc_table.specs.Asked.{Asked}
 use Rattle.group_message.specs.declared.message.Message.{Message}
-use Rattle.group_wire.specs.Actions.{Action, Begin, Send, Read, Treat, Collect, Flush, Learn, Receive, GiveUp, Cut, Say, Hear, Permit, Take, Ping, Pong, Count, Show, LetGo}
+use Rattle.group_wire.specs.Actions.{Action, Begin, Send, Read, Treat, Collect, Flush, Learn, Receive, GiveUp, Cut, Say}
+use Rattle.group_wire.specs.Actions.{Hear, Permit, Take, Ping, Pong, Count, Show, LetGo}
 use Rattle.group_wire.specs.State.{Request, Told}
-use Rattle.group_member.specs.Acting.{Acts, ActsHanding, ActsWhere, AnswerComes, MessageComes, PingComes, PongComes, RequestComes, SetComes, answer_handed, message_handed, ping_handed, pong_handed, request_handed, set_handed}
+use Rattle.group_member.specs.Acting.{Acts, ActsHanding, ActsWhere, AnswerComes, MessageComes, PingComes, PongComes}
+use Rattle.group_member.specs.Acting.{RequestComes, SetComes, answer_handed, message_handed, ping_handed, pong_handed}
+use Rattle.group_member.specs.Acting.{request_handed, set_handed}
 use Rattle.group_member.specs.Callers.{IsItsCaller}
 use Rattle.group_member.specs.Standing.{HandedFrames, Member}
 use Rattle.group_member.specs.Treating.{sent_here}
@@ -49,8 +52,10 @@ HasCalled (Takes x) before after = Acts (Take x before.words.name ∷ []) before
 HasCalled Flushes before after = Acts (Flush before.words.name ∷ []) before after
 HasCalled (HandsOut to m) before after = ActsHanding [] (message_handed to m) before after
 HasCalled TakesLost before after = Acts [] before after
-HasCalled (Pings to ping) before after = ActsHanding (Ping (knows_dead to) before.words.name ∷ []) (ping_handed (knows_dead to) before.words.cut ping) before after
-HasCalled (Pongs from ping) before after = ActsWhere (PingComes from before.words.name ping) (Pong from before.words.name ∷ []) (pong_handed from ping) before after
+HasCalled (Pings to ping) before after = ActsHanding (Ping (knows_dead to) before.words.name ∷ [])
+    (ping_handed (knows_dead to) before.words.cut ping) before after
+HasCalled (Pongs from ping) before after = ActsWhere (PingComes from before.words.name ping)
+    (Pong from before.words.name ∷ []) (pong_handed from ping) before after
 HasCalled (Counts from ping) before after = ActsWhere (PongComes from before.words.name ping) (Count from before.words.name ∷ []) (λ out. out) before after
 HasCalled (Begins caller op) before after = IsItsCaller before.callers caller × Acts (Begin caller op ∷ []) before after
 HasCalled (Sends caller to r) before after = IsItsCaller before.callers caller × ActsHanding (Send caller to ∷ []) (request_handed to r) before after

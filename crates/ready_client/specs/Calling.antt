@@ -44,7 +44,8 @@ module _ {G K : Type 0} (rules : Rules G K) where
   -- the calls of others that were open are so, and none of them has become one of these
   abbrev pub KeepsApart : List (OpenCall K) → List (OpenCall K) → G → G → Type 0
   KeepsApart calls calls_now before after =
-      (call : K) (op : Asked) (began : G) → ¬ HasOpen calls call → rules.opened before call op began → rules.opened after call op began × ¬ HasOpen calls_now call
+      (call : K) (op : Asked) (began : G) → ¬ HasOpen calls call → rules.opened before call op began
+      → rules.opened after call op began × ¬ HasOpen calls_now call
 
   -- a call of another that has a caller now had one before, and was another's
   abbrev pub LendsApart : List (OpenCall K) → List (OpenCall K) → G → G → Type 0
@@ -53,7 +54,8 @@ module _ {G K : Type 0} (rules : Rules G K) where
 
   -- those of these calls that are open stay so
   abbrev pub KeepsCalls : List (OpenCall K) → G → G → Type 0
-  KeepsCalls calls before after = (call : K) (op : Asked) (began : G) → HasOpen calls call → rules.opened before call op began → rules.opened after call op began
+  KeepsCalls calls before after = (call : K) (op : Asked) (began : G) → HasOpen calls call
+      → rules.opened before call op began → rules.opened after call op began
 
 module _ {G K : Type 0} (rules : Rules G K) (overlap : Overlap) (told : Option ℕ) (ends : List ℕ → G) (now : G) where
   -- a call of this act began so: where the last of its sequence ended, or later
@@ -65,7 +67,8 @@ module _ {G K : Type 0} (rules : Rules G K) (overlap : Overlap) (told : Option �
   -- a call of this act is open at the gateway, or has ended
   abbrev pub IsCalling : Act → OpenCall K → Type 0
   IsCalling asked (Open call) = (op : Asked) × (began : G) × BeganBehind asked op began × rules.opened now call op began
-  IsCalling asked (Ended end) = (op : Asked) × (began : G) × (after : G) × BeganBehind asked op began × rules.ways.made began op end after × rules.later after now
+  IsCalling asked (Ended end) = (op : Asked) × (began : G) × (after : G) × BeganBehind asked op began
+      × rules.ways.made began op end after × rules.later after now
 
   -- the calls are those of the first of these acts, in order, and no two are of one sequence
   abbrev pub AreCalls : List Act → List (OpenCall K) → Type 0

@@ -74,7 +74,8 @@ ways_of rules overlap = in_sequence (sequence_of overlap) rules.later rules.ways
 
 -- the same of a connection among others at one gateway, which began there with these bytes held and now has these: its calls that
 -- are under way are of the acts that its requests ask, in their order, but for the first ones, whose ends aren't wanted any more
-pub record ComesAtGateway {G K : Type 0} (rules : Rules G K) (overlap : Overlap) (told : Option ℕ) (input input_now : Input) (first : G) (before : List ℕ) (now : G)
+pub record ComesAtGateway {G K : Type 0} (rules : Rules G K) (overlap : Overlap) (told : Option ℕ)
+    (input input_now : Input) (first : G) (before : List ℕ) (now : G)
     (held : List ℕ) (progress : Progress) (calls : List (OpenCall K)) (unwanted : ℕ) (end : Option (Result End ConnectionFault)) : Type 0 where
   pub ends : List ℕ → G
   pub later : (sequence : List ℕ) → rules.later (ends sequence) now

@@ -32,7 +32,8 @@ module _ {C : Type 0} (ways : Ways C) (later : C → C → Type 0) where
       × ways.failed before at keep end after × AreInSequences sequence (λ _. after) calls now
 
   -- all requests that were read are answered, each by its own calls, of which those of one sequence were made in their order
-  pub record AnsweredInSequences (sequence : Act → List ℕ) (told : Option ℕ) (input input_now : Input) (kept : ReaderState) (first now : C) (before held : List ℕ) : Type 0 where
+  pub record AnsweredInSequences (sequence : Act → List ℕ) (told : Option ℕ) (input input_now : Input)
+      (kept : ReaderState) (first now : C) (before held : List ℕ) : Type 0 where
     pub read : List ℕ
     pub consumed : Takes input input_now read
     pub turns : List Exchange

@@ -21,7 +21,8 @@ unread = record { taken = []; ended = false; left = None }
 -- nothing was read or written, at the gateway as it was then, and has come to the gateway as it is now
 abbrev pub ClientComes : {G K X : Type 0} → Rules G K → Overlap → Option ℕ → G → Client (TryEdge X) K → Type 0
 ClientComes {G} rules overlap told now client =
-    ∥ ((first : G) × ComesAtGateway rules overlap told unread (taken_of client.stream) first [] now (client.stream.outgoing.bytes ++ client.outbox) client.connection
+    ∥ ((first : G) × ComesAtGateway rules overlap told unread (taken_of client.stream) first [] now
+    (client.stream.outgoing.bytes ++ client.outbox) client.connection
     client.calls.list client.calls.unwanted client.end) ∥₁
 
 -- that holds of each client that has a place

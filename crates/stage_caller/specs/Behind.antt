@@ -39,12 +39,19 @@ further first then last before after = record {
   made = after.made ∙ ap (λ (xs : List Numbered). xs ++ after.more) before.made ∙ append_assoc (view_of first.seat).made before.more after.more;
 }
 
-ordered : (before : StageCaller) (at : ProcessId) (keep : ℕ) (end : FailEnd) (after : StageCaller) → IsOrdered before at keep end after → IsLaterSeat before after
+ordered : (before : StageCaller) (at : ProcessId) (keep : ℕ) (end : FailEnd) (after : StageCaller)
+    → IsOrdered before at keep end after → IsLaterSeat before after
 ordered before at keep ends.Off after is = subst (IsLaterSeat before) (sym is.1) (at_itself before)
 ordered before at keep ends.NoProcess after is = subst (IsLaterSeat before) (sym is.2) (at_itself before)
 ordered before at keep ends.Made after is = record { kept = is.1; same = is.2.same; more = is.2.event ∷ []; made = is.2.made }
 ordered before at keep ends.AlreadyDead after is = record { kept = is.1; same = is.2.same; more = is.2.event ∷ []; made = is.2.made }
-ordered before at keep ends.Worn after is = record { kept = is.1; same = is.2.0.same; more = []; made = is.2.0.made ∙ sym (append-nil (view_of before.seat).made) }
+ordered before at keep ends.Worn after is = record {
+  kept = is.1;
+  same = is.2.0.same;
+  more = [];
+  made = is.2.0.made
+      ∙ sym (append-nil (view_of before.seat).made);
+}
 
 pub stage_order : IsOrder IsLaterSeat
 stage_order = record { same = at_itself; on = further }

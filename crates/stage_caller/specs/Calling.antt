@@ -62,7 +62,8 @@ IsOwnEvent wish n phase (Flush p) answer next = ⊥
 -- events of a call bring it further, whose seat asked n times before them
 abbrev pub Brings : Wish → ℕ → Next → List Numbered → Next → Type 0
 Brings wish n next [] last = last ≡ next
-Brings wish n (Goes phase) (x ∷ xs) last = (next : Next) × IsOwnEvent wish n phase x.event x.answer next × Brings wish (n + ask_by wish.caller x.event) next xs last
+Brings wish n (Goes phase) (x ∷ xs) last = (next : Next) × IsOwnEvent wish n phase x.event x.answer next
+    × Brings wish (n + ask_by wish.caller x.event) next xs last
 Brings wish n (Ends end) (x ∷ xs) last = ⊥
 
 -- the call is over: its last own event was answered so, or the seat has made all its calls

@@ -30,7 +30,8 @@ abbrev pub IsLinkAt : Progress → ProcessId → ProcessId → Round → Type 0
 IsLinkAt p one other Onward = ⊥
 IsLinkAt p one other Over = ⊥
 IsLinkAt p one other (Near place) = IsNear p.route p.caller place one other
-IsLinkAt p one other (All place) = (one ≡ process_at p.route.shape (sender p.route.shape place)) × (other ≡ process_at p.route.shape (receiver p.route.shape place))
+IsLinkAt p one other (All place) = (one ≡ process_at p.route.shape (sender p.route.shape place))
+    × (other ≡ process_at p.route.shape (receiver p.route.shape place))
 
 abbrev pub IsNextLink : Progress → ProcessId → ProcessId → Type 0
 IsNextLink p one other = IsLinkAt p one other p.round
