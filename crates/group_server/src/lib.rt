@@ -6,10 +6,10 @@
 
 mod bell;
 mod deliverer;
-mod desk;
 mod fault;
 mod losses;
 mod notice;
+mod pool;
 mod server;
 mod service;
 mod telling;

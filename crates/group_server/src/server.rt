@@ -6,9 +6,9 @@ ghost use Rattle.node_worker.specs.declared.fault.ServeFault.{ServeFault};
 
 use crate::bell::Bell;
 use crate::deliverer::Deliverer;
-use crate::desk::Desk;
 use crate::losses::Losses;
 use crate::notice::Notice;
+use crate::pool::CallerPool;
 use crate::terms::Terms;
 use edge_io::Clock;
 use group_stage::{Seats, Stage};
@@ -49,25 +49,25 @@ where
     };
     let mut deliverer = Deliverer::new(stage, own);
     let losses = Losses::new(stage.shape().k());
-    match Desk::new(rt, alloc, stage, rest, terms.settings.control, &losses) {
-        Ok(desk) => serve_beside(rt, alloc, listener, &mut deliverer, &desk, terms),
+    match CallerPool::new(rt, alloc, stage, rest, terms.settings.control, &losses) {
+        Ok(pool) => serve_beside(rt, alloc, listener, &mut deliverer, &pool, terms),
         Err(_) => Err(ServeFault::Want),
     }
 }
 
-/// Serves the connections over the callers of a desk, while a thread of its own delivers.
+/// Serves the connections over the callers of a pool, while a thread of its own delivers.
 fn serve_beside<R: Threads + Wait + Sync, L: ReadyListener, G: Gate, N: Notice, T: Clock>(
     rt: &R,
     alloc: Global,
     listener: &mut L,
     deliverer: &mut Deliverer<'_>,
-    desk: &Desk<'_, '_, R>,
+    pool: &CallerPool<'_, '_, R>,
     terms: &Terms<'_, G, N, T>,
 ) -> Result<u64, ServeFault>
 where
     L::Incoming: Drop,
     L::Outgoing: Drop,
-    requires { desk.now.control ≡ terms.now.settings.now.control }
+    requires { pool.now.control ≡ terms.now.settings.now.control }
     ensures accepted { IfOk result (λ n. HasAccepted (L.accepted listener.old)
         (L.accepted listener.new) terms.now.settings.now.connections n) }
     ensures done { IfOk result (λ n. IsDone terms.now.settings.now.connections n (L.over listener.new)) }
@@ -81,19 +81,19 @@ where
     // Where no thread can be made the first of the two runs last, and the bell has rung.
     let ((), end) = thread::join_mut(
         rt,
-        &mut || deliverer.run(rt, &bell, desk.losses(), terms.notice),
-        &mut || { serve_and_ring(rt, alloc, listener, &bell, desk, terms) },
+        &mut || deliverer.run(rt, &bell, pool.losses(), terms.notice),
+        &mut || { serve_and_ring(rt, alloc, listener, &bell, pool, terms) },
     );
     end
 }
 
-/// Serves the connections over the callers of a desk, and rings the bell behind the last.
+/// Serves the connections over the callers of a pool, and rings the bell behind the last.
 fn serve_and_ring<R: Threads + Wait + Sync, L: ReadyListener, G: Gate, N, T: Clock>(
     rt: &R,
     alloc: Global,
     listener: &mut L,
     bell: &Bell,
-    desk: &Desk<'_, '_, R>,
+    pool: &CallerPool<'_, '_, R>,
     terms: &Terms<'_, G, N, T>,
 ) -> Result<u64, ServeFault>
 where
@@ -109,7 +109,7 @@ where
     ensures same_at { L.at listener.new ≡ L.at listener.old }
 {
     let serving = Serving {
-        port: desk,
+        port: pool,
         gate: terms.gate,
         clock: terms.clock,
         workers: terms.settings.workers,

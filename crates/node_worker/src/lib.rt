@@ -5,7 +5,7 @@
 
 mod fault;
 mod gate;
-mod hall;
+mod pool;
 mod port;
 mod serving;
 mod workers;

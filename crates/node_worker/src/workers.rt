@@ -5,7 +5,7 @@ ghost use Rattle.node_worker.specs.declared.fault.ServeFault.{ServeFault};
 
 use crate::fault::ServeFault;
 use crate::gate::Gate;
-use crate::hall::Hall;
+use crate::pool::Pool;
 use crate::port::Port;
 use crate::serving::Serving;
 use edge_io::{Clock, Failed, Listener, Sink, Source};
@@ -44,7 +44,7 @@ where
         (L.accepted listener.new) serving.now.connections n) }
     ensures same_at { L.at listener.new ≡ L.at listener.old }
 {
-    let hall = Hall::new(alloc, serving);
+    let pool = Pool::new(alloc, serving);
     let Accepted { listener: _, end } = serve_in_scope::<
         R,
         L::Incoming,
@@ -54,7 +54,7 @@ where
         P,
         G,
         T,
-    >(rt, listener, &hall, serving.connections);
+    >(rt, listener, &pool, serving.connections);
     end.map_err(ServeFault::from)
 }
 
@@ -69,7 +69,7 @@ fn serve_in_scope<
     P: Port<Lent = Q>,
     G: Gate,
     T: Clock,
->(rt: &R, listener: &'a mut L, hall: &Hall<'_, P, G, T>, connections: u64) -> Accepted<'a, L>
+>(rt: &R, listener: &'a mut L, pool: &Pool<'_, P, G, T>, connections: u64) -> Accepted<'a, L>
     ensures same { result.listener.ghost_name ≡ listener.entry.ghost_name }
     ensures accepted { IfOk result.end (λ n. HasAccepted (L.accepted listener.old)
         (L.accepted result.listener.now) connections n) }
@@ -94,7 +94,7 @@ fn serve_in_scope<
                 rt,
                 scope,
                 listener,
-                hall,
+                pool,
                 connections,
             );
             Accepted { listener, end }
@@ -118,7 +118,7 @@ fn accept_all<
     rt: &R,
     scope: &'s Scope<'s, E>,
     listener: &mut L,
-    hall: &'s Hall<'s, P, G, T>,
+    pool: &'s Pool<'s, P, G, T>,
     connections: u64,
 ) -> Result<u64, Failed>
     ensures accepted { IfOk result (λ n. HasAccepted (L.accepted listener.old)
@@ -137,7 +137,7 @@ fn accept_all<
         match listener.accept()? {
             Some((source, sink)) => {
                 accepted += 1;
-                start::<E, R, I, O, Q, P, G, T>(rt, scope, hall, accepted, source, sink);
+                start::<E, R, I, O, Q, P, G, T>(rt, scope, pool, accepted, source, sink);
             }
             None => return Ok(accepted),
         }
@@ -156,10 +156,10 @@ fn start<
     P: Port<Lent = Q>,
     G: Gate,
     T: Clock,
->(rt: &R, scope: &'s Scope<'s, E>, hall: &'s Hall<'s, P, G, T>, number: u64, source: I, sink: O) {
-    let has_worker = hall.has_free_worker();
-    let caller = borrow::<R, Q, P, G, T>(rt, hall);
-    let job = move || hall.serve(number, source, sink, caller);
+>(rt: &R, scope: &'s Scope<'s, E>, pool: &'s Pool<'s, P, G, T>, number: u64, source: I, sink: O) {
+    let has_worker = pool.has_free_worker();
+    let caller = borrow::<R, Q, P, G, T>(rt, pool);
+    let job = move || pool.serve(number, source, sink, caller);
     if !has_worker {
         return job();
     }
@@ -171,10 +171,10 @@ fn start<
 /// A caller for the next connection, which is asked for until there is one.
 fn borrow<R: Wait, Q: Caller + Drop, P: Port<Lent = Q>, G: Gate, T: Clock>(
     rt: &R,
-    hall: &Hall<'_, P, G, T>,
+    pool: &Pool<'_, P, G, T>,
 ) -> Q {
     for _ in rt.forever() {
-        if let Some(caller) = hall.lend() {
+        if let Some(caller) = pool.lend() {
             return caller;
         }
         thread::yield_now();

@@ -3,13 +3,13 @@
 //! `Client`, and that the system tells when streams are ready and nobody starves to tests.
 #![tactic(auto)]
 
+mod acceptor;
 mod closing;
 mod crowd;
 mod either;
 mod exchange;
 mod exchanging;
-mod hall;
-mod lane;
+mod inbox;
 mod poll_readiness;
 mod readiness;
 mod ready_listener;
@@ -26,7 +26,7 @@ pub use crowd::{Crowd, CrowdChange, MOST_OPEN};
 pub use either::serve_either;
 pub use exchange::Exchange;
 pub use front_end::Overlap;
-pub use lane::Lane;
+pub use inbox::Inbox;
 pub use readiness::{Readiness, Wake};
 pub use ready_listener::ReadyListener;
 pub use serve::serve_ready;

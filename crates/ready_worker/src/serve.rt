@@ -3,8 +3,8 @@ ghost use Rattle.edge_io.specs.Faults.{HasCause, HasCauseOf};
 ghost use Rattle.node_worker.specs.Served.{HasAccepted, IsDone};
 ghost use Rattle.node_worker.specs.declared.fault.ServeFault.{ServeFault};
 
-use crate::hall::{Hall, refuse};
-use crate::lane::Lane;
+use crate::acceptor::{Acceptor, refuse};
+use crate::inbox::Inbox;
 use crate::poll_readiness::PollReadiness;
 use crate::ready_listener::ReadyListener;
 use crate::station::Station;
@@ -50,13 +50,13 @@ pub fn serve_ready<R: Threads + Wait + Sync, L: ReadyListener, P: Port, G, T: Cl
     let Ok(crew) = crew_of(alloc, listener, serving.workers) else {
         return Err(ServeFault::Want);
     };
-    let Ok(hall) = Hall::new(alloc, &crew) else {
+    let Ok(acceptor) = Acceptor::new(alloc, &crew) else {
         return Err(ServeFault::Want);
     };
     let Accepted { listener: _, end } = serve_in_scope::<R, L, P::Lent, P, T>(
         rt,
         listener,
-        &hall,
+        &acceptor,
         crew,
         serving.port,
         serving.clock,
@@ -90,7 +90,7 @@ fn serve_in_scope<
 >(
     rt: &R,
     listener: &'a mut L,
-    hall: &Hall,
+    acceptor: &Acceptor,
     crew: Vec<Station<PollReadiness>>,
     port: &P,
     clock: &T,
@@ -120,9 +120,9 @@ fn serve_in_scope<
                 × (result.end ≡ Err ServeFault.Want → result.listener.now ≡ listener.entry.now)
                 × (L.at result.listener.now ≡ L.at listener.entry.now) }
         {
-            start_all::<_, R, Q, P, T>(rt, scope, hall, crew, port, clock);
-            let end = accept_by(rt, listener, hall, connections);
-            hall.end();
+            start_all::<_, R, Q, P, T>(rt, scope, acceptor, crew, port, clock);
+            let end = accept_by(rt, listener, acceptor, connections);
+            acceptor.end();
             Accepted { listener, end }
         },
     )
@@ -132,7 +132,7 @@ fn serve_in_scope<
 fn accept_by<R: Wait, L: ReadyListener>(
     rt: &R,
     listener: &mut L,
-    hall: &Hall,
+    acceptor: &Acceptor,
     connections: u64,
 ) -> Result<u64, ServeFault>
     requires ready { L.ready listener.old ≡ true }
@@ -144,10 +144,10 @@ fn accept_by<R: Wait, L: ReadyListener>(
     ensures want { result ≡ Err ServeFault.Want → listener.new ≡ listener.old }
     ensures same_at { L.at listener.new ≡ L.at listener.old }
 {
-    if !hall.has_worker() {
+    if !acceptor.has_worker() {
         return Err(ServeFault::Want);
     }
-    accept_all(rt, listener, hall, connections).map_err(ServeFault::from)
+    accept_all(rt, listener, acceptor, connections).map_err(ServeFault::from)
 }
 
 /// Has each worker run in a thread of its own, with a caller of its own.
@@ -161,34 +161,34 @@ fn start_all<
 >(
     rt: &'s R,
     scope: &'s Scope<'s, E>,
-    hall: &'s Hall,
+    acceptor: &'s Acceptor,
     crew: Vec<Station<PollReadiness>>,
     port: &'s P,
     clock: &'s T,
 ) {
     let mut crew = crew;
-    'lanes: for lane in hall.lanes().iter().rev() {
+    'inboxes: for inbox in acceptor.inboxes().iter().rev() {
         let Some(station) = crew.pop() else {
             return;
         };
         let gateway = AtOnce::new(borrow::<R, Q, P>(rt, port));
         let worker = Worker::new(station, gateway, clock, Overlap::Never);
-        let job = move || work::<R, Q, P, T>(rt, lane, worker, port);
+        let job = move || work::<R, Q, P, T>(rt, inbox, worker, port);
         if scope.spawn(job).is_ok() {
-            lane.start();
+            inbox.start();
         }
     }
 }
 
-/// Serves the connections of a lane, and gives the caller back.
+/// Serves the connections of a inbox, and gives the caller back.
 fn work<R: Wait, Q: Caller + Drop, P: Port<Lent = Q>, T: Clock>(
     rt: &R,
-    lane: &Lane<TcpStream, Waker>,
+    inbox: &Inbox<TcpStream, Waker>,
     worker: Worker<'_, PollReadiness, AtOnce<Q>, T>,
     port: &P,
 ) {
     let mut worker = worker;
-    worker.run(rt, lane);
+    worker.run(rt, inbox);
     port.give_back(worker.into_gateway().into_caller());
 }
 
@@ -196,7 +196,7 @@ fn work<R: Wait, Q: Caller + Drop, P: Port<Lent = Q>, T: Clock>(
 fn accept_all<R: Wait, L: ReadyListener>(
     rt: &R,
     listener: &mut L,
-    hall: &Hall,
+    acceptor: &Acceptor,
     connections: u64,
 ) -> Result<u64, Failed>
     requires ready { L.ready listener.old ≡ true }
@@ -216,11 +216,11 @@ fn accept_all<R: Wait, L: ReadyListener>(
         match listener.accept_stream() {
             Ok(stream) => {
                 accepted += 1;
-                listener.note_open(hall.open());
+                listener.note_open(acceptor.open());
                 if listener.is_full() {
                     refuse(stream);
                 } else {
-                    hall.receive(rt, stream, listener.most_open());
+                    acceptor.receive(rt, stream, listener.most_open());
                 }
             }
             Err(Failed) if accepted == 0 => return Err(Failed),

@@ -1,7 +1,7 @@
 use std::marker::Model;
 
-/// How many connections a worker took of its lane that the lane counts as open. It grows by one that is taken, and gets less
-/// only where the lane is told.
+/// How many connections a worker took of its inbox that the inbox counts as open. It grows by one that is taken, and gets less
+/// only where the inbox is told.
 #[derive(Drop)]
 pub(crate) struct Share {
     count: usize,

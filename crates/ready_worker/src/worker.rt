@@ -7,7 +7,7 @@ ghost use Rattle.ready_places.specs.Queue.{is_queued};
 ghost use Rattle.ready_worker.specs.Come.{ShareNoCall, ClientComes, ClientsCome, ClientIsOver};
 ghost use Rattle.ready_worker.specs.Queued.{MoreAreQueued, StayQueued};
 
-use crate::lane::Lane;
+use crate::inbox::Inbox;
 use crate::readiness::{Readiness, Wake};
 use crate::settling::{queue_all, settle, with_call};
 use crate::share::Share;
@@ -78,46 +78,46 @@ impl<'t, Y: Readiness, G: Gateway, T: Clock> Worker<'t, Y, G, T> {
         gateway
     }
 
-    /// Serves the connections of a lane until no further one comes and all are over.
-    pub fn run<R: Wait, W: Wake>(&mut self, rt: &R, lane: &Lane<Y::Stream, W>)
+    /// Serves the connections of a inbox until no further one comes and all are over.
+    pub fn run<R: Wait, W: Wake>(&mut self, rt: &R, inbox: &Inbox<Y::Stream, W>)
         ensures clock { self.new.clock ≡ self.old.clock }
         ensures overlap { self.new.overlap ≡ self.old.overlap }
     {
         let mut share = Share::none();
         'rounds: for _ in rt.forever() {
-            let is_over = lane.is_over();
-            self.take_in(rt, lane, &mut share);
+            let is_over = inbox.is_over();
+            self.take_in(rt, inbox, &mut share);
             if is_over && self.places.is_empty() {
                 return;
             }
-            self.round_of(lane, &mut share);
+            self.round_of(inbox, &mut share);
         }
     }
 
-    // Takes the connections that were handed over. Of those that get no place the lane is told.
-    fn take_in<R: Wait, W: Wake>(&mut self, rt: &R, lane: &Lane<Y::Stream, W>, share: &mut Share)
+    // Takes the connections that were handed over. Of those that get no place the inbox is told.
+    fn take_in<R: Wait, W: Wake>(&mut self, rt: &R, inbox: &Inbox<Y::Stream, W>, share: &mut Share)
         ensures clock { self.new.clock ≡ self.old.clock }
         ensures overlap { self.new.overlap ≡ self.old.overlap }
         ensures owed { share.old ≡ slab_len self.old.places.values → share.new ≡ slab_len self.new.places.values }
     {
         'streams: for _ in rt.forever() {
-            let Some(stream) = lane.next(rt, share) else {
+            let Some(stream) = inbox.next(rt, share) else {
                 return;
             };
             if !self.admit(stream) {
-                lane.leave(share, 1);
+                inbox.leave(share, 1);
             }
         }
     }
 
-    // A round. Of the connections that were over and let go the lane is told.
-    fn round_of<W: Wake>(&mut self, lane: &Lane<Y::Stream, W>, share: &mut Share)
+    // A round. Of the connections that were over and let go the inbox is told.
+    fn round_of<W: Wake>(&mut self, inbox: &Inbox<Y::Stream, W>, share: &mut Share)
         ensures clock { self.new.clock ≡ self.old.clock }
         ensures overlap { self.new.overlap ≡ self.old.overlap }
         ensures owed { share.old ≡ slab_len self.old.places.values → share.new ≡ slab_len self.new.places.values }
     {
         let left = self.round();
-        lane.leave(share, left);
+        inbox.leave(share, left);
     }
 
     /// Gives a connection a place. Says whether there was memory for it, and it could be watched.

@@ -7,7 +7,7 @@ use crate::wires::{Change, Nobody, Teller, Wires};
 use edge_io::{Clock, FixedClock};
 use front_end::AtOnce;
 use memc_table::Table;
-use ready_worker::{Lane, Overlap, Station, Worker};
+use ready_worker::{Inbox, Overlap, Station, Worker};
 use std::alloc::{AllocError, Global};
 use std::process::Abort;
 use std::sync::atomic::{AtomicU64, Ordering};
@@ -118,7 +118,7 @@ fn a_thousand_are_served_until_all_are_over(rt: HostRuntime) {
     let table = Mutex::new(Table::new(alloc, 1).expect(&rt, "a table"));
     let wires = Wires::new(alloc, 1_000).expect(&rt, "connections");
     let clock = FixedClock::new(0);
-    let lane = Lane::new(alloc, Nobody);
+    let inbox = Inbox::new(alloc, Nobody);
     for number in 0..1_000 {
         let says = format!(in alloc;
             "set k{number} {number} 0 4\r\n{number:04}\r\nget k{number} none\r\nquit\r\n"
@@ -130,9 +130,9 @@ fn a_thousand_are_served_until_all_are_over(rt: HostRuntime) {
         wires
             .change(number, Says(says.as_bytes()))
             .expect(&rt, "memory");
-        lane.hand(&rt, wires.stream(number));
+        inbox.hand(&rt, wires.stream(number));
     }
-    lane.end();
+    inbox.end();
     let station = Station::new(alloc, Teller::new(alloc, &wires)).expect(&rt, "a station");
     let mut worker = Worker::new(
         station,
@@ -140,8 +140,8 @@ fn a_thousand_are_served_until_all_are_over(rt: HostRuntime) {
         &clock,
         Overlap::Never,
     );
-    worker.run(&rt, &lane);
-    assert_eq!(rt; lane.open(), 0);
+    worker.run(&rt, &inbox);
+    assert_eq!(rt; inbox.open(), 0);
     for number in 0..1_000 {
         let wanted = format!(in alloc;
             "STORED\r\nVALUE k{number} {number} 4\r\n{number:04}\r\nEND\r\n"

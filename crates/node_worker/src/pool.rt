@@ -8,7 +8,7 @@ use std::sync::atomic::{AtomicU64, Ordering};
 
 /// What the connections of a group are served with, and how many are being served.
 #[derive(Drop)]
-pub(crate) struct Hall<'h, P, G, T> {
+pub(crate) struct Pool<'h, P, G, T> {
     alloc: Global,
     port: &'h P,
     gate: &'h G,
@@ -17,10 +17,10 @@ pub(crate) struct Hall<'h, P, G, T> {
     serving: AtomicU64,
 }
 
-impl<'h, Q: Caller + Drop, P: Port<Lent = Q>, G: Gate, T: Clock> Hall<'h, P, G, T> {
+impl<'h, Q: Caller + Drop, P: Port<Lent = Q>, G: Gate, T: Clock> Pool<'h, P, G, T> {
     /// Nothing is being served.
-    pub(crate) fn new(alloc: Global, serving: &Serving<'h, P, G, T>) -> Hall<'h, P, G, T> {
-        Hall {
+    pub(crate) fn new(alloc: Global, serving: &Serving<'h, P, G, T>) -> Pool<'h, P, G, T> {
+        Pool {
             alloc,
             port: serving.port,
             gate: serving.gate,

@@ -11,14 +11,14 @@ use std::sync::{Mutex, Wait};
 
 /// Lends callers over one stage, each from a seat of its own. They take orders that a process fail where `control` is on.
 #[derive(Drop)]
-pub(crate) struct Desk<'d, 'a, R> {
+pub(crate) struct CallerPool<'d, 'a, R> {
     rt: &'d R,
     losses: &'d Losses,
     control: bool,
     callers: Mutex<Vec<StageCaller<'a>>>,
 }
 
-impl<'d, 'a, R: Wait> Desk<'d, 'a, R> {
+impl<'d, 'a, R: Wait> CallerPool<'d, 'a, R> {
     /// A caller for each of these seats.
     pub(crate) fn new(
         rt: &'d R,
@@ -27,16 +27,16 @@ impl<'d, 'a, R: Wait> Desk<'d, 'a, R> {
         seats: Seats,
         control: bool,
         losses: &'d Losses,
-    ) -> Result<Desk<'d, 'a, R>, AllocError>
+    ) -> Result<CallerPool<'d, 'a, R>, AllocError>
         requires { AreSeatsOf stage.now seats.seats }
-        ensures control { IfOk result (λ desk. desk.control ≡ control) }
+        ensures control { IfOk result (λ pool. pool.control ≡ control) }
     {
         let mut rest = seats;
         let mut callers = Vec::with_capacity(alloc, rest.count() as usize)?;
         'seats: while let Some(seat) = rest.take() {
             callers.push(StageCaller::new(stage, seat, control))?;
         }
-        Ok(Desk {
+        Ok(CallerPool {
             rt,
             losses,
             control,
@@ -45,14 +45,14 @@ impl<'d, 'a, R: Wait> Desk<'d, 'a, R> {
     }
 }
 
-impl<R> Desk<'_, '_, R> {
+impl<R> CallerPool<'_, '_, R> {
     /// What is lost by the orders of its callers.
     pub(crate) fn losses(&self) -> &Losses {
         self.losses
     }
 }
 
-impl<'d, 'a, R: Wait + Sync> Port for Desk<'d, 'a, R> {
+impl<'d, 'a, R: Wait + Sync> Port for CallerPool<'d, 'a, R> {
     type Lent = ToldCaller<'d, StageCaller<'a>>;
 
     fn lend(&self) -> Option<ToldCaller<'d, StageCaller<'a>>>

@@ -9,19 +9,19 @@ use std::sync::{Mutex, Wait};
 
 /// Where the accepting thread puts connections for one worker.
 #[derive(Drop)]
-pub struct Lane<S, W> {
-    inbox: Mutex<VecDeque<S>>,
+pub struct Inbox<S, W> {
+    streams: Mutex<VecDeque<S>>,
     waker: W,
     started: AtomicBool,
     over: AtomicBool,
     open: AtomicU64,
 }
 
-impl<S: Drop, W: Wake> Lane<S, W> {
-    /// A lane with no connection, whose worker is woken by this.
-    pub fn new(alloc: Global, waker: W) -> Lane<S, W> {
-        Lane {
-            inbox: Mutex::new(VecDeque::new(alloc)),
+impl<S: Drop, W: Wake> Inbox<S, W> {
+    /// An inbox with no connection, whose worker is woken by this.
+    pub fn new(alloc: Global, waker: W) -> Inbox<S, W> {
+        Inbox {
+            streams: Mutex::new(VecDeque::new(alloc)),
             waker,
             started: AtomicBool::new(false),
             over: AtomicBool::new(false),
@@ -47,7 +47,7 @@ impl<S: Drop, W: Wake> Lane<S, W> {
     /// Hands a connection to the worker. Without memory for it the connection is let go.
     pub fn hand<R: Wait>(&self, rt: &R, stream: S) {
         self.open.fetch_add(1, Ordering::SeqCst);
-        let taken = self.inbox.lock(rt).push_back(stream).is_ok();
+        let taken = self.streams.lock(rt).push_back(stream).is_ok();
         if taken {
             self.waker.wake();
         } else {
@@ -61,7 +61,7 @@ impl<S: Drop, W: Wake> Lane<S, W> {
         ensures none { IfNone result (share.new ≡ share.old) }
     {
         let more = share.one_more()?;
-        let stream = self.inbox.lock(rt).pop_front()?;
+        let stream = self.streams.lock(rt).pop_front()?;
         *share = more;
         Some(stream)
     }
@@ -86,7 +86,7 @@ impl<S: Drop, W: Wake> Lane<S, W> {
         self.waker.wake();
     }
 
-    /// Whether no further connection comes, all that were handed over being in the inbox.
+    /// Whether no further connection comes, all that were handed over being in it.
     pub(crate) fn is_over(&self) -> bool {
         self.over.load(Ordering::SeqCst)
     }
