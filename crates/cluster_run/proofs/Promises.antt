@@ -32,7 +32,7 @@ use Rattle.cluster_run.specs.Playing.{ClusterNext, ClusterPlay, ClusterTurn, by_
 use Rattle.cluster_run.specs.Playing.{cluster_turns_from}
 use Rattle.cluster_run.specs.Meaning.{failure_line, in_group}
 use Rattle.cluster_run.specs.Promises.{AreTrueLines, HoldsAfter, IsTrueIn, IsTrueLine, IsTrueNamed, ScriptsKeepPromises, cluster_at_end}
-use Rattle.cluster_run.specs.Script.{cluster_script_events, cluster_turns, plan_in}
+use Rattle.cluster_run.specs.Script.{cluster_script_events, cluster_script_turns, plan_in}
 use Rattle.cluster_run.specs.declared.fault.ClusterFault.TheVariants.{BadLine}
 use Rattle.cluster_run.proofs.Leading.{Leads, laid, leads-then, led-even, led-group, led-nodes, led-on, none-leads, opened}
 use Rattle.cluster_run.proofs.Meaning.{in_group-below}
@@ -239,7 +239,7 @@ scripts_keep_promises text whole = record {
   layout : IsLayout plan.shape plan.nodes plan.groups
   layout = laid plan named.limits
 
-  leads : Leads (opening_of plan) named.runs_are.d (cluster_turns text)
+  leads : Leads (opening_of plan) named.runs_are.d (cluster_script_turns text)
   leads = named.runs_are.leads
 
   same : leads.events ≡ cluster_script_events text
@@ -248,10 +248,10 @@ scripts_keep_promises text whole = record {
   may : MayAllHappen (opening_of plan) (cluster_script_events text)
   may = subst (MayAllHappen (opening_of plan)) same leads.may
 
-  turns : cluster_turns_from (opening_of plan) (cluster_script_events text) ≡ cluster_turns text
+  turns : cluster_turns_from (opening_of plan) (cluster_script_events text) ≡ cluster_script_turns text
   turns = ap (cluster_turns_from (opening_of plan)) (sym same) ∙ leads.turns_are
 
-  log : (cluster_at_end plan (cluster_script_events text)).groups.log ≡ cluster_log_of (cluster_turns text)
+  log : (cluster_at_end plan (cluster_script_events text)).groups.log ≡ cluster_log_of (cluster_script_turns text)
   log = (clusters_are_runs plan.shape plan.nodes plan.groups (cluster_script_events text) limits layout may).log
       ∙ logged-all (opening_of plan) (cluster_script_events text) ∙ ap cluster_log_of turns
 

@@ -18,7 +18,7 @@ use Rattle.scenario_run.specs.Lines.{lines_of}
 use Rattle.scenario_run.specs.Promises.{ShowsTruth}
 use Rattle.cluster_run.specs.Meaning.{in_group}
 use Rattle.cluster_run.specs.Playing.{ClusterPlay, cluster_log_of, cluster_turns_from, group_world, next_of, opening_of}
-use Rattle.cluster_run.specs.Script.{cluster_script_events, cluster_turns, first_fault, plan_of}
+use Rattle.cluster_run.specs.Script.{cluster_script_events, cluster_script_turns, first_fault, plan_of}
 
 -- the cluster at the end of events
 abbrev pub cluster_at_end : Plan → List ClusterEvent → Cluster
@@ -58,13 +58,13 @@ pub record KeepsPromises (text : List ℕ) : Type 0 where
   pub limits : IsPlan plan
   -- its events may happen, its turns are the cluster's, and its log is what they logged
   pub may : MayAllHappen (opening_of plan) (cluster_script_events text)
-  pub turns : cluster_turns_from (opening_of plan) (cluster_script_events text) ≡ cluster_turns text
-  pub log : (cluster_at_end plan (cluster_script_events text)).groups.log ≡ cluster_log_of (cluster_turns text)
+  pub turns : cluster_turns_from (opening_of plan) (cluster_script_events text) ≡ cluster_script_turns text
+  pub log : (cluster_at_end plan (cluster_script_events text)).groups.log ≡ cluster_log_of (cluster_script_turns text)
   -- so it is after each of the script's events
   pub holds : (n : ℕ) → HoldsAfter plan (take n (cluster_script_events text))
   -- the log is legal, and each entry is of its key's group
-  pub legal : IsClusterLegal plan.shape.k (cluster_log_of (cluster_turns text))
-  pub own : All (IsOwn plan.shape.k plan.groups) (cluster_log_of (cluster_turns text))
+  pub legal : IsClusterLegal plan.shape.k (cluster_log_of (cluster_script_turns text))
+  pub own : All (IsOwn plan.shape.k plan.groups) (cluster_log_of (cluster_script_turns text))
   -- each answered call stands in it once, between its asking and its answering
   pub within : ClusterAnswersWithin plan.shape.k (cluster_turns (opening_of plan) (cluster_script_events text))
   -- what is shown is what the log tells

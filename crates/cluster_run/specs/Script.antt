@@ -13,11 +13,11 @@ abbrev pub plan_in : Option ClusterPlay → Option Plan
 plan_in play = option_map (λ p. record { groups = length p.cluster.groups.worlds; nodes = length p.cluster.failed; shape = p.cluster.groups.shape }) play
 
 -- a script's turns, its events, its transcript, its first fault, and the groups that it names
-abbrev pub cluster_turns : List ℕ → List ClusterTurn
-cluster_turns text = turns_of_lines next_of None (lines_of text)
+abbrev pub cluster_script_turns : List ℕ → List ClusterTurn
+cluster_script_turns text = turns_of_lines next_of None (lines_of text)
 
 abbrev pub cluster_script_events : List ℕ → List ClusterEvent
-cluster_script_events text = map (λ turn. turn.event) (cluster_turns text)
+cluster_script_events text = map (λ turn. turn.event) (cluster_script_turns text)
 
 abbrev pub transcript : List ℕ → List ℕ
 transcript text = text_in next_of None (lines_of text)
