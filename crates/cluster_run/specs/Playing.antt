@@ -64,7 +64,8 @@ turn_text turn = cluster_answer_text turn.answer ++ 10 ∷ cluster_entries_text 
 
 -- an event is made
 abbrev pub by_event : ClusterPlay → ClusterEvent → ClusterNext
-by_event p e = Goes (Some (record { cluster = (cluster_step p.cluster e).cluster; moment = p.moment })) (cluster_turn p.cluster e ∷ []) (turn_text (cluster_turn p.cluster e))
+by_event p e = Goes (Some (record { cluster = (cluster_step p.cluster e).cluster; moment = p.moment }))
+    (cluster_turn p.cluster e ∷ []) (turn_text (cluster_turn p.cluster e))
 
 -- one of the groups
 abbrev pub group_world : ClusterPlay → ℕ → World
@@ -90,7 +91,8 @@ abbrev pub drained_text : List ClusterTurn → List ℕ
 drained_text turns = cluster_entries_text (cluster_log_of turns) ++ (codes "drained " ++ (decimal (length turns) ++ codes "\n"))
 
 abbrev pub by_drain : ClusterPlay → List ClusterEvent → ClusterNext
-by_drain p es = Goes (Some (record { cluster = cluster_after p.cluster es; moment = p.moment })) (cluster_turns_from p.cluster es) (drained_text (cluster_turns_from p.cluster es))
+by_drain p es = Goes (Some (record { cluster = cluster_after p.cluster es; moment = p.moment }))
+    (cluster_turns_from p.cluster es) (drained_text (cluster_turns_from p.cluster es))
 
 abbrev pub by_show : ClusterPlay → ℕ → ProcessId → Run → ClusterNext
 by_show p j from run = Goes (Some p) [] (look (group_world p j) from (held (group_world p j) from run) ++ 10 ∷ [])

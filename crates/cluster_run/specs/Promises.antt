@@ -49,7 +49,8 @@ AreTrueLines play (line ∷ lines) = elim (next_of play line) [
 -- after events each group makes a run of its own, with the whole headline, and while at most m nodes have failed none is down
 pub record HoldsAfter (plan : Plan) (events : List ClusterEvent) : Type 0 where
   pub runs : AreRuns plan.shape plan.groups (cluster_at_end plan events).groups (cluster_turns (opening_of plan) events)
-  pub borne : count_dead_words (cluster_at_end plan events).failed ≤ plan.shape.m → (j : ℕ) → j < plan.groups → ¬ (IsDown (world_in (cluster_at_end plan events).groups j))
+  pub borne : count_dead_words (cluster_at_end plan events).failed ≤ plan.shape.m → (j : ℕ) → j < plan.groups
+      → ¬ (IsDown (world_in (cluster_at_end plan events).groups j))
 
 -- a script's cluster keeps its promises
 pub record KeepsPromises (text : List ℕ) : Type 0 where

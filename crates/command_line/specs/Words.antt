@@ -7,7 +7,8 @@ use Rattle.clap.specs.Walk.{is_empty}
 use Rattle.clap.specs.Words.{App, Row, Text, fault_of, first_of, matches_of, one_of}
 use Rattle.command_line.specs.Parsers.{bare, most_32, most_64, named_app, number_app, session_app}
 use Rattle.command_line.specs.declared.command.Command.{Command}
-use Rattle.command_line.specs.declared.command.Command.TheVariants.{Carry, Frames, Make, Member, Play, PlayGroups, PlayRegroup, Serve, Session, Trial, Verify, Watch}
+use Rattle.command_line.specs.declared.command.Command.TheVariants.{Carry, Frames, Make, Member, Play, PlayGroups}
+use Rattle.command_line.specs.declared.command.Command.TheVariants.{PlayRegroup, Serve, Session, Trial, Verify, Watch}
 
 -- the number that a text writes in decimal digits, behind a plus or not
 abbrev pub number_up_to : ℕ → Text → Option ℕ

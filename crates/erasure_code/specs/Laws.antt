@@ -18,5 +18,6 @@ LostAreDecoded = (k m n : ℕ) (lost : List ℕ) (rows known : List Column) (col
 
 -- no others agree
 abbrev pub OnlyOneAgrees : Type 0
-OnlyOneAgrees = (k m n : ℕ) (lost : List ℕ) (rows known : List Column) (columns others : List (List ℕ)) → CanDecode k m lost rows known → AreOfBytes columns → AreOfBytes others
+OnlyOneAgrees = (k m n : ℕ) (lost : List ℕ) (rows known : List Column) (columns others : List (List ℕ))
+    → CanDecode k m lost rows known → AreOfBytes columns → AreOfBytes others
     → Agree k m n rows known columns → Agree k m n rows known others → others ≡ columns

@@ -27,4 +27,5 @@ sum_at (d ∷ ds) a = bit_xor (slice_index (replicate d.at 0 ++ d.bytes) a) (sum
 
 -- a space of zeros to which differences within it were added is at each address their sum
 abbrev pub SpacesAreSums : Type 0
-SpacesAreSums = (n : ℕ) (ds : List Difference) → All (λ d. d.at + length d.bytes ≤ n) ds → (a : ℕ) → a < n → slice_index (all_added ds (replicate n 0)) a ≡ sum_at ds a
+SpacesAreSums = (n : ℕ) (ds : List Difference) → All (λ d. d.at + length d.bytes ≤ n) ds → (a : ℕ) → a < n
+    → slice_index (all_added ds (replicate n 0)) a ≡ sum_at ds a

@@ -9,7 +9,8 @@ use Rattle.front_end.specs.Answers.{Stand, AreAnswered}
 use Rattle.front_end.specs.Calls.{Ways}
 
 -- a connection that goes on: its reader was fed what was read, and the requests are answered
-pub record ConnectionGoesOn {C : Type 0} (ways : Ways C) (told : Option ℕ) (input input_now : Input) (before now : Stand C) (kept : ReaderState) (count : ℕ) : Type 0 where
+pub record ConnectionGoesOn {C : Type 0} (ways : Ways C) (told : Option ℕ) (input input_now : Input)
+    (before now : Stand C) (kept : ReaderState) (count : ℕ) : Type 0 where
   pub read : List ℕ
   pub consumed : Takes input input_now read
   pub requests : List Request

@@ -3,7 +3,8 @@ use Rattle.std.specs.Prelude.{ℕ, ◌≡◌, ◌<◌, ◌^◌, Bool, List, [], 
 use Rattle.group_types.specs.Dimensions.{Dimensions}
 use Rattle.group_types.specs.Shape.{IsShape}
 use Rattle.group_calls.specs.declared.event.Event.{Event}
-use Rattle.group_layout.specs.Cluster.{Cluster, ClusterStep, GroupTurn, Groups, IsLayout, MayHappen, Move, all_moved, failed_nodes_after, logged_in, moves_of, opening_cluster, turns_made, world_in}
+use Rattle.group_layout.specs.Cluster.{Cluster, ClusterStep, GroupTurn, Groups, IsLayout, MayHappen, Move, all_moved}
+use Rattle.group_layout.specs.Cluster.{failed_nodes_after, logged_in, moves_of, opening_cluster, turns_made, world_in}
 use Rattle.group_layout.specs.declared.event.ClusterEvent.{ClusterEvent}
 use Rattle.group_layout.specs.declared.event.ClusterEvent.TheVariants.{FailNode, InGroup}
 

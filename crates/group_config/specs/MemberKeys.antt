@@ -1,5 +1,6 @@
 -- What each key of a member's settings may be, of the members of a TOML table.
-use Rattle.std.specs.Prelude.{ℕ, ◌==◌, nat_le, nat_lt, Bool, false, ◌&&◌, ◌||◌, List, [], ◌∷◌, length, codes, Option, Some, None, option_and_then, if◌then◌else◌}
+use Rattle.std.specs.Prelude.{ℕ, ◌==◌, nat_le, nat_lt, Bool, false, ◌&&◌, ◌||◌, List, [], ◌∷◌, length, codes, Option}
+use Rattle.std.specs.Prelude.{Some, None, option_and_then, if◌then◌else◌}
 use Rattle.std.specs.Char.{is_ascii_alphanumeric}
 use Rattle.std.specs.List.{list_all}
 use Rattle.std.specs.Result.{result_ok}
@@ -53,4 +54,5 @@ groups_in ms = or_else 1 (number 1 16) (get_member (codes "groups") ms)
 
 -- the keys of a member's settings
 abbrev pub settings_keys : List (List ℕ)
-settings_keys = codes "group" ∷ codes "k" ∷ codes "m" ∷ codes "blocks" ∷ codes "block" ∷ codes "members" ∷ codes "name" ∷ codes "order" ∷ codes "patience" ∷ codes "one_word" ∷ codes "groups" ∷ codes "base" ∷ codes "watch" ∷ []
+settings_keys = codes "group" ∷ codes "k" ∷ codes "m" ∷ codes "blocks" ∷ codes "block" ∷ codes "members" ∷ codes "name"
+    ∷ codes "order" ∷ codes "patience" ∷ codes "one_word" ∷ codes "groups" ∷ codes "base" ∷ codes "watch" ∷ []

@@ -1,5 +1,6 @@
 -- What a text says of how a member is watched: the first of its checks that fails, in their order, or the settings.
-use Rattle.std.specs.Prelude.{ℕ, ◌≡◌, ◌≤◌, ◌⊎◌, nat_le, Bool, true, ◌&&◌, List, [], ◌∷◌, length, codes, if◌then◌else◌, Option, Some, None, option_and_then, option_map, Result, Ok, Err, ⊤}
+use Rattle.std.specs.Prelude.{ℕ, ◌≡◌, ◌≤◌, ◌⊎◌, nat_le, Bool, true, ◌&&◌, List, [], ◌∷◌, length, codes, if◌then◌else◌}
+use Rattle.std.specs.Prelude.{Option, Some, None, option_and_then, option_map, Result, Ok, Err, ⊤}
 use Rattle.std.specs.Option.{is_some}
 use Rattle.toml.specs.Data.{Data, string, Items, no_items, item, Members, as_array, as_table, get_member}
 use Rattle.group_config.specs.Keys.{all_among, number, only, or_else, short_text}

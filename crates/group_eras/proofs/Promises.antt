@@ -6,21 +6,21 @@ use Rattle.group_eras.specs.Carry.{read_era, reading, setting}
 use Rattle.group_run.specs.World.{opening}
 use Rattle.group_eras.specs.Eras.{EraEntry, Eras, era_step, eras_after, first_era, next_era}
 use Rattle.group_eras.specs.Moments.{ItemsAreGot, ReadsMayCome, SetsMayCome}
-use Rattle.group_eras.specs.Promise.{Begins, Carries, CarriesKeep, Deed, ErasAreRuns, IsLed, LogsOnlyGrow, Makes, MayAllBeDone, MayBeDone, all_done, done}
+use Rattle.group_eras.specs.Promise.{Begins, Carries, CarriesKeep, EraMove, ErasAreRuns, IsLed, LogsOnlyGrow, Makes, MayAllBeDone, MayBeDone, all_done, done}
 use Rattle.group_eras.proofs.Carrying.{all-got, begun-stands, carried-stands, has-carried, run-read, run-set}
 use Rattle.group_eras.proofs.Standing.{Stands, has-promise, stands-first, stands-next}
 
-pub deed-stands : (e : Eras) (deed : Deed) → Stands e → MayBeDone e deed → Stands (done e deed)
-deed-stands e (Makes event) stands may = stands-next e stands event may.may
-deed-stands e (Carries s) stands may = carried-stands e stands may.1.rest s may.0 may.1
-deed-stands e (Begins many) stands may = begun-stands e stands may many
+pub move-stands : (e : Eras) (move : EraMove) → Stands e → MayBeDone e move → Stands (done e move)
+move-stands e (Makes event) stands may = stands-next e stands event may.may
+move-stands e (Carries s) stands may = carried-stands e stands may.1.rest s may.0 may.1
+move-stands e (Begins many) stands may = begun-stands e stands may many
 
-pub all-stand : (e : Eras) (deeds : List Deed) → Stands e → MayAllBeDone e deeds → Stands (all_done e deeds)
+pub all-stand : (e : Eras) (moves : List EraMove) → Stands e → MayAllBeDone e moves → Stands (all_done e moves)
 all-stand e [] stands may = stands
-all-stand e (deed ∷ deeds) stands may = all-stand (done e deed) deeds (deed-stands e deed stands may.0) may.1
+all-stand e (move ∷ moves) stands may = all-stand (done e move) moves (move-stands e move stands may.0) may.1
 
 pub led-stands : (e : Eras) → IsLed e → Stands e
-led-stands e led = subst Stands (sym led.is) (all-stand (first_era (opening led.s)) led.deeds (stands-first led.s led.limits) led.may)
+led-stands e led = subst Stands (sym led.is) (all-stand (first_era (opening led.s)) led.moves (stands-first led.s led.limits) led.may)
 
 pub eras_are_runs : ErasAreRuns
 eras_are_runs e led = has-promise e (led-stands e led)

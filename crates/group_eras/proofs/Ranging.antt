@@ -36,7 +36,7 @@ use Rattle.group_eras.specs.Carry.{Parcel, begun, carried, expiry_of, reading, s
 use Rattle.group_eras.specs.Eras.{Eras, era_step, eras_after, first_era}
 use Rattle.group_eras.specs.Items.{loads}
 use Rattle.group_eras.specs.Moments.{IsLowUntil, UntilsAreLow}
-use Rattle.group_eras.specs.Promise.{Begins, Carries, Deed, Makes, MayAllBeDone, MayBeDone, all_done, done}
+use Rattle.group_eras.specs.Promise.{Begins, Carries, EraMove, Makes, MayAllBeDone, MayBeDone, all_done, done}
 use Rattle.group_eras.specs.Range.{HasLowExpiry, IsInRange, IsLow}
 use Rattle.group_eras.specs.Refusal.{CanCarry, IsAtRest, IsSuccessor}
 use Rattle.group_eras.specs.Told.{Bases, event_in, with_cas}
@@ -47,7 +47,7 @@ use Rattle.group_eras.proofs.Finding as finding
 use Rattle.group_eras.proofs.Following.{IsSame, run-first}
 use Rattle.group_eras.proofs.Making.{may-in}
 use Rattle.group_eras.proofs.Naming.{logged-turn}
-use Rattle.group_eras.proofs.Promises.{deed-stands}
+use Rattle.group_eras.proofs.Promises.{move-stands}
 use Rattle.group_eras.proofs.Readings.{IsLoad, are-loads, parcel_for}
 use Rattle.group_eras.proofs.Resting.{IsGet, IsStill, Rests}
 use Rattle.group_eras.proofs.SetAll.{IsPlain}
@@ -318,14 +318,14 @@ module _ (e : Eras) (stands : Stands e) (ranged : Ranged e) (rest : IsAtRest e.w
             (carrying.all-set e stands rest s successor can).plain;
       }
 
-deed-ranged : (e : Eras) (deed : Deed) → Stands e → Ranged e → MayBeDone e deed → Ranged (done e deed)
-deed-ranged e (Makes event) stands ranged may = ranged-next e ranged event may.may (event-low event may.range)
-deed-ranged e (Carries s) stands ranged may = carried-ranged e stands ranged may.1.rest s may.0 may.1
-deed-ranged e (Begins many) stands ranged may = begun-ranged e stands ranged may many
+move-ranged : (e : Eras) (move : EraMove) → Stands e → Ranged e → MayBeDone e move → Ranged (done e move)
+move-ranged e (Makes event) stands ranged may = ranged-next e ranged event may.may (event-low event may.range)
+move-ranged e (Carries s) stands ranged may = carried-ranged e stands ranged may.1.rest s may.0 may.1
+move-ranged e (Begins many) stands ranged may = begun-ranged e stands ranged may many
 
-all-ranged : (e : Eras) (deeds : List Deed) → Stands e → Ranged e → MayAllBeDone e deeds → Ranged (all_done e deeds)
+all-ranged : (e : Eras) (moves : List EraMove) → Stands e → Ranged e → MayAllBeDone e moves → Ranged (all_done e moves)
 all-ranged e [] stands ranged may = ranged
-all-ranged e (deed ∷ deeds) stands ranged may = all-ranged (done e deed) deeds (deed-stands e deed stands may.0) (deed-ranged e deed stands ranged may.0) may.1
+all-ranged e (move ∷ moves) stands ranged may = all-ranged (done e move) moves (move-stands e move stands may.0) (move-ranged e move stands ranged may.0) may.1
 
 first-ranged : (s : Dimensions) → IsShape s → Ranged (first_era (opening s))
 first-ranged s shaped = record { events = []; run = (shaped, tt); stands = refl; low = tt }
@@ -333,5 +333,5 @@ first-ranged s shaped = record { events = []; run = (shaped, tt); stands = refl;
 pub untils_are_low : UntilsAreLow
 untils_are_low e led rest =
     low-loads e (subst Ranged (sym led.is)
-    (all-ranged (first_era (opening led.s)) led.deeds (stands-first led.s led.limits) (first-ranged led.s led.limits)
+    (all-ranged (first_era (opening led.s)) led.moves (stands-first led.s led.limits) (first-ranged led.s led.limits)
     led.may)) rest

@@ -32,7 +32,8 @@ abbrev pub ReadsMayCome : Type 0
 ReadsMayCome = (e : Eras) → IsLed e → IsAtRest e.world → IsRunFrom e.world (reading e.world).events
 
 abbrev pub SetsMayCome : Type 0
-SetsMayCome = (e : Eras) (s : Dimensions) → IsLed e → IsSuccessor e.world s → CanCarry e.world s → IsRunFrom (opening s) (setting (opening s) (reading e.world).parcels)
+SetsMayCome = (e : Eras) (s : Dimensions) → IsLed e → IsSuccessor e.world s → CanCarry e.world s
+    → IsRunFrom (opening s) (setting (opening s) (reading e.world).parcels)
 
 -- an item's until is one that an exptime of 64 bits can ask for
 abbrev pub IsLowUntil : Option ℕ → Type 0

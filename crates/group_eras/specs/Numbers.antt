@@ -33,10 +33,12 @@ OthersTellNone = (e : Eras) (event : Event) → IsLed e → MayMake e event → 
 
 -- the reply to an ask, as it is told, is that of its entry in the log over all eras
 abbrev pub RepliesAreLogged : Type 0
-RepliesAreLogged = (e : Eras) (caller : ℕ) (op : Asked) (p : ProcessId) (r : Reply) → IsLed e → MayMake e (Ask caller op p) → (era_step e (Ask caller op p)).answer ≡ says.Reply r
+RepliesAreLogged = (e : Eras) (caller : ℕ) (op : Asked) (p : ProcessId) (r : Reply) → IsLed e
+    → MayMake e (Ask caller op p) → (era_step e (Ask caller op p)).answer ≡ says.Reply r
     → Contains (era_step e (Ask caller op p)).logged (e.era, call_entry (next_name e.world caller) op r)
 
 -- a ticket's number, as it is told, is above those of all updates that the log over all eras has of its partition
 abbrev pub TicketsAreNew : Type 0
-TicketsAreNew = (e : Eras) (caller : ℕ) (op : Asked) (p : ProcessId) (n : ℕ) → IsLed e → MayMake e (Ask caller op p) → (era_step e (Ask caller op p)).answer ≡ says.Ticket n
+TicketsAreNew = (e : Eras) (caller : ℕ) (op : Asked) (p : ProcessId) (n : ℕ) → IsLed e → MayMake e (Ask caller op p)
+    → (era_step e (Ask caller op p)).answer ≡ says.Ticket n
     → count_of (table_over e) (key_of op.act) < n

@@ -28,29 +28,29 @@ use Rattle.group_eras.specs.Told.{Bases, based_reply, event_in, op_for_era}
 
 -- what happens over eras: an event, the carrying of all items into a fresh group, or the beginning of one that want of
 -- memory cut short after so many events
-pub data Deed : Type 0 where
-  Makes : Event → Deed
-  Carries : Dimensions → Deed
-  Begins : ℕ → Deed
+pub data EraMove : Type 0 where
+  Makes : Event → EraMove
+  Carries : Dimensions → EraMove
+  Begins : ℕ → EraMove
 
-abbrev pub done : Eras → Deed → Eras
+abbrev pub done : Eras → EraMove → Eras
 done e (Makes event) = (era_step e event).eras
 done e (Carries s) = carried e s
 done e (Begins many) = begun e many
 
-abbrev pub all_done : Eras → List Deed → Eras
+abbrev pub all_done : Eras → List EraMove → Eras
 all_done e [] = e
-all_done e (deed ∷ deeds) = all_done (done e deed) deeds
+all_done e (move ∷ moves) = all_done (done e move) moves
 
 -- what may happen
-abbrev pub MayBeDone : Eras → Deed → Type 0
+abbrev pub MayBeDone : Eras → EraMove → Type 0
 MayBeDone e (Makes event) = MayMake e event
 MayBeDone e (Carries s) = IsSuccessor e.world s × CanCarry e.world s
 MayBeDone e (Begins many) = IsAtRest e.world
 
-abbrev pub MayAllBeDone : Eras → List Deed → Type 0
+abbrev pub MayAllBeDone : Eras → List EraMove → Type 0
 MayAllBeDone e [] = Unit {0}
-MayAllBeDone e (deed ∷ deeds) = MayBeDone e deed × MayAllBeDone (done e deed) deeds
+MayAllBeDone e (move ∷ moves) = MayBeDone e move × MayAllBeDone (done e move) moves
 
 -- the log over all eras as one log
 abbrev pub one_log : Eras → List Entry
@@ -138,13 +138,13 @@ pub record HasPromise (e : Eras) : Type 0 where
   pub era : IsEra e
   pub legal : IsLegal e.world.shape.k (one_log e)
 
--- eras to which deeds led, from a group in which no event was made
+-- eras to which moves led, from a group in which no event was made
 pub record IsLed (e : Eras) : Type 0 where
   pub s : Dimensions
   pub limits : IsShape s
-  pub deeds : List Deed
-  pub may : MayAllBeDone (first_era (opening s)) deeds
-  pub is : e ≡ all_done (first_era (opening s)) deeds
+  pub moves : List EraMove
+  pub may : MayAllBeDone (first_era (opening s)) moves
+  pub is : e ≡ all_done (first_era (opening s)) moves
 
 -- so it is whatever happens
 abbrev pub ErasAreRuns : Type 0
@@ -156,4 +156,4 @@ CarriesKeep = (e : Eras) (s : Dimensions) → IsLed e → IsSuccessor e.world s 
 
 -- and no entry of the log is taken back
 abbrev pub LogsOnlyGrow : Type 0
-LogsOnlyGrow = (e : Eras) (deed : Deed) → (more : List EraEntry) × ((done e deed).log ≡ e.log ++ more)
+LogsOnlyGrow = (e : Eras) (move : EraMove) → (more : List EraEntry) × ((done e move).log ≡ e.log ++ more)

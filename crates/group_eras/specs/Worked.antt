@@ -11,7 +11,7 @@ use Rattle.group_calls.specs.declared.event.Event.TheVariants.{Ask, Deliver, Fai
 use Rattle.group_run.specs.World.{opening}
 use Rattle.law_causes.specs.Worked.{small_shape}
 use Rattle.group_eras.specs.Eras.{EraEntry, Eras, first_era}
-use Rattle.group_eras.specs.Promise.{Carries, Deed, Makes, MayAllBeDone, all_done}
+use Rattle.group_eras.specs.Promise.{Carries, EraMove, Makes, MayAllBeDone, all_done}
 use Rattle.group_eras.specs.Refusal.{CanCarry}
 
 abbrev pub next_shape : Dimensions
@@ -28,11 +28,12 @@ small_get = record { moment = 0; act = Get (codes "a") }
 abbrev pub small_cas : Asked
 small_cas = record { moment = 0; act = Cas (codes "a") 0 (pos 0) 1 (66 ∷ []) }
 
-abbrev pub before_carry : List Deed
-before_carry = Makes (Ask 0 small_set (DataNode 0)) ∷ Makes (Deliver (DataNode 0) (ParityNode 0)) ∷ Makes (Deliver (ParityNode 0) (DataNode 0)) ∷ Makes (Fail (DataNode 0) 0)
+abbrev pub before_carry : List EraMove
+before_carry = Makes (Ask 0 small_set (DataNode 0)) ∷ Makes (Deliver (DataNode 0) (ParityNode 0))
+    ∷ Makes (Deliver (ParityNode 0) (DataNode 0)) ∷ Makes (Fail (DataNode 0) 0)
     ∷ Makes (Deliver (DataNode 0) (ParityNode 0)) ∷ []
 
-abbrev pub with_carry : List Deed
+abbrev pub with_carry : List EraMove
 with_carry = Carries next_shape ∷ Makes (Ask 0 small_cas (DataNode 0)) ∷ Makes (Ask 0 small_get (DataNode 0)) ∷ []
 
 abbrev pub small_eras : Eras

@@ -11,7 +11,9 @@ use Rattle.group_calls.specs.declared.event.Event.{Event}
 use Rattle.group_run.specs.Headline.{Headline, IsRun}
 use Rattle.group_run.specs.Meaning.{IsDown}
 use Rattle.group_run.specs.World.{after, turns_of}
-use Rattle.group_layout.specs.Cluster.{ClusterEntry, GroupTurn, Groups, IsLayout, MayAllHappen, MayAllMove, Move, all_moved, cluster_after, cluster_turns, logged_in, opening_cluster, opening_groups, turns_made, world_in}
+use Rattle.group_layout.specs.Cluster.{ClusterEntry, GroupTurn, Groups, IsLayout, MayAllHappen, MayAllMove, Move}
+use Rattle.group_layout.specs.Cluster.{all_moved, cluster_after, cluster_turns, logged_in, opening_cluster}
+use Rattle.group_layout.specs.Cluster.{opening_groups, turns_made, world_in}
 use Rattle.group_layout.specs.Layout.{group_of}
 use Rattle.group_layout.specs.Legal.{IsClusterLegal}
 use Rattle.group_layout.specs.Within.{ClusterAnswersWithin, of_group, turns_in}

@@ -45,16 +45,21 @@ pub record IsLoggedSinceIn (turns : List GroupTurn) (i j : ℕ) (name : CallName
 -- answered within its time: each answered call stands in the cluster's log once, between its asking and its answering
 pub record ClusterAnswersWithin (k : ℕ) (turns : List GroupTurn) : Type 0 where
   -- no two entries have one name
-  pub once : (i j : ℕ) (a b : ClusterEntry) → i < j → slice_get (logged_in turns) i ≡ Some a → slice_get (logged_in turns) j ≡ Some b → a.0 ≡ b.0 → name_of a.1 ≢ name_of b.1
+  pub once : (i j : ℕ) (a b : ClusterEntry) → i < j → slice_get (logged_in turns) i ≡ Some a
+      → slice_get (logged_in turns) j ≡ Some b → a.0 ≡ b.0 → name_of a.1 ≢ name_of b.1
   -- each entry has the op of the ask of its name, which is not later than the event that logged it
   pub asked : (i : ℕ) (t : GroupTurn) (entry : Entry) → slice_get turns i ≡ Some t → Contains t.turn.logged entry
       → (j : ℕ) × (ask : GroupTurn) × (j ≤ i) × (ask.group ≡ t.group) × IsAskIn turns j ask (name_of entry) entry.op
   -- a reply to an ask is the one of its entry, which this event logged
-  pub at_once : (i : ℕ) (t : GroupTurn) (name : CallName) (op : Asked) (reply : Reply) → IsAskIn turns i t name op → t.turn.answer ≡ answered.Reply reply → Contains t.turn.logged (call_entry name op reply)
+  pub at_once : (i : ℕ) (t : GroupTurn) (name : CallName) (op : Asked) (reply : Reply) → IsAskIn turns i t name op
+      → t.turn.answer ≡ answered.Reply reply → Contains t.turn.logged (call_entry name op reply)
   -- a reply to a collect or a trace is the one of its entry
-  pub later : (i : ℕ) (t : GroupTurn) (name : CallName) (reply : Reply) → slice_get turns i ≡ Some t → Fetches t.turn.event name → t.turn.answer ≡ answered.Reply reply → IsLoggedSinceIn turns i t.group name reply
+  pub later : (i : ℕ) (t : GroupTurn) (name : CallName) (reply : Reply) → slice_get turns i ≡ Some t
+      → Fetches t.turn.event name → t.turn.answer ≡ answered.Reply reply → IsLoggedSinceIn turns i t.group name reply
   -- a call that got neither a reply nor a ticket is in no entry
-  pub refused : (i : ℕ) (t : GroupTurn) (name : CallName) (op : Asked) (entry : Entry) → IsAskIn turns i t name op → ¬ (IsTaken t.turn.answer) → Contains (logged_in turns) (t.group, entry) → name_of entry ≢ name
+  pub refused : (i : ℕ) (t : GroupTurn) (name : CallName) (op : Asked) (entry : Entry) → IsAskIn turns i t name op
+      → ¬ (IsTaken t.turn.answer) → Contains (logged_in turns) (t.group, entry) → name_of entry ≢ name
   -- a call that is gone from a partition of its group is in no accepted entry of it
-  pub gone : (i : ℕ) (t : GroupTurn) (name : CallName) (d : ℕ) (entry : Entry) → slice_get turns i ≡ Some t → Traces t.turn.event name d → t.turn.answer ≡ answered.Gone → Contains (logged_in turns) (t.group, entry)
+  pub gone : (i : ℕ) (t : GroupTurn) (name : CallName) (d : ℕ) (entry : Entry) → slice_get turns i ≡ Some t
+      → Traces t.turn.event name d → t.turn.answer ≡ answered.Gone → Contains (logged_in turns) (t.group, entry)
       → accepts entry.reply ≡ true → home_of (key_of entry.op.act) k ≡ d → name_of entry ≢ name

@@ -1,7 +1,9 @@
 -- What comes of the command that the words say.
 use Rattle.std.specs.Prelude.{◌≡◌, ℕ, List, Option, Some, None, ⊤}
 use Rattle.command_line.specs.declared.command.Command.{Command}
-use Rattle.command_line.specs.declared.command.Command.TheVariants.{Carry, Frames, Member, Play, PlayGroups, PlayRegroup, Make, Serve, Session, Trial, Verify, Watch}
+use Rattle.command_line.specs.declared.command.Command.TheVariants.{Carry, Frames, Member, Play, PlayGroups}
+use Rattle.command_line.specs.declared.command.Command.TheVariants.{PlayRegroup, Make, Serve, Session, Trial, Verify}
+use Rattle.command_line.specs.declared.command.Command.TheVariants.{Watch}
 use Rattle.cluster_play.specs.Language.{cluster_scripts}
 use Rattle.regroup_play.specs.Language.{era_scripts}
 use Rattle.group_server.specs.Service.{Tally}
@@ -28,8 +30,10 @@ module _ {L : Type 0} (listened : L → List ℕ → L → Type 0) (tells : L �
   HasCarriedOut (Some PlayRegroup) moment before now status = IsPlayed era_scripts before now status
   HasCarriedOut (Some Verify) moment before now status = IsTranscriptJudged before now status
   HasCarriedOut (Some (Make n)) moment before now status = IsTextWritten Done (script_text n) before.held now.held before.writes now.writes status
-  HasCarriedOut (Some (Trial n)) moment before now status = IsTextWritten (status_for (script_text n)) (trial_text n) before.held now.held before.writes now.writes status
-  HasCarriedOut (Some (Session k m blocks block)) moment before now status = IsSession (record { k = k; m = m; blocks = blocks; block = block }) moment before now status
+  HasCarriedOut (Some (Trial n)) moment before now status = IsTextWritten (status_for (script_text n)) (trial_text n)
+      before.held now.held before.writes now.writes status
+  HasCarriedOut (Some (Session k m blocks block)) moment before now status =
+      IsSession (record { k = k; m = m; blocks = blocks; block = block }) moment before now status
   HasCarriedOut (Some Serve) moment before now status = IsGroupServed listened tells l l_now before now status
   HasCarriedOut (Some (Member name)) moment before now status = ⊤
   HasCarriedOut (Some (Watch name)) moment before now status = ⊤

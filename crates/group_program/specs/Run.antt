@@ -43,8 +43,10 @@ module _ {S K L M T : Type 0} (streams : S → K → Outside) (listened : L → 
   -- what comes of a command, which is none where the words say none: what a command promises where all was done follows from `ran`
   pub record HasRunCommand (command : Option Command) (status : Status) : Type 0 where
     pub ran : HasCarriedOut listened tells e.port e_now.port command (moment e.clock) outside_before outside_now status ⊎ HasNotBegun status
-    pub member : (name : Option (List ℕ)) → command ≡ Some (Member name) → IsMember runs e.machine e_now.machine name outside_before outside_now status ⊎ HasNotRun status
-    pub watch : (name : Option (List ℕ)) → command ≡ Some (Watch name) → IsWatched watches e.machine e_now.machine name outside_before outside_now status ⊎ HasNotRun status
+    pub member : (name : Option (List ℕ)) → command ≡ Some (Member name)
+        → IsMember runs e.machine e_now.machine name outside_before outside_now status ⊎ HasNotRun status
+    pub watch : (name : Option (List ℕ)) → command ≡ Some (Watch name) → IsWatched watches e.machine e_now.machine name
+        outside_before outside_now status ⊎ HasNotRun status
     pub carry : command ≡ Some Carry → IsCarry carries e.machine e_now.machine outside_before outside_now status ⊎ HasNotRun status
     pub bad_words : status ≡ BadWords → command ≡ None
     pub read : status ≡ ReadFault → Rose outside_before.reads outside_now.reads

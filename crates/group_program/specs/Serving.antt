@@ -19,7 +19,8 @@ status_of (Err fault.AcceptFault) = AcceptFault
 status_of (Err fault.Want) = Want
 
 -- a group was served by the settings that were read, and how that ended was told
-pub record IsGroupServed {L : Type 0} (listened : L → List ℕ → L → Type 0) (tells : L → Tally) (l l_now : L) (before now : Outside) (status : Status) : Type 0 where
+pub record IsGroupServed {L : Type 0} (listened : L → List ℕ → L → Type 0) (tells : L → Tally) (l l_now : L)
+    (before now : Outside) (status : Status) : Type 0 where
   pub end : Result ℕ ServiceFault
   pub middle : Outside
   pub served : HasServedGroup listened tells before.input middle.input before.held middle.held l l_now end

@@ -1,4 +1,4 @@
--- A carry, and the beginning of one, as deeds that lead on.
+-- A carry, and the beginning of one, as moves that lead on.
 use Rattle.std.proofs.Common.{◌≡◌, ℕ, zero, suc, ◌+◌, ◌<◌, ◌≤◌, ◌^◌, List, [], ◌∷◌, ◌++◌, length, take, sym, ap, subst, ◌∙◌, length-append, arith}
 use Rattle.std.specs.Prelude.{All}
 use Rattle.std.proofs.lemmas.List.Elements.{All-nil, All-weaker}
@@ -16,7 +16,7 @@ use Rattle.group_eras.specs.Carry.{IsBegun, begun, carried, reading, setting}
 use Rattle.group_eras.specs.Eras.{Eras}
 use Rattle.group_eras.specs.Items.{loads}
 use Rattle.group_eras.specs.Promise.{HasCarried, IsLed}
-use Rattle.group_eras.specs.Promise.Deed.{Begins, Carries}
+use Rattle.group_eras.specs.Promise.EraMove.{Begins, Carries}
 use Rattle.group_eras.specs.Refusal.{CanCarry, IsAtRest, IsSuccessor}
 use Rattle.group_eras.specs.Told.{Bases}
 use Rattle.group_eras.proofs.Counting.{counts_are_low, events-are}

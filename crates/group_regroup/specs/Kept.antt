@@ -1,5 +1,6 @@
 -- What a group over eras keeps, and the eras that it stands for.
-use Rattle.std.specs.Prelude.{ℕ, suc, ◌<◌, ◌≤◌, ◌≡◌, ◌==◌, nat_lt, nat_le, Bool, false, ◌&&◌, List, [], ◌∷◌, ◌++◌, length, map, All, Option, Some, None, if◌then◌else◌}
+use Rattle.std.specs.Prelude.{ℕ, suc, ◌<◌, ◌≤◌, ◌≡◌, ◌==◌, nat_lt, nat_le, Bool, false, ◌&&◌, List, [], ◌∷◌, ◌++◌}
+use Rattle.std.specs.Prelude.{length, map, All, Option, Some, None, if◌then◌else◌}
 use Rattle.std.specs.Option.{unwrap_or}
 use Rattle.group_types.specs.Hash.{home_of}
 use Rattle.group_types.specs.Lists.{at}
@@ -82,7 +83,7 @@ abbrev pub entries_from : Bases → ℕ → List Lowered → ℕ → List Entry 
 entries_from bases k lowered place [] = []
 entries_from bases k lowered place (x ∷ xs) = told_at bases k lowered place x ∷ entries_from bases k lowered (suc place) xs
 
--- what is kept stands for eras to which deeds led
+-- what is kept stands for eras to which moves led
 pub record AreLed (w : World) (bases : Bases) (past : List (List Entry)) (lowered : List Lowered) : Type 0 where
   pub kept : KeptFitsWorld w bases lowered
   pub led : IsLed (eras_of w bases past lowered)

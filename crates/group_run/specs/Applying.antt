@@ -1,5 +1,6 @@
 -- What a step of a process makes, and how a process applies updates.
-use Rattle.std.specs.Prelude.{ℕ, suc, ◌-◌, ◌*◌, nat_le, Bool, true, false, List, [], ◌∷◌, ◌++◌, length, take, drop, map, Option, None, is_some, option_map, if◌then◌else◌}
+use Rattle.std.specs.Prelude.{ℕ, suc, ◌-◌, ◌*◌, nat_le, Bool, true, false, List, [], ◌∷◌, ◌++◌, length, take, drop, map}
+use Rattle.std.specs.Prelude.{Option, None, is_some, option_map, if◌then◌else◌}
 use Rattle.field_byte.specs.Vectors.{scale}
 use Rattle.group_types.specs.Dimensions.{Dimensions}
 use Rattle.group_types.specs.Lists.{at, put}

@@ -1,5 +1,6 @@
 -- Calls at a process: what it is asked, what it hands out later, and what it tells of a call's fate.
-use Rattle.std.specs.Prelude.{ℕ, suc, ◌==◌, nat_le, nat_lt, Bool, true, false, not, ◌&&◌, ◌||◌, List, [], ◌∷◌, ◌++◌, filter, find, is_some, Option, Some, None, if◌then◌else◌}
+use Rattle.std.specs.Prelude.{ℕ, suc, ◌==◌, nat_le, nat_lt, Bool, true, false, not, ◌&&◌, ◌||◌, List, [], ◌∷◌, ◌++◌}
+use Rattle.std.specs.Prelude.{filter, find, is_some, Option, Some, None, if◌then◌else◌}
 use Rattle.std.specs.List.{list_any, list_all, range_with_len}
 use Rattle.group_types.specs.Dimensions.{Dimensions, space_of}
 use Rattle.group_types.specs.Hash.{home_of}
@@ -55,7 +56,8 @@ pub record Oldest : Type 0 where
 -- the oldest inherited update of one partition that is unfinished here, or else another one's
 abbrev pub inherited_or : Process → ℕ → Option Head → Option Oldest → Option Oldest
 inherited_or p d None other = other
-inherited_or p d (Some h) other = if nat_lt (replica_of p d).applied h.inherited then Some (record { partition = d; number = suc (replica_of p d).applied }) else other
+inherited_or p d (Some h) other = if nat_lt (replica_of p d).applied h.inherited then Some
+    (record { partition = d; number = suc (replica_of p d).applied }) else other
 
 -- the oldest inherited update that is unfinished here, of the lowest of some partitions that has one
 abbrev pub oldest_inherited : Process → List ℕ → Option Oldest

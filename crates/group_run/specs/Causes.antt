@@ -17,7 +17,8 @@ use Rattle.group_message.specs.declared.kept.Kept.{Kept}
 use Rattle.group_calls.specs.Log.{table_of}
 use Rattle.group_calls.specs.Turns.{accepts, asks_in}
 use Rattle.group_calls.specs.declared.event.Answer.{Answer}
-use Rattle.group_calls.specs.declared.event.Answer.TheVariants.{AlreadyDead, Done, Down, Gone, Idle, Lost, Moved, NoSpace, NotYet, Reply, Retry, Stale, Stranger, Ticket}
+use Rattle.group_calls.specs.declared.event.Answer.TheVariants.{AlreadyDead, Done, Down, Gone, Idle, Lost, Moved}
+use Rattle.group_calls.specs.declared.event.Answer.TheVariants.{NoSpace, NotYet, Reply, Retry, Stale, Stranger, Ticket}
 use Rattle.group_calls.specs.declared.event.Cause.TheVariants.{Block, Pending}
 use Rattle.group_calls.specs.declared.event.Event.{Event}
 use Rattle.group_calls.specs.declared.event.Event.TheVariants.{Ask, Collect, Deliver, Fail, Flush, Trace}
@@ -173,14 +174,18 @@ abbrev pub CollectCause : World → ProcessId → ℕ → ℕ → Answer → Typ
 CollectCause w p caller call Down = IsDown w
 CollectCause w p caller call Lost = (¬ (IsDown w)) × (is_dead w p ≡ true)
 CollectCause w p caller call NotYet = IsUp w p × ((d : ℕ) × (h : Held) × HoldsCall w p caller call d h × ((replica_of (process_of w p) d).applied < h.number))
-CollectCause w p caller call (Reply reply) = IsUp w p × ((d : ℕ) × (h : Held) × HoldsCall w p caller call d h × (h.number ≤ (replica_of (process_of w p) d).applied) × (reply ≡ reply_from h.outcome))
+CollectCause w p caller call (Reply reply) = IsUp w p
+    × ((d : ℕ) × (h : Held) × HoldsCall w p caller call d h × (h.number ≤ (replica_of (process_of w p) d).applied)
+    × (reply ≡ reply_from h.outcome))
 CollectCause w p caller call Stranger = IsUp w p × ((d : ℕ) (h : Held) → ¬ (HoldsCall w p caller call d h))
 CollectCause w p caller call _ = ⊥
 
 -- every other parity process that isn't known dead has acknowledged the head under its rank, or it is the
 -- first
 abbrev pub IsAdopted : World → ProcessId → Head → Type 0
-IsAdopted w p h = (h.rank ≡ 0) ⊎ ((i : ℕ) → i < w.shape.m → ParityNode i ≢ p → knows_dead (process_of w p).known (ParityNode i) ≡ false → at None h.acks i ≢ None)
+IsAdopted w p h = (h.rank ≡ 0)
+    ⊎ ((i : ℕ) → i < w.shape.m → ParityNode i ≢ p → knows_dead (process_of w p).known (ParityNode i) ≡ false
+    → at None h.acks i ≢ None)
 
 -- what the head's replica keeps of the caller
 abbrev pub kept_at : World → ProcessId → ℕ → ℕ → Option Kept
@@ -199,7 +204,8 @@ pub record IsOpen (w : World) (p : ProcessId) (caller call d : ℕ) : Type 0 whe
 abbrev pub FateCause : World → ProcessId → ℕ → ℕ → ℕ → Answer → Type 0
 FateCause w p caller call d (Reply reply) = (waits_at w p caller call d ≡ false)
     × ((kept : Kept) × (kept_at w p d caller ≡ Some kept) × (kept.call ≡ call) × (reply ≡ reply_from kept.outcome))
-FateCause w p caller call d (Stale c) = (waits_at w p caller call d ≡ false) × ((kept : Kept) × (kept_at w p d caller ≡ Some kept) × (kept.call ≡ c) × (call < c))
+FateCause w p caller call d (Stale c) = (waits_at w p caller call d ≡ false)
+    × ((kept : Kept) × (kept_at w p d caller ≡ Some kept) × (kept.call ≡ c) × (call < c))
 FateCause w p caller call d Gone = IsOpen w p caller call d × ((h : Head) × (head_at (process_of w p) d ≡ Some h) × IsAdopted w p h)
 FateCause w p caller call d NotYet = (waits_at w p caller call d ≡ true)
     ⊎ (IsOpen w p caller call d × ((h : Head) × (head_at (process_of w p) d ≡ Some h) × (¬ (IsAdopted w p h))))
@@ -262,7 +268,8 @@ IsServed w op _ = ⊥
 
 -- a call that nothing stands in the way of is served
 abbrev pub ClearIsServed : World → Type 0
-ClearIsServed w = (caller : ℕ) (op : Asked) (p : ProcessId) → MayCome w (Ask caller op p) → CanProceed w p op → IsServed w op (step w (Ask caller op p)).turn.answer
+ClearIsServed w = (caller : ℕ) (op : Asked) (p : ProcessId) → MayCome w (Ask caller op p) → CanProceed w p op
+    → IsServed w op (step w (Ask caller op p)).turn.answer
 
 -- log, places and tickets are as before
 pub record KeepsLedger (w after : World) : Type 0 where
@@ -281,7 +288,8 @@ AskLeaves w after answer = (after.nodes ≡ w.nodes) × KeepsLedger w after
 
 -- each answer to an ask leaves what it should
 abbrev pub AsksLeave : World → Type 0
-AsksLeave w = (caller : ℕ) (op : Asked) (p : ProcessId) → MayCome w (Ask caller op p) → AskLeaves w (step w (Ask caller op p)).world (step w (Ask caller op p)).turn.answer
+AsksLeave w = (caller : ℕ) (op : Asked) (p : ProcessId) → MayCome w (Ask caller op p)
+    → AskLeaves w (step w (Ask caller op p)).world (step w (Ask caller op p)).turn.answer
 
 -- the event is a delivery
 abbrev pub IsDelivery : Event → Type 0

@@ -1,6 +1,7 @@
 -- What a message has to meet at the process that receives it, unless it is dropped there. Laws prove it
 -- of every delivery, and the processes ask for it.
-use Rattle.std.specs.Prelude.{ℕ, suc, ◌≡◌, ◌≢◌, ◌+◌, ◌-◌, ◌<◌, ◌≤◌, ◌==◌, false, true, ⊤, List, [], ◌∷◌, length, drop, All, AllPairs, Contains, IfSome, Some, None}
+use Rattle.std.specs.Prelude.{ℕ, suc, ◌≡◌, ◌≢◌, ◌+◌, ◌-◌, ◌<◌, ◌≤◌, ◌==◌, false, true, ⊤, List, [], ◌∷◌, length, drop}
+use Rattle.std.specs.Prelude.{All, AllPairs, Contains, IfSome, Some, None}
 use Rattle.group_types.specs.Dimensions.{Dimensions, space_of}
 use Rattle.group_types.specs.Lists.{at}
 use Rattle.group_types.specs.Names.{IsProcess, of_rank}
@@ -140,7 +141,9 @@ Fits s from (tells.Stable r d n) p = IsToldBy s from d.0 r.0 × ((unless_stale :
 Fits s from (tells.Adopt r d base list) p = IsToldBy s from d.0 r.0 × ((unless_stale : at 0 p.ranks d.0 ≤ r.0) → AdoptFits s (replica_of p d.0) base list)
 Fits s from (tells.ReadBlock session block rows) p = ReadFits s p session block rows
 Fits s from (tells.Block session bytes n) p = BlockFits s from p session.number bytes
-Fits s from (tells.Mark session r block d n) p = (unless_dropped : accepts_mark p (parity_number session.leader) session.number r.0 d.0 ≡ true) → MarkFits s p session block d.0 n
+Fits s from (tells.Mark session r block d n) p =
+    (unless_dropped : accepts_mark p (parity_number session.leader) session.number r.0 d.0 ≡ true)
+    → MarkFits s p session block d.0 n
 Fits s from (tells.Row session bytes stamp) p = RowFits s from p session.number bytes
 Fits s from (tells.Cease upto) p = (i : ℕ) × (from ≡ ParityNode i) × (i < s.m)
 Fits s from (tells.Notice dead) p = (from ≡ dead) × NoticeFits s p dead

@@ -23,7 +23,8 @@ use Rattle.erasure_code.specs.Code.{coded}
 use Rattle.erasure_code.specs.Spaces.{bytes_at}
 use Rattle.group_run.specs.Deciding.{window}
 use Rattle.group_run.specs.Free.{in_run}
-use Rattle.group_run.specs.Meaning.{Logged, updates_of, count_logged, table_at, run_on, values_after, spaces_at, process_of, Lives, IsDown, AgreesOn, AgreeingSurvivors}
+use Rattle.group_run.specs.Meaning.{Logged, updates_of, count_logged, table_at, run_on, values_after, spaces_at}
+use Rattle.group_run.specs.Meaning.{process_of, Lives, IsDown, AgreesOn, AgreeingSurvivors}
 use Rattle.group_run.specs.Replica.{Replica, callers, slot_in, run_in, last_of, run_of}
 use Rattle.group_run.specs.World.{World, after, turns_of, step, opening}
 
@@ -56,14 +57,17 @@ pub record OneLog (s : Dimensions) (es : List Event) : Type 0 where
 -- a settled item is the one that the table has, in the run of its last update that has one
 abbrev pub IsItem : Option Slot → Option Holding → Option Run → Type 0
 IsItem None None run = Unit {0}
-IsItem (Some slot) (Some h) run = (run ≡ Some (run_in slot)) × (slot.flags ≡ h.item.flags) × (slot.cas ≡ h.item.cas) × (slot.until ≡ h.until) × (slot.len ≡ length h.item.value)
+IsItem (Some slot) (Some h) run = (run ≡ Some (run_in slot)) × (slot.flags ≡ h.item.flags) × (slot.cas ≡ h.item.cas)
+    × (slot.until ≡ h.until) × (slot.len ≡ length h.item.value)
 IsItem None (Some h) run = ⊥
 IsItem (Some slot) None run = ⊥
 
 -- the settled items of a replica are those of the table after as many updates as it has applied, each key
 -- once, and no other partition's
 pub record IsSettled (w : World) (d : ℕ) (r : Replica) : Type 0 where
-  pub items : (key : List ℕ) → home_of key w.shape.k ≡ d → IsItem (slot_in r.items key) ((table_at w d r.applied).items key) (run_on key None (take r.applied (updates_of w d)))
+  pub items : (key : List ℕ) → home_of key w.shape.k ≡ d
+      → IsItem (slot_in r.items key) ((table_at w d r.applied).items key)
+      (run_on key None (take r.applied (updates_of w d)))
   pub homes : All (λ x. home_of x.0 w.shape.k ≡ d) r.items
   pub once : AllPairs (λ x y. x.0 ≢ y.0) r.items
 
@@ -138,8 +142,10 @@ pub record HasItsValue (w : World) (d n : ℕ) (key : List ℕ) (h : Holding) : 
 
 -- every update that has a run is written at it, and so every item has its value
 pub record ValuesWritten (w : World) : Type 0 where
-  pub runs : (d n : ℕ) (u : Logged) (run : Run) → d < w.shape.k → slice_get (updates_of w d) n ≡ Some u → u.run ≡ Some run → (h : Holding) × (u.item ≡ Some h) × HasClearRun w d n run h
-  pub items : (d n : ℕ) (key : List ℕ) (h : Holding) → d < w.shape.k → n ≤ count_logged w d → home_of key w.shape.k ≡ d → (table_at w d n).items key ≡ Some h → HasItsValue w d n key h
+  pub runs : (d n : ℕ) (u : Logged) (run : Run) → d < w.shape.k → slice_get (updates_of w d) n ≡ Some u
+      → u.run ≡ Some run → (h : Holding) × (u.item ≡ Some h) × HasClearRun w d n run h
+  pub items : (d n : ℕ) (key : List ℕ) (h : Holding) → d < w.shape.k → n ≤ count_logged w d → home_of key w.shape.k ≡ d
+      → (table_at w d n).items key ≡ Some h → HasItsValue w d n key h
 
 -- the headline, of a group that isn't down but for its log and its values, which stay what they are
 pub record Headline (s : Dimensions) (es : List Event) : Type 0 where

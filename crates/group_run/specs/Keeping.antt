@@ -37,12 +37,15 @@ pub record KeptIsLast (w : World) : Type 0 where
 
 -- a held call is of an update that is logged, or that waits in the log here
 pub record IsHeldFor (w : World) (d : ℕ) (r : Replica) (h : Held) : Type 0 where
-  pub settled : (u : Logged) → h.number ≤ r.applied → slice_get (updates_of w d) (h.number - 1) ≡ Some u → (u.entry.caller ≡ h.caller) × (u.entry.call ≡ h.call) × (u.entry.reply ≡ reply_from h.outcome)
-  pub waiting : (u : Update) → r.applied < h.number → slice_get r.log (h.number - r.applied - 1) ≡ Some u → (u.caller ≡ h.caller) × (u.call ≡ h.call) × (u.outcome ≡ h.outcome)
+  pub settled : (u : Logged) → h.number ≤ r.applied → slice_get (updates_of w d) (h.number - 1) ≡ Some u
+      → (u.entry.caller ≡ h.caller) × (u.entry.call ≡ h.call) × (u.entry.reply ≡ reply_from h.outcome)
+  pub waiting : (u : Update) → r.applied < h.number → slice_get r.log (h.number - r.applied - 1) ≡ Some u
+      → (u.caller ≡ h.caller) × (u.call ≡ h.call) × (u.outcome ≡ h.outcome)
 
 -- every held call is
 abbrev pub HeldIsHeld : World → Type 0
-HeldIsHeld w = (p : ProcessId) (d : ℕ) (h : Held) → Lives w p → d < w.shape.k → Contains (held_at (process_of w p) d) h → IsHeldFor w d (replica_of (process_of w p) d) h
+HeldIsHeld w = (p : ProcessId) (d : ℕ) (h : Held) → Lives w p → d < w.shape.k → Contains (held_at (process_of w p) d) h
+    → IsHeldFor w d (replica_of (process_of w p) d) h
 
 -- each node's word whether the group is down is right
 abbrev pub NodesKnowDown : World → Type 0

@@ -1,6 +1,8 @@
 -- What a leader does: it rebuilds a block of each lost partition from the others' blocks and from rows
 -- of the code that all stand at the same numbers.
-use Rattle.std.specs.Prelude.{ℕ, suc, ◌+◌, ◌-◌, ◌*◌, ◌/◌, ◌%◌, ◌==◌, Bool, true, false, not, ◌&&◌, ◌||◌, List, [], ◌∷◌, ◌++◌, length, take, map, filter, find, flat_map, unwrap_or, is_some, Option, Some, None, replicate, if◌then◌else◌}
+use Rattle.std.specs.Prelude.{ℕ, suc, ◌+◌, ◌-◌, ◌*◌, ◌/◌, ◌%◌, ◌==◌, Bool, true, false, not, ◌&&◌, ◌||◌, List, [], ◌∷◌}
+use Rattle.std.specs.Prelude.{◌++◌, length, take, map, filter, find, flat_map, unwrap_or, is_some, Option, Some, None}
+use Rattle.std.specs.Prelude.{replicate, if◌then◌else◌}
 use Rattle.std.specs.List.{list_any, list_all, range_with_len}
 use Rattle.group_types.specs.Dimensions.{Dimensions}
 use Rattle.group_types.specs.Lists.{at, put}
@@ -14,7 +16,8 @@ use Rattle.group_run.specs.Applying.{ProcessStep, Sent, quiet, sending, when, an
 use Rattle.erasure_code.specs.Code.{Column, decoded}
 use Rattle.group_run.specs.Heading.{rank, partition, to_others}
 use Rattle.group_run.specs.Process.{Process, Copy, Gathering, LeaderState}
-use Rattle.group_run.specs.Rows.{parity_number, copy_in, without_copy, with_copy, with_copies, begin_copy, marked, is_marked, marks_of, accepts_mark, copies_ceased}
+use Rattle.group_run.specs.Rows.{parity_number, copy_in, without_copy, with_copy, with_copies, begin_copy, marked}
+use Rattle.group_run.specs.Rows.{is_marked, marks_of, accepts_mark, copies_ceased}
 
 -- the name of a session
 abbrev pub session_of : ℕ → ℕ → Session
@@ -94,11 +97,14 @@ row_comes s number i bytes p = with_leader (row_gathered s i bytes (open_session
 -- a copy whose marks are all there goes to the leader; the leader's own is handed over at once
 abbrev pub row_finished : Bool → Dimensions → Copy → Process → ProcessStep
 row_finished true s copy p = quiet (row_comes s copy.number copy.leader copy.bytes p)
-row_finished false s copy p = sending (record { to = ParityNode copy.leader; message = tells.Row (session_of copy.leader copy.number) copy.bytes (marks_of s copy) } ∷ []) p
+row_finished false s copy p =
+    sending (record { to = ParityNode copy.leader; message = tells.Row (session_of copy.leader copy.number) copy.bytes
+    (marks_of s copy) } ∷ []) p
 
 -- a copy that was marked is finished, or waits for its other marks
 abbrev pub copy_kept : Bool → Dimensions → Copy → Process → ProcessStep
-copy_kept true s copy p = row_finished (same_process p.name (ParityNode copy.leader)) s copy (with_copies (without_copy copy.leader copy.number p.as_row.copies) p)
+copy_kept true s copy p = row_finished (same_process p.name (ParityNode copy.leader)) s copy
+    (with_copies (without_copy copy.leader copy.number p.as_row.copies) p)
 copy_kept false s copy p = quiet (with_copies (with_copy copy p.as_row.copies) p)
 
 -- a partition is marked in a copy
@@ -153,7 +159,9 @@ new_session s number block p = record {
 
 -- the leader with a session more
 abbrev pub session_opened : Dimensions → ℕ → ℕ → Process → Process
-session_opened s number block p = with_leader (record p.as_leader { last_session = number; sessions = p.as_leader.sessions ++ new_session s number block p ∷ [] }) p
+session_opened s number block p =
+    with_leader (record p.as_leader { last_session = number; sessions = p.as_leader.sessions
+    ++ new_session s number block p ∷ [] }) p
 
 -- a leader marks a lost partition in its own row
 abbrev pub own_mark : Dimensions → ℕ → ℕ → ℕ → ℕ → Process → ProcessStep

@@ -1,5 +1,6 @@
 -- What a run means, told apart from how it goes: by the log alone, and by what each process holds.
-use Rattle.std.specs.Prelude.{ℕ, zero, suc, ◌≡◌, ◌≢◌, ◌<◌, ◌≤◌, ◌+◌, ◌==◌, Bool, true, false, List, [], ◌∷◌, ◌++◌, length, take, drop, replicate, slice_get, Option, Some, None, Contains, if◌then◌else◌}
+use Rattle.std.specs.Prelude.{ℕ, zero, suc, ◌≡◌, ◌≢◌, ◌<◌, ◌≤◌, ◌+◌, ◌==◌, Bool, true, false, List, [], ◌∷◌, ◌++◌}
+use Rattle.std.specs.Prelude.{length, take, drop, replicate, slice_get, Option, Some, None, Contains, if◌then◌else◌}
 use Rattle.group_types.specs.Dimensions.{space_of}
 use Rattle.group_types.specs.Hash.{home_of}
 use Rattle.group_types.specs.Lists.{at, same_key}
@@ -47,7 +48,8 @@ abbrev pub updates_from : ℕ → ℕ → Contents → List (Option Run) → Lis
 updates_from k d t runs [] = []
 updates_from k d t runs (e ∷ es) =
     let u : Contents = table_after t e.op in
-    front_if (is_update_of k d e) (record { entry = e; run = next_run runs; item = u.items (key_of e.op.act) }) (updates_from k d u (runs_left (is_update_of k d e) runs) es)
+    front_if (is_update_of k d e) (record { entry = e; run = next_run runs; item = u.items (key_of e.op.act) })
+        (updates_from k d u (runs_left (is_update_of k d e) runs) es)
 
 -- the updates of a partition: the n-th has the number n
 abbrev pub updates_of : World → ℕ → List Logged
@@ -135,7 +137,8 @@ Heads w d r = IsHead w.shape.m (is_dead w) d r
 
 -- it has taken over: no notice of a process of lower rank is on its way to it
 abbrev pub HasTakenOver : World → ℕ → ℕ → Type 0
-HasTakenOver w d r = (q : ℕ) (from : ProcessId) → q < r → IsProcess w.shape from → from ≢ of_rank d r → ¬ (Contains (link w from (of_rank d r)) (tells.Notice (of_rank d q)))
+HasTakenOver w d r = (q : ℕ) (from : ProcessId) → q < r → IsProcess w.shape from → from ≢ of_rank d r
+    → ¬ (Contains (link w from (of_rank d r)) (tells.Notice (of_rank d q)))
 
 -- a parity process has acknowledged number n, or a later one, to a head
 abbrev pub HasAcked : Head → ℕ → ℕ → Type 0

@@ -42,7 +42,8 @@ load_of w = sum_by (load_from w) (range_with_len 0 (w.shape.k + w.shape.m))
 
 -- each delivery lowers the weight, so draining ends
 abbrev pub DeliveryLowers : World → Type 0
-DeliveryLowers w = (from to : ProcessId) → MayCome w (Deliver from to) → (step w (Deliver from to)).turn.answer ≡ Done → load_of (step w (Deliver from to)).world < load_of w
+DeliveryLowers w = (from to : ProcessId) → MayCome w (Deliver from to) → (step w (Deliver from to)).turn.answer ≡ Done
+    → load_of (step w (Deliver from to)).world < load_of w
 
 -- an ask is not answered that an update has to be finished first
 abbrev pub IsPending : Answer → Type 0
@@ -52,7 +53,8 @@ IsPending answer = (d : Partition) × (n : ℕ) × (answer ≡ Retry (Pending d 
 -- and no copy left, and neither a trace nor an ask has to wait for an update
 pub record IsQuiet (w : World) : Type 0 where
   pub headed : (d : ℕ) → d < w.shape.k → (r : ℕ) × Heads w d r × HasTakenOver w d r
-  pub finished : (d r : ℕ) → d < w.shape.k → Heads w d r → (h : Head) × (head_at (process_of w (of_rank d r)) d ≡ Some h) × ((replica_of (process_of w (of_rank d r)) d).log ≡ [])
+  pub finished : (d r : ℕ) → d < w.shape.k → Heads w d r → (h : Head)
+      × (head_at (process_of w (of_rank d r)) d ≡ Some h) × ((replica_of (process_of w (of_rank d r)) d).log ≡ [])
   pub sessions : (i : ℕ) → Lives w (ParityNode i) → (process_of w (ParityNode i)).as_leader.sessions ≡ []
   pub copies : (i : ℕ) → Lives w (ParityNode i) → (process_of w (ParityNode i)).as_row.copies ≡ []
   pub traced : (caller call : ℕ) (d : Partition) (p : ProcessId) → MayCome w (Trace caller call d p) → (step w (Trace caller call d p)).turn.answer ≢ NotYet

@@ -65,7 +65,8 @@ read_comes s session block rows p (DataNode d) =
 -- a process takes over a partition where it knows all processes of lower rank to be dead
 abbrev pub takes_over : Process → ℕ → ProcessId → Bool
 takes_over p d (DataNode _) = false
-takes_over p d (ParityNode i) = not (is_some (head_at p d)) && knows_dead p.known (DataNode d) && list_all (λ j. knows_dead p.known (ParityNode j)) (range_with_len 0 i)
+takes_over p d (ParityNode i) = not (is_some (head_at p d)) && knows_dead p.known (DataNode d) && list_all
+    (λ j. knows_dead p.known (ParityNode j)) (range_with_len 0 i)
 
 -- the process heads the partition under a rank, and what its log has is inherited
 abbrev pub enthroned : Dimensions → ℕ → ℕ → Process → Process

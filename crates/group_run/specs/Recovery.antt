@@ -39,7 +39,8 @@ pub record StandsAt (w : World) (l : ℕ) (g : Gathering) (v : List ℕ) : Type 
 
 -- every open session has its stamp
 abbrev pub SessionsHaveStamps : World → Type 0
-SessionsHaveStamps w = (l : ℕ) (g : Gathering) → Lives w (ParityNode l) → Contains (process_of w (ParityNode l)).as_leader.sessions g → (v : List ℕ) × StandsAt w l g v
+SessionsHaveStamps w = (l : ℕ) (g : Gathering) → Lives w (ParityNode l)
+    → Contains (process_of w (ParityNode l)).as_leader.sessions g → (v : List ℕ) × StandsAt w l g v
 
 -- the numbers that a row's copy stands at: its marks', and elsewhere the row's applied numbers
 abbrev pub copy_stamp : Dimensions → Process → Copy → List ℕ

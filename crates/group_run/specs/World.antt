@@ -1,5 +1,6 @@
 -- The group as a whole: its nodes, and what each event does to the nodes that it names.
-use Rattle.std.specs.Prelude.{ℕ, suc, ◌+◌, ◌==◌, nat_lt, Bool, true, false, ◌&&◌, List, [], ◌∷◌, ◌++◌, length, take, map, filter, replicate, Option, Some, None, if◌then◌else◌}
+use Rattle.std.specs.Prelude.{ℕ, suc, ◌+◌, ◌==◌, nat_lt, Bool, true, false, ◌&&◌, List, [], ◌∷◌, ◌++◌, length, take}
+use Rattle.std.specs.Prelude.{map, filter, replicate, Option, Some, None, if◌then◌else◌}
 use Rattle.std.specs.List.{list_any, range_with_len}
 use Rattle.group_types.specs.Dimensions.{Dimensions}
 use Rattle.group_types.specs.Lists.{at, put}
@@ -350,7 +351,8 @@ abbrev pub step : World → Event → WorldStep
 step w e =
     let t : GroupStep = group_step w e in
     let tickets : List Ticket = tickets_after (length w.log) (call_of w e) t.answer w.tickets in
-    let ledger : Ledger = ledger_after tickets t.settled (range_with_len 0 w.shape.k) (record { logged = logged_at_once (call_of w e) t.answer; places = w.places }) in
+    let ledger : Ledger = ledger_after tickets t.settled (range_with_len 0 w.shape.k)
+      (record { logged = logged_at_once (call_of w e) t.answer; places = w.places }) in
     record {
       world = record {
         shape = w.shape;

@@ -79,7 +79,8 @@ pub record IsShownAs (caller : ℕ) (o : OpenCall) (answer : Answer) (c : Compos
 
 -- so can a call that is to be asked, where a member that goes on answers it at once
 abbrev pub AnsweredCanBeShown : Type 0
-AnsweredCanBeShown = (s : Dimensions) (actions : List Action) (named : Processes) (caller : ℕ) (o : OpenCall) (x : ProcessId) (answer : Answer) → AreActions s actions
+AnsweredCanBeShown = (s : Dimensions) (actions : List Action) (named : Processes) (caller : ℕ) (o : OpenCall)
+    (x : ProcessId) (answer : Answer) → AreActions s actions
     → OthersAreHere (composed s actions).group named → NamedAreTaken (composed s actions).group named
     → IsCaller (composed s actions).group caller → named (gateway_of s caller) ≡ false → IsProcess s x → named x ≡ false
     → (composed s actions).group.gateways.call caller ≡ Some o → o.stage ≡ Unasked → AnswersAtOnce (composed s actions).group caller o x answer

@@ -5,7 +5,8 @@ use Rattle.memc_table.specs.declared.reply.Reply.TheVariants as reply
 use Rattle.group_calls.specs.declared.event.Answer.TheVariants as says
 use Rattle.group_calls.specs.declared.event.Cause.TheVariants as cause
 use Rattle.group_run.specs.Heading.{partition}
-use Rattle.group_wire.specs.Actions.{Action, Begin, Send, Read, Treat, Collect, Flush, Learn, Receive, GiveUp, Cut, Say, Hear, Permit, Take, Ping, Pong, Count, Show, Stop}
+use Rattle.group_wire.specs.Actions.{Action, Begin, Send, Read, Treat, Collect, Flush, Learn, Receive, GiveUp, Cut, Say}
+use Rattle.group_wire.specs.Actions.{Hear, Permit, Take, Ping, Pong, Count, Show, Stop}
 use Rattle.group_wire.specs.Rows.{ScheduleRow, d0, d1, op, p0, p1, small}
 use Rattle.group_wire.specs.Sets.{everybody}
 
@@ -40,7 +41,8 @@ programs_end_actions =
     Send 128 d0 ∷ Begin 0 (op (act.Set (113 ∷ 49 ∷ []) 0 (pos 0) (48 ∷ 50 ∷ []))) ∷ Send 0 d0 ∷ Read d0 d0 ∷ Treat d0 0 ∷ Receive d0 p0 ∷ Stop p0 ∷
     Begin 1 (op (act.Set (113 ∷ 48 ∷ []) 0 (pos 0) (50 ∷ 51 ∷ 50 ∷ []))) ∷ Send 1 d0 ∷ Read d0 d0 ∷ Treat d0 0 ∷ Read p0 d0 ∷ Treat d0 0 ∷ Read p0 d0 ∷
     Treat d0 0 ∷ Receive p0 d0 ∷ Collect 0 0 d0 ∷ Learn d0 d0 ∷ Ping everybody d0 ∷ Flush d0 ∷ Cut p0 d0 ∷ Say d0 ∷ Permit d0 ∷ Take p0 d0 ∷ Collect 1 0 d0 ∷
-    Learn d0 d0 ∷ Ping everybody d0 ∷ Show 0 0 ∷ Show 1 1 ∷ Begin 0 (op (act.Get (113 ∷ 49 ∷ []))) ∷ Send 0 d0 ∷ Read d0 d0 ∷ Treat d0 0 ∷ Learn d0 d0 ∷ Ping everybody d0 ∷
+    Learn d0 d0 ∷ Ping everybody d0 ∷ Show 0 0 ∷ Show 1 1 ∷ Begin 0 (op (act.Get (113 ∷ 49 ∷ []))) ∷ Send 0 d0
+      ∷ Read d0 d0 ∷ Treat d0 0 ∷ Learn d0 d0 ∷ Ping everybody d0 ∷
     Show 0 2 ∷ Begin 1 (op (act.Incr (113 ∷ 48 ∷ []) 7)) ∷ Send 1 d0 ∷ Read d0 d0 ∷ Treat d0 0 ∷ Learn d0 d0 ∷ Ping everybody d0 ∷ Show 1 3 ∷
     Begin 0 (op (act.Set (113 ∷ 48 ∷ []) 0 (pos 0) (49 ∷ []))) ∷ Send 0 d0 ∷ Read d0 d0 ∷ Treat d0 0 ∷ Learn d0 d0 ∷ Ping everybody d0 ∷ Show 0 4 ∷
     Begin 1 (op (act.Get (113 ∷ 49 ∷ []))) ∷ Send 1 d0 ∷ Read d0 d0 ∷ Treat d0 0 ∷ Learn d0 d0 ∷ Ping everybody d0 ∷ Show 1 5 ∷
@@ -74,7 +76,8 @@ kept_of_a_failed_gateway_actions =
     Ping everybody d1 ∷ Pong d1 d0 ∷ Treat d0 1 ∷ Count p0 d1 ∷ Count d0 d1 ∷ Show 86 2 ∷ Count d0 d1 ∷ Show 85 3 ∷ Pong d1 p0 ∷ Pong d1 p0 ∷ Pong d1 p0 ∷
     Count p0 d1 ∷ Begin 85 (op (act.Set (113 ∷ 50 ∷ []) 5 (pos 0) (50 ∷ 50 ∷ 48 ∷ []))) ∷ Send 85 d0 ∷ Read d1 d0 ∷ Treat d0 1 ∷
     Begin 86 (op (act.Get (113 ∷ 52 ∷ []))) ∷ Send 86 d0 ∷ Count p0 d1 ∷ Say p0 ∷ Count p0 d1 ∷ Hear p0 d1 ∷ Cut d0 d1 ∷ Read d1 d0 ∷ Treat d0 1 ∷
-    Say d1 ∷ Hear d1 p0 ∷ Permit p0 ∷ Take d0 p0 ∷ GiveUp 170 ∷ GiveUp 171 ∷ Send 170 p0 ∷ Read p0 p0 ∷ Treat p0 0 ∷ Learn p0 p0 ∷ Ping everybody p0 ∷ Show 170 0 ∷
+    Say d1 ∷ Hear d1 p0 ∷ Permit p0 ∷ Take d0 p0 ∷ GiveUp 170 ∷ GiveUp 171 ∷ Send 170 p0 ∷ Read p0 p0 ∷ Treat p0 0
+      ∷ Learn p0 p0 ∷ Ping everybody p0 ∷ Show 170 0 ∷
     Pong p0 d1 ∷ Permit d1 ∷ Take d0 d1 ∷ GiveUp 85 ∷ GiveUp 86 ∷ Count d1 p0 ∷ Treat d1 0 ∷ []
 
 abbrev pub KeptOfAFailedGateway : Type 0

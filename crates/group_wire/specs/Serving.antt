@@ -116,9 +116,12 @@ gateways_after g (Begin caller op) = record g.gateways { call = changed_at g.gat
 gateways_after g (Send caller x) = if_open (g.gateways.call caller) g.gateways (λ opened. sends_by g caller x opened opened.stage)
 gateways_after g (Read x p) = read_first x p (g.gateways.requests x p) g.gateways
 gateways_after g (Treat p place) = request_treated g p place (parked_at g p place)
-gateways_after g (Collect caller call p) = tell g p (handed_to caller call (collect_from caller call (g.works.process p) (range_with_len 0 g.shape.k)).answer) g.gateways
+gateways_after g (Collect caller call p) =
+    tell g p (handed_to caller call (collect_from caller call (g.works.process p) (range_with_len 0 g.shape.k)).answer)
+    g.gateways
 gateways_after g (Learn x p) = learned_first x p (g.signs.pinged p) (g.gateways.answers x p) g.gateways
-gateways_after g (GiveUp caller) = if_open (g.gateways.call caller) g.gateways (λ opened. staged caller opened (stage_given_up opened.op opened.stage) g.gateways)
+gateways_after g (GiveUp caller) = if_open (g.gateways.call caller) g.gateways
+    (λ opened. staged caller opened (stage_given_up opened.op opened.stage) g.gateways)
 gateways_after g (Show caller ping) = record g.gateways { call = changed_at g.gateways.call caller None }
 gateways_after g (LetGo caller) = record g.gateways { call = changed_at g.gateways.call caller None }
 gateways_after g _ = g.gateways

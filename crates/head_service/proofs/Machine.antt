@@ -24,7 +24,7 @@ use Rattle.head_service.specs.Fates.{fate}
 use Rattle.head_service.specs.Peers.{settles, to_all}
 use Rattle.head_service.specs.Flushing.{stable_of, stables}
 use Rattle.head_service.specs.Laws.{ArePeers, AsksAreTheMachines, FatesAreTheMachines, FlushesAreTheMachines, HeadsPartition}
-use Rattle.head_service.specs.Laws.{JudgesAreTheMachines, TakeoversAreTheMachines, decided, heir, serving_step}
+use Rattle.head_service.specs.Laws.{JudgesAreTheMachines, TakeoversAreTheMachines, decided, successor, serving_step}
 use Rattle.head_service.specs.Serving.{Serving, serving}
 use Rattle.head_service.specs.declared.peers.Peers.{Peers}
 use Rattle.head_service.proofs.Steps.{issue-is, judge-is}
@@ -110,14 +110,14 @@ fates_are_the_machines s v b peers d h r caller call are heads =
 
 pub takeovers_are_the_machines : TakeoversAreTheMachines
 takeovers_are_the_machines s v b peers d r are here within =
-    let h : Head = heir s b r in
+    let h : Head = successor s b r in
     let raised : Serving = record v { ranks = put 0 v.ranks d h.rank; heads = put None v.heads d (Some h) } in
     let same : put empty_replica v.replicas d r ≡ v.replicas = ap (put empty_replica v.replicas d) (sym here)
     ∙ put-at empty_replica empty_replica v.replicas d within in
     let own_sent : Replica → List Sent = λ x. to_all (own s v b) (tells.Adopt (rank h.rank) (partition d) x.applied x.log) in
     ap (λ (x : Replica).
     and_then (sending (own_sent x)
-    (serving (record v { ranks = put 0 v.ranks d h.rank; heads = put None v.heads d (Some (heir s b x)) }) b))
+    (serving (record v { ranks = put 0 v.ranks d h.rank; heads = put None v.heads d (Some (successor s b x)) }) b))
     (judge s d)) here
     ∙ ap (λ (xs : List Replica). and_then (sending (own_sent r) (serving (record raised { replicas = xs }) b)) (judge s d)) (sym same)
     ∙ ap (λ (step : ProcessStep). record { process = step.process; sent = own_sent r ++ step.sent; settled = step.settled })

@@ -57,27 +57,34 @@ decided s d h op r b = decide (space_of s) h.inherited r op (found_in s d b)
 -- a call is asked
 abbrev pub AsksAreTheMachines : Type 0
 AsksAreTheMachines = (s : Dimensions) (v : Serving) (b : Process) (peers : Peers) (h : Head) (r : Replica) (name : CallName) (op : Asked)
-    → ArePeers s v b peers → HeadsPartition v (home_of (key_of op.act) s.k) h r → ((block : ℕ) → decided s (home_of (key_of op.act) s.k) h op r b ≢ NeedBlock block)
+    → ArePeers s v b peers → HeadsPartition v (home_of (key_of op.act) s.k) h r
+      → ((block : ℕ) → decided s (home_of (key_of op.act) s.k) h op r b ≢ NeedBlock block)
     → ask_process s name op (serving v b)
-    ≡ serving_step (home_of (key_of op.act) s.k) (acts s (home_of (key_of op.act) s.k) peers h name op r (at [] v.held (home_of (key_of op.act) s.k)) b (decided s (home_of (key_of op.act) s.k) h op r b)) v
+    ≡ serving_step (home_of (key_of op.act) s.k)
+      (acts s (home_of (key_of op.act) s.k) peers h name op r (at [] v.held (home_of (key_of op.act) s.k)) b
+      (decided s (home_of (key_of op.act) s.k) h op r b)) v
 
 -- a head judges its acknowledgements
 abbrev pub JudgesAreTheMachines : Type 0
-JudgesAreTheMachines = (s : Dimensions) (v : Serving) (b : Process) (peers : Peers) (d : ℕ) (h : Head) (r : Replica) → ArePeers s v b peers → HeadsPartition v d h r
+JudgesAreTheMachines = (s : Dimensions) (v : Serving) (b : Process) (peers : Peers) (d : ℕ) (h : Head) (r : Replica)
+    → ArePeers s v b peers → HeadsPartition v d h r
     → judge s d (serving v b) ≡ record {
-      process = serving (record v { replicas = put empty_replica v.replicas d (applied_to (settles peers h (last_of r)) r) }) (bytes_after s d (up_to (settles peers h (last_of r)) r) b);
+      process = serving
+          (record v { replicas = put empty_replica v.replicas d (applied_to (settles peers h (last_of r)) r) })
+          (bytes_after s d (up_to (settles peers h (last_of r)) r) b);
       sent = [];
       settled = settlements d (up_to (settles peers h (last_of r)) r);
     }
 
 -- a head tells what became of a call
 abbrev pub FatesAreTheMachines : Type 0
-FatesAreTheMachines = (s : Dimensions) (v : Serving) (b : Process) (peers : Peers) (d : ℕ) (h : Head) (r : Replica) (caller call : ℕ) → ArePeers s v b peers → HeadsPartition v d h r
+FatesAreTheMachines = (s : Dimensions) (v : Serving) (b : Process) (peers : Peers) (d : ℕ) (h : Head) (r : Replica)
+    (caller call : ℕ) → ArePeers s v b peers → HeadsPartition v d h r
     → fate_of s caller call d (serving v b) (at None v.heads d) ≡ fate peers h r caller call
 
 -- what taking a partition over settles, where its replica is this one
-abbrev pub heir : Dimensions → Process → Replica → Head
-heir s b r = new_head s (suc (parity_number b.name)) (last_of r)
+abbrev pub successor : Dimensions → Process → Replica → Head
+successor s b r = new_head s (suc (parity_number b.name)) (last_of r)
 
 -- a process takes a partition over
 abbrev pub TakeoversAreTheMachines : Type 0
@@ -85,12 +92,12 @@ TakeoversAreTheMachines = (s : Dimensions) (v : Serving) (b : Process) (peers : 
     → at empty_replica v.replicas d ≡ r → d < length v.replicas
     → taken_over s d (serving v b) ≡ record {
       process = serving (record v {
-        replicas = put empty_replica v.replicas d (applied_to (settles peers (heir s b r) (last_of r)) r);
-        ranks = put 0 v.ranks d (heir s b r).rank;
-        heads = put None v.heads d (Some (heir s b r));
-      }) (bytes_after s d (up_to (settles peers (heir s b r) (last_of r)) r) b);
-      sent = to_all peers (tells.Adopt (rank (heir s b r).rank) (partition d) r.applied r.log);
-      settled = settlements d (up_to (settles peers (heir s b r) (last_of r)) r);
+        replicas = put empty_replica v.replicas d (applied_to (settles peers (successor s b r) (last_of r)) r);
+        ranks = put 0 v.ranks d (successor s b r).rank;
+        heads = put None v.heads d (Some (successor s b r));
+      }) (bytes_after s d (up_to (settles peers (successor s b r) (last_of r)) r) b);
+      sent = to_all peers (tells.Adopt (rank (successor s b r).rank) (partition d) r.applied r.log);
+      settled = settlements d (up_to (settles peers (successor s b r) (last_of r)) r);
     }
 
 -- a process tells how far it has settled

@@ -24,15 +24,18 @@ FlushesHaveCauses w = (p : ProcessId) → MayCome w (Flush p) → FlushCause w p
 
 -- each answer to a collect has its cause
 abbrev pub CollectsHaveCauses : World → Type 0
-CollectsHaveCauses w = (caller call : ℕ) (p : ProcessId) → MayCome w (Collect caller call p) → CollectCause w p caller call (step w (Collect caller call p)).turn.answer
+CollectsHaveCauses w = (caller call : ℕ) (p : ProcessId) → MayCome w (Collect caller call p)
+    → CollectCause w p caller call (step w (Collect caller call p)).turn.answer
 
 -- each answer to a trace has its cause
 abbrev pub TracesHaveCauses : World → Type 0
-TracesHaveCauses w = (caller call : ℕ) (d : Partition) (p : ProcessId) → MayCome w (Trace caller call d p) → TraceCause w p caller call d.0 (step w (Trace caller call d p)).turn.answer
+TracesHaveCauses w = (caller call : ℕ) (d : Partition) (p : ProcessId) → MayCome w (Trace caller call d p)
+    → TraceCause w p caller call d.0 (step w (Trace caller call d p)).turn.answer
 
 -- each answer to an ask has its cause
 abbrev pub AsksHaveCauses : World → Type 0
-AsksHaveCauses w = (caller : ℕ) (op : Asked) (p : ProcessId) → MayCome w (Ask caller op p) → AskCause w (step w (Ask caller op p)).world p op (step w (Ask caller op p)).turn.answer
+AsksHaveCauses w = (caller : ℕ) (op : Asked) (p : ProcessId) → MayCome w (Ask caller op p)
+    → AskCause w (step w (Ask caller op p)).world p op (step w (Ask caller op p)).turn.answer
 
 -- so it is along every run
 abbrev pub DeliveriesAlways : Type 0

@@ -15,7 +15,8 @@ use Rattle.group_calls.specs.declared.event.Cause.TheVariants.{Block, Pending}
 use Rattle.group_calls.specs.declared.event.Event.{Event}
 use Rattle.group_calls.specs.declared.event.Event.TheVariants.{Ask}
 use Rattle.group_run.specs.Applying.{replica_of}
-use Rattle.group_run.specs.Causes.{FindsNoRun, FindsWindowFull, HasInherited, IsReady, IsUp, MissesBlock, NeedsItem, NeedsPlace, WaitsForKey, home_in, replica_for, table_now}
+use Rattle.group_run.specs.Causes.{FindsNoRun, FindsWindowFull, HasInherited, IsReady, IsUp, MissesBlock, NeedsItem}
+use Rattle.group_run.specs.Causes.{NeedsPlace, WaitsForKey, home_in, replica_for, table_now}
 use Rattle.group_run.specs.Deciding.{is_blind, window}
 use Rattle.group_run.specs.Headline.{IsRun, MayCome}
 use Rattle.group_run.specs.Meaning.{process_of}
@@ -75,7 +76,8 @@ pub record FollowsRules (w : World) (p : ProcessId) (op : Asked) (answer : Answe
   pub refusal : IsUnhindered w p op → CanRead w p op → Refuses w op → answer ≡ Reply (reply_of (table_now w) op)
   pub full : IsUnhindered w p op → CanRead w p op → (d : Partition) (n : ℕ) → FindsWindowFull w p op d.0 n → answer ≡ Retry (Pending d n)
   pub space : IsUnhindered w p op → CanRead w p op → HasWindow w p op → FindsNoRun w p op → answer ≡ NoSpace
-  pub place : IsUnhindered w p op → CanRead w p op → HasWindow w p op → (run : Run) (b : ℕ) → NeedsPlace w p op run → MissesBlock w p op run b → WaitsForBlock w p b answer
+  pub place : IsUnhindered w p op → CanRead w p op → HasWindow w p op → (run : Run) (b : ℕ) → NeedsPlace w p op run
+      → MissesBlock w p op run b → WaitsForBlock w p b answer
   pub issue : IsUnhindered w p op → CanRead w p op → HasWindow w p op → ¬ (FindsNoRun w p op) → CanWrite w p op → accepts (reply_of (table_now w) op) ≡ true
       → IsIssued w p op answer
 

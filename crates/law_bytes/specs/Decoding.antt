@@ -55,7 +55,8 @@ SpaceIs s cs (ParityNode i) space = space ≡ coded s.m i (space_of s) cs
 
 -- a process that holds its bytes has the space of the settled updates that it has applied
 abbrev pub SpacesStand : Type 0
-SpacesStand = (s : Dimensions) (settled : ℕ → List Update) (p : Process) (x : ProcessId) → p.name ≡ x → IsProcess s x → SettledWrite s settled → Holds s settled p
+SpacesStand = (s : Dimensions) (settled : ℕ → List Update) (p : Process) (x : ProcessId) → p.name ≡ x → IsProcess s x
+    → SettledWrite s settled → Holds s settled p
     → SpaceIs s (columns s (stand settled p)) x p.space
 
 -- columns of bytes, one for each partition, as long as a space
@@ -66,5 +67,6 @@ pub record AreSpaces (s : Dimensions) (cs : List (List ℕ)) : Type 0 where
 
 -- the spaces of k processes determine all columns
 abbrev pub SpacesDetermine : Type 0
-SpacesDetermine = (s : Dimensions) (ps : List ProcessId) (space : ProcessId → List ℕ) (cs others : List (List ℕ)) → IsShape s → length ps ≡ s.k → AreDistinct ps → Each (IsProcess s) ps
+SpacesDetermine = (s : Dimensions) (ps : List ProcessId) (space : ProcessId → List ℕ) (cs others : List (List ℕ))
+    → IsShape s → length ps ≡ s.k → AreDistinct ps → Each (IsProcess s) ps
     → AreSpaces s cs → AreSpaces s others → Each (λ p. SpaceIs s cs p (space p)) ps → Each (λ p. SpaceIs s others p (space p)) ps → others ≡ cs

@@ -31,7 +31,8 @@ TicketsAreHeld w = (caller : ℕ) (op : Asked) (p : ProcessId) (n : ℕ) → May
 
 -- a call that a collect replied to is held of no partition
 abbrev pub RepliedAreForgotten : World → Type 0
-RepliedAreForgotten w = (caller call : ℕ) (p : ProcessId) (reply : replies.Reply) → MayCome w (Collect caller call p) → (step w (Collect caller call p)).turn.answer ≡ Reply reply
+RepliedAreForgotten w = (caller call : ℕ) (p : ProcessId) (reply : replies.Reply) → MayCome w (Collect caller call p)
+    → (step w (Collect caller call p)).turn.answer ≡ Reply reply
     → (d : ℕ) (h : Held) → ¬ (HoldsCall (step w (Collect caller call p)).world p caller call d h)
 
 -- the event is a collect of the held call, at the process that holds it, and is replied to

@@ -52,7 +52,8 @@ pub record MayBeElsewhere (w : World) (p : ProcessId) (caller call d : ℕ) : Ty
 pub record WaitsForUnfinished (w : World) : Type 0 where
   pub asks : (caller : ℕ) (op : Asked) (p : ProcessId) (d : Partition) (n : ℕ) → MayCome w (Ask caller op p)
       → (step w (Ask caller op p)).turn.answer ≡ Retry (Pending d n) → AskWaits w p op d.0 n
-  pub collects : (caller call : ℕ) (p : ProcessId) → MayCome w (Collect caller call p) → (step w (Collect caller call p)).turn.answer ≡ NotYet → CollectWaits w p caller call
+  pub collects : (caller call : ℕ) (p : ProcessId) → MayCome w (Collect caller call p)
+      → (step w (Collect caller call p)).turn.answer ≡ NotYet → CollectWaits w p caller call
   pub traces : (caller call : ℕ) (d : Partition) (p : ProcessId) → MayCome w (Trace caller call d p)
       → (step w (Trace caller call d p)).turn.answer ≡ NotYet → TraceWaits w p caller call d.0 ⊎ MayBeElsewhere w p caller call d.0
 

@@ -25,7 +25,8 @@ CopiesAlways = (s : Dimensions) (es : List Event) → IsRun s es → CopiesHoldC
 
 -- the message that is delivered next from a process to a living one fits what that holds
 abbrev pub FitsAlways : Type 0
-FitsAlways = (s : Dimensions) (es : List Event) → IsRun s es → (from to : ProcessId) (m : Message) (rest : List Message) → IsProcess s from → IsProcess s to → from ≢ to → Lives (after s es) to
+FitsAlways = (s : Dimensions) (es : List Event) → IsRun s es → (from to : ProcessId) (m : Message) (rest : List Message)
+    → IsProcess s from → IsProcess s to → from ≢ to → Lives (after s es) to
     → link (after s es) from to ≡ m ∷ rest → Fits s from m (process_of (after s es) to)
 
 -- replicas keep each caller's last applied update, and held calls are of logged updates or of those that wait

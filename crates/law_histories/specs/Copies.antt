@@ -11,7 +11,8 @@ use Rattle.group_run.specs.World.{World, after}
 
 -- no living process has a copy for a dead leader
 abbrev pub DeadForgotten : World → Type 0
-DeadForgotten w = (i l : ℕ) → Lives w (ParityNode i) → IsProcess w.shape (ParityNode l) → is_dead w (ParityNode l) ≡ true → Each (λ c. c.leader ≢ l) (process_of w (ParityNode i)).as_row.copies
+DeadForgotten w = (i l : ℕ) → Lives w (ParityNode i) → IsProcess w.shape (ParityNode l) → is_dead w (ParityNode l)
+    ≡ true → Each (λ c. c.leader ≢ l) (process_of w (ParityNode i)).as_row.copies
 
 -- so it is in a drained group, along every run
 abbrev pub ForgottenAlways : Type 0

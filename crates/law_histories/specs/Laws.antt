@@ -25,7 +25,8 @@ HeadedAlways = (s : Dimensions) (es : List Event) → IsRun s es → IsDrained (
 
 -- each partition's head has nothing in its log
 abbrev pub IsFinished : World → Type 0
-IsFinished w = (d r : ℕ) → d < w.shape.k → Heads w d r → (h : Head) × (head_at (process_of w (of_rank d r)) d ≡ Some h) × ((replica_of (process_of w (of_rank d r)) d).log ≡ [])
+IsFinished w = (d r : ℕ) → d < w.shape.k → Heads w d r → (h : Head) × (head_at (process_of w (of_rank d r)) d ≡ Some h)
+    × ((replica_of (process_of w (of_rank d r)) d).log ≡ [])
 
 abbrev pub FinishedAlways : Type 0
 FinishedAlways = (s : Dimensions) (es : List Event) → IsRun s es → IsDrained (after s es) → IsFinished (after s es)

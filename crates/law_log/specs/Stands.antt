@@ -59,5 +59,6 @@ StandsAlways s = (es : List Event) → IsRun s es → Stands s (book_of s es).is
 
 -- a call that a trace told to be gone from a partition has no settled update there, then or later
 abbrev pub GoneStays : Dimensions → Type 0
-GoneStays s = (es : List Event) → IsRun s es → (turn : Turn) (name : CallName) (d : ℕ) → Contains (book_of s es).turns turn → Traces turn.event name d → turn.answer ≡ says.Gone
+GoneStays s = (es : List Event) → IsRun s es → (turn : Turn) (name : CallName) (d : ℕ)
+    → Contains (book_of s es).turns turn → Traces turn.event name d → turn.answer ≡ says.Gone
     → (u : Update) → Contains (at [] (book_of s es).history.settled d) u → update_name u ≢ name

@@ -19,4 +19,5 @@ pub record SentAway (w : World) (caller : ℕ) (op : Asked) (p : ProcessId) : Ty
 
 -- so it is along every run
 abbrev pub AwayAlways : Type 0
-AwayAlways = (s : Dimensions) (es : List Event) → IsRun s es → (caller : ℕ) (op : Asked) (p : ProcessId) → MayCome (after s es) (Ask caller op p) → SentAway (after s es) caller op p
+AwayAlways = (s : Dimensions) (es : List Event) → IsRun s es → (caller : ℕ) (op : Asked) (p : ProcessId)
+    → MayCome (after s es) (Ask caller op p) → SentAway (after s es) caller op p

@@ -31,7 +31,7 @@ use Rattle.scenario_run.specs.Playing.{draining_unless_down}
 use Rattle.scenario_run.proofs.Following.{fault_after, named-line, text_after, turns_after}
 use Rattle.group_eras.specs.Carry.{carried, many_carried}
 use Rattle.group_eras.specs.Eras.{EraEntry, Eras, carrier, era_step, eras_after, first_era, stamp_in}
-use Rattle.group_eras.specs.Promise.{Carries, Deed, Makes, all_done, done}
+use Rattle.group_eras.specs.Promise.{Carries, EraMove, Makes, all_done, done}
 use Rattle.group_eras.proofs.Promises.{logs_only_grow}
 use Rattle.regroup_run.specs.Meaning.{regroup_line}
 use Rattle.regroup_run.specs.Playing.{EraNext, EraPlay, by_call, by_carry, by_drain, by_event, by_regroup, by_trace}
@@ -125,22 +125,22 @@ after-makes : (e : Eras) (es : List Event) → all_done e (map Makes es) ≡ era
 after-makes e [] = refl
 after-makes e (x ∷ xs) = after-makes (era_step e x).eras xs
 
-deeds-grow : (e : Eras) (deeds : List Deed) → (more : List EraEntry) × ((all_done e deeds).log ≡ e.log ++ more)
-deeds-grow e [] = ([], sym (append-nil e.log))
-deeds-grow e (deed ∷ deeds) =
-    let one = logs_only_grow e deed in
-    let rest = deeds-grow (done e deed) deeds in
+moves-grow : (e : Eras) (moves : List EraMove) → (more : List EraEntry) × ((all_done e moves).log ≡ e.log ++ more)
+moves-grow e [] = ([], sym (append-nil e.log))
+moves-grow e (move ∷ moves) =
+    let one = logs_only_grow e move in
+    let rest = moves-grow (done e move) moves in
     (one.0 ++ rest.0, rest.1 ∙ ap (λ (log : List EraEntry). log ++ rest.0) one.1 ∙ append_assoc e.log one.0 rest.0)
 
 -- what a line that goes on comes to
-record Comes (p : EraPlay) (line : List ℕ) (next : Option EraPlay) (deeds : List Deed) (text : List ℕ) : Type 0 where
-  pub tells : LineTells p line deeds text
+record Comes (p : EraPlay) (line : List ℕ) (next : Option EraPlay) (moves : List EraMove) (text : List ℕ) : Type 0 where
+  pub tells : LineTells p line moves text
   pub play : EraPlay
   pub is : next ≡ Some play
-  pub to : play.eras ≡ all_done p.eras deeds
+  pub to : play.eras ≡ all_done p.eras moves
 
 abbrev ComesTo : EraPlay → List ℕ → EraNext → Type 0
-ComesTo p line (Goes next deeds text) = Comes p line next deeds text
+ComesTo p line (Goes next moves text) = Comes p line next moves text
 ComesTo p line Ends = Unit {0}
 ComesTo p line (Refused fault) = Unit {0}
 
@@ -195,7 +195,7 @@ trace-comes p line caller call e = by (nat_lt call (at 0 p.eras.world.asked call
 
 drain-comes : (p : EraPlay) (line : List ℕ) (es : List Event) → line_meaning (shape_in (Some p)) line ≡ Ok Drain → ComesTo p line (by_drain p es)
 drain-comes p line es reads =
-    let more = deeds-grow p.eras (map Makes es) in
+    let more = moves-grow p.eras (map Makes es) in
     let grows : (eras_after p.eras es).log ≡ p.eras.log ++ more.0 = ap (λ (e : Eras). e.log) (sym (after-makes p.eras es)) ∙ more.1 in
     let wrote : List ℕ = codes "drained " ++ decimal (length es) in
     let long : length es ≡ length (map Makes es) = sym (long-map es) in
@@ -293,15 +293,15 @@ comes p line = by (regroups line) where
   by false = read-comes p line (line_meaning (shape_in (Some p)) line) refl
 
 pub era_lines_tell : EraLinesTell
-era_lines_tell p line next deeds text is = let come : Comes p line next deeds text = subst (ComesTo p line) is (comes p line) in come.tells
+era_lines_tell p line next moves text is = let come : Comes p line next moves text = subst (ComesTo p line) is (comes p line) in come.tells
 
 -- ---- a whole script
 
 -- what lines write behind a state
-record Whole (e : Eras) (deeds : List Deed) (text : List ℕ) : Type 0 where
+record Whole (e : Eras) (moves : List EraMove) (text : List ℕ) : Type 0 where
   pub said : List (List ℕ)
   pub logged : List EraEntry
-  pub grows : (all_done e deeds).log ≡ e.log ++ logged
+  pub grows : (all_done e moves).log ≡ e.log ++ logged
   pub tells : TellsLines era_entry_text text logged said
 
 nothing : (e : Eras) → Whole e [] []
@@ -314,14 +314,14 @@ whole p (line ∷ lines) = by (next_of (Some p) line) (comes p line) (λ q. whol
       → Whole p.eras (turns_after next_of next lines) (text_after next_of next lines)
   by Ends come later = nothing p.eras
   by (Refused fault) come later = nothing p.eras
-  by (Goes next deeds text) come later =
+  by (Goes next moves text) come later =
       let one = come.tells in
       let rest : Whole come.play.eras (turns_of_lines next_of next lines) (text_in next_of next lines)
       = subst (λ (q : Option EraPlay). Whole come.play.eras (turns_of_lines next_of q lines) (text_in next_of q lines)) (sym come.is) (later come.play) in
       record {
         said = one.said ++ rest.said;
         logged = one.logged ++ rest.logged;
-        grows = ap (λ (e : Eras). e.log) (done-append p.eras deeds (turns_of_lines next_of next lines))
+        grows = ap (λ (e : Eras). e.log) (done-append p.eras moves (turns_of_lines next_of next lines))
             ∙ ap (λ (e : Eras). (all_done e (turns_of_lines next_of next lines)).log) (sym come.to)
             ∙ rest.grows
             ∙ ap (λ (e : Eras). e.log ++ rest.logged) come.to
@@ -340,13 +340,13 @@ record Begun (lines : List (List ℕ)) : Type 0 where
 begins : (n : ℕ) (lines : List (List ℕ)) → fault_in next_of BadLine n None lines ≡ None → Begun lines
 begins n [] ends = absurd (cc ends)
 begins n (line ∷ lines) ends = by (next_of None line) refl ends (begins (n + 1) lines) where
-  begun : (next : Option EraPlay) (deeds : List Deed) (text : List ℕ) → next_of None line ≡ Goes next deeds text
-      → Opens next deeds text → fault_in next_of BadLine (n + 1) next lines ≡ None
+  begun : (next : Option EraPlay) (moves : List EraMove) (text : List ℕ) → next_of None line ≡ Goes next moves text
+      → Opens next moves text → fault_in next_of BadLine (n + 1) next lines ≡ None
       → (fault_in next_of BadLine (n + 1) None lines ≡ None → Begun lines) → Begun (line ∷ lines)
-  begun next deeds text is opens rest later = either opens.is where
-    deeds_are : (q : Option EraPlay) → next ≡ q → turns_of_lines next_of None (line ∷ lines) ≡ turns_of_lines next_of q lines
-    deeds_are q same = ap (λ (x : EraNext). turns_after next_of x lines) is
-        ∙ ap (λ (ts : List Deed). ts ++ turns_of_lines next_of next lines) opens.quiet
+  begun next moves text is opens rest later = either opens.is where
+    moves_are : (q : Option EraPlay) → next ≡ q → turns_of_lines next_of None (line ∷ lines) ≡ turns_of_lines next_of q lines
+    moves_are q same = ap (λ (x : EraNext). turns_after next_of x lines) is
+        ∙ ap (λ (ts : List EraMove). ts ++ turns_of_lines next_of next lines) opens.quiet
         ∙ ap (λ (x : Option EraPlay). turns_of_lines next_of x lines) same
 
     text_is : (q : Option EraPlay) → next ≡ q → text_in next_of None (line ∷ lines) ≡ text_in next_of q lines
@@ -355,7 +355,7 @@ begins n (line ∷ lines) ends = by (next_of None line) refl ends (begins (n + 1
         ∙ ap (λ (x : Option EraPlay). text_in next_of x lines) same
 
     shape_is : (q : Option EraPlay) → next ≡ q → shape_in (named_in next_of None (line ∷ lines)) ≡ shape_in (named_in next_of q lines)
-    shape_is q same = ap shape_in (named-line next_of line lines (Goes next deeds text) is ∙ ap (λ (x : Option EraPlay). named_in next_of x lines) same)
+    shape_is q same = ap shape_in (named-line next_of line lines (Goes next moves text) is ∙ ap (λ (x : Option EraPlay). named_in next_of x lines) same)
 
     into : (s : Dimensions) (said : List (List ℕ)) (q : Option EraPlay) → next ≡ q
         → TellsLines era_entry_text (text_in next_of q lines)
@@ -365,8 +365,8 @@ begins n (line ∷ lines) ends = by (next_of None line) refl ends (begins (n + 1
     into s said q same tells =
         subst (λ (t : List ℕ). TellsLines era_entry_text t (all_done (first_era (opening s)) (turns_of_lines next_of None (line ∷ lines))).log said)
         (sym (text_is q same))
-        (subst (λ (ds : List Deed). TellsLines era_entry_text (text_in next_of q lines)
-        (all_done (first_era (opening s)) ds).log said) (sym (deeds_are q same)) tells)
+        (subst (λ (ds : List EraMove). TellsLines era_entry_text (text_in next_of q lines)
+        (all_done (first_era (opening s)) ds).log said) (sym (moves_are q same)) tells)
 
     either : (next ≡ None) ⊎ ((s : Dimensions) × IsShape s × (next ≡ Some (record { eras = first_era (opening s); moment = 0 }))) → Begun (line ∷ lines)
     either (inl nothing) =
@@ -393,7 +393,7 @@ begins n (line ∷ lines) ends = by (next_of None line) refl ends (begins (n + 1
       → (fault_in next_of BadLine (n + 1) None lines ≡ None → Begun lines) → Begun (line ∷ lines)
   by Ends is ends later = absurd (never-ends line is)
   by (Refused fault) is ends later = absurd (cc (sym (ap (λ (x : EraNext). fault_after next_of BadLine n x lines) is) ∙ ends))
-  by (Goes next deeds text) is ends later = begun next deeds text is (line-opens line next deeds text is)
+  by (Goes next moves text) is ends later = begun next moves text is (line-opens line next moves text is)
       (sym (ap (λ (x : EraNext). fault_after next_of BadLine n x lines) is) ∙ ends) later
 
 pub era_transcripts_tell : EraTranscriptsTell

@@ -17,7 +17,7 @@ use Rattle.scenario_run.proofs.Running.{parts}
 use Rattle.scenario_run.proofs.Truth.{up}
 use Rattle.group_eras.specs.Carry.{carried}
 use Rattle.group_eras.specs.Items.{bytes_in_partition}
-use Rattle.group_eras.specs.Promise.{Carries, Deed, IsLed}
+use Rattle.group_eras.specs.Promise.{Carries, EraMove, IsLed}
 use Rattle.group_eras.specs.Refusal.{CanCarry}
 use Rattle.regroup_run.specs.Meaning.{regroup_line}
 use Rattle.regroup_run.specs.Playing.{EraPlay, by_carry, by_regroup, has_space, next_by, refuses, regroup_by, shape_in}
@@ -49,16 +49,16 @@ has-space : (w : World) (s : Dimensions) → CanCarry w s → has_space w s ≡ 
 has-space w s can = all-pass (λ d. nat_le (bytes_in_partition w d) (space_of s)) 0 w.shape.k
     (λ d low high. at-most (bytes_in_partition w d) (space_of s) (can.space d (omega (arith, high))))
 
-module _ (p : EraPlay) (s : Dimensions) (led : IsLed p.eras) (next : Option EraPlay) (deeds : List Deed) (text : List ℕ) where
+module _ (p : EraPlay) (s : Dimensions) (led : IsLed p.eras) (next : Option EraPlay) (moves : List EraMove) (text : List ℕ) where
   -- nothing is carried
-  refusal : (reason : List ℕ) → refuses p reason ≡ Goes next deeds text → IsNothingCarried deeds text (reason ++ 10 ∷ [])
-  refusal reason is = let all = parts (Some p) next [] deeds (reason ++ 10 ∷ []) text is in record { nothing = all.1; written = all.2 }
+  refusal : (reason : List ℕ) → refuses p reason ≡ Goes next moves text → IsNothingCarried moves text (reason ++ 10 ∷ [])
+  refusal reason is = let all = parts (Some p) next [] moves (reason ++ 10 ∷ []) text is in record { nothing = all.1; written = all.2 }
 
   tells : (down waits space : Bool) → is_down p.eras.world ≡ down → is_some (next_delivery p.eras.world) ≡ waits → has_space p.eras.world s ≡ space
       → (if down then refuses p (codes "down") else
       (if waits then refuses p (codes "not_drained") else
-      (if space then by_carry p s else refuses p (codes "no_space")))) ≡ Goes next deeds text
-      → RegroupTells p s deeds text
+      (if space then by_carry p s else refuses p (codes "no_space")))) ≡ Goes next moves text
+      → RegroupTells p s moves text
   tells true waits space isdown iswaits isspace is = record {
     down = λ why. refusal (codes "down") is;
     waits = λ why. absurd (why.0 (is-down p.eras.world isdown));
@@ -75,7 +75,7 @@ module _ (p : EraPlay) (s : Dimensions) (led : IsLed p.eras) (next : Option EraP
     down = λ why. absurd (up p.eras.world isdown why);
     waits = λ why. absurd (why.1 ((next-tells p.eras led).0 (no-next (next_delivery p.eras.world) iswaits)));
     long = λ d why. (let fits = all-fit p.eras.world s d.0 isspace why.1.partition in let long = why.1.long in absurd (omega (arith, fits, long)));
-    carries = λ can. (parts (Some (record { eras = carried p.eras s; moment = p.moment })) next (Carries s ∷ []) deeds _ text is).1;
+    carries = λ can. (parts (Some (record { eras = carried p.eras s; moment = p.moment })) next (Carries s ∷ []) moves _ text is).1;
   }
   tells false false false isdown iswaits isspace is = record {
     down = λ why. absurd (up p.eras.world isdown why);
@@ -85,9 +85,9 @@ module _ (p : EraPlay) (s : Dimensions) (led : IsLed p.eras) (next : Option EraP
   }
 
 pub regroups_tell : RegroupsTell
-regroups_tell p line s next deeds text led names is = tells p s led next deeds text (is_down p.eras.world)
+regroups_tell p line s next moves text led names is = tells p s led next moves text (is_down p.eras.world)
     (is_some (next_delivery p.eras.world)) (has_space p.eras.world s) refl refl refl goes where
-      goes : by_regroup p s ≡ Goes next deeds text
+      goes : by_regroup p s ≡ Goes next moves text
       goes = ap (regroup_by p) (sym names.shape)
           ∙ sym (ap (λ (b : Bool). if b then regroup_by p (regroup_line p.eras.world.shape.k (split_words line)) else next_by
           (Some p) (line_meaning (shape_in (Some p)) line)) names.word)

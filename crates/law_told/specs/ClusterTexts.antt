@@ -50,7 +50,8 @@ pub record ClusterLineTells (p : ClusterPlay) (line : List ℕ) (turns : List Cl
   pub tells : TellsLines cluster_entry_text text logged said
 
 abbrev pub ClusterLinesTell : Type 0
-ClusterLinesTell = (p : ClusterPlay) (line : List ℕ) (next : Option ClusterPlay) (turns : List ClusterTurn) (text : List ℕ) → next_of (Some p) line ≡ Goes next turns text → ClusterLineTells p line turns text
+ClusterLinesTell = (p : ClusterPlay) (line : List ℕ) (next : Option ClusterPlay) (turns : List ClusterTurn)
+    (text : List ℕ) → next_of (Some p) line ≡ Goes next turns text → ClusterLineTells p line turns text
 
 -- the lines of a transcript that begin with `=` are the log of all groups at the end
 pub record HasClusterLog (text : List ℕ) : Type 0 where

@@ -40,7 +40,8 @@ gone_on e d n = updates_among e.world.shape.k d (earlier e) + n
 
 -- so an ask is told which update it has to wait for
 abbrev pub PendingsGoOn : Type 0
-PendingsGoOn = (e : Eras) (caller : ℕ) (op : Asked) (p : ProcessId) (d : Partition) (n : ℕ) → IsLed e → MayMake e (Ask caller op p) → (turn_in e (Ask caller op p)).answer ≡ says.Retry (cause.Pending d n)
+PendingsGoOn = (e : Eras) (caller : ℕ) (op : Asked) (p : ProcessId) (d : Partition) (n : ℕ) → IsLed e
+    → MayMake e (Ask caller op p) → (turn_in e (Ask caller op p)).answer ≡ says.Retry (cause.Pending d n)
     → (era_step e (Ask caller op p)).answer ≡ says.Retry (cause.Pending d (gone_on e d.0 n))
 
 -- the partition whose number stands at a place of a process's stamp
@@ -76,7 +77,8 @@ bytes_held (Some h) = length h.item.value
 
 -- and the values of all living keys of partition d together
 abbrev pub HasValueBytes : Eras → ℕ → ℕ → Type 0
-HasValueBytes e d many = (keys : List (List ℕ)) × AreLivingIn e.world.shape.k d (table_over e) keys × (sum_by (λ key. bytes_held ((table_over e).items key)) keys ≡ many)
+HasValueBytes e d many = (keys : List (List ℕ)) × AreLivingIn e.world.shape.k d (table_over e) keys
+    × (sum_by (λ key. bytes_held ((table_over e).items key)) keys ≡ many)
 
 -- the partition that has no space in the new group is the first whose living values are longer
 pub record IsFirstLonger (e : Eras) (space d : ℕ) : Type 0 where

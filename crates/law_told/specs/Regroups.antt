@@ -4,7 +4,7 @@ use Rattle.group_types.specs.Dimensions.{Dimensions}
 use Rattle.group_types.specs.declared.process.Partition.{Partition}
 use Rattle.scenario_text.specs.Words.{split_words}
 use Rattle.scenario_run.specs.Course.{Goes}
-use Rattle.group_eras.specs.Promise.{Carries, Deed, IsLed}
+use Rattle.group_eras.specs.Promise.{Carries, EraMove, IsLed}
 use Rattle.group_eras.specs.Refusal.{CanCarry, IsRefused}
 use Rattle.group_eras.specs.declared.fault.CarryFault.TheVariants.{Down, NoSpace, NotDrained}
 use Rattle.regroup_run.specs.Meaning.{regroup_line}
@@ -16,17 +16,17 @@ pub record NamesShape (p : EraPlay) (line : List ℕ) (s : Dimensions) : Type 0 
   pub shape : regroup_line p.eras.world.shape.k (split_words line) ≡ Ok s
 
 -- nothing is carried, and this is written
-pub record IsNothingCarried (deeds : List Deed) (text reason : List ℕ) : Type 0 where
-  pub nothing : deeds ≡ []
+pub record IsNothingCarried (moves : List EraMove) (text reason : List ℕ) : Type 0 where
+  pub nothing : moves ≡ []
   pub written : text ≡ reason
 
 -- each reason is told where it is true, and where there is none all is carried
-pub record RegroupTells (p : EraPlay) (s : Dimensions) (deeds : List Deed) (text : List ℕ) : Type 0 where
-  pub down : IsRefused p.eras.world s Down → IsNothingCarried deeds text (codes "down\n")
-  pub waits : IsRefused p.eras.world s NotDrained → IsNothingCarried deeds text (codes "not_drained\n")
-  pub long : (d : Partition) → IsRefused p.eras.world s (NoSpace d) → IsNothingCarried deeds text (codes "no_space\n")
-  pub carries : CanCarry p.eras.world s → deeds ≡ Carries s ∷ []
+pub record RegroupTells (p : EraPlay) (s : Dimensions) (moves : List EraMove) (text : List ℕ) : Type 0 where
+  pub down : IsRefused p.eras.world s Down → IsNothingCarried moves text (codes "down\n")
+  pub waits : IsRefused p.eras.world s NotDrained → IsNothingCarried moves text (codes "not_drained\n")
+  pub long : (d : Partition) → IsRefused p.eras.world s (NoSpace d) → IsNothingCarried moves text (codes "no_space\n")
+  pub carries : CanCarry p.eras.world s → moves ≡ Carries s ∷ []
 
 abbrev pub RegroupsTell : Type 0
-RegroupsTell = (p : EraPlay) (line : List ℕ) (s : Dimensions) (next : Option EraPlay) (deeds : List Deed) (text : List ℕ) → IsLed p.eras → NamesShape p line s
-    → next_of (Some p) line ≡ Goes next deeds text → RegroupTells p s deeds text
+RegroupsTell = (p : EraPlay) (line : List ℕ) (s : Dimensions) (next : Option EraPlay) (moves : List EraMove) (text : List ℕ) → IsLed p.eras → NamesShape p line s
+    → next_of (Some p) line ≡ Goes next moves text → RegroupTells p s moves text

@@ -28,7 +28,8 @@ IsCutInto (Err fault) transcript sheet = sheet ≡ Err fault
 
 -- a script, the line `====` and a transcript are read as this script and this transcript, whatever the transcript is
 abbrev pub SheetsAreCut : Type 0
-SheetsAreCut = (script transcript : List ℕ) → IsScriptText script → IsCutInto (script_in 1 None (lines_of script)) transcript (sheet_of (script ++ (codes "====\n" ++ transcript)))
+SheetsAreCut = (script transcript : List ℕ) → IsScriptText script → IsCutInto (script_in 1 None (lines_of script))
+    transcript (sheet_of (script ++ (codes "====\n" ++ transcript)))
 
 -- whether a line begins with these bytes
 abbrev pub begins_with : List ℕ → List ℕ → Bool

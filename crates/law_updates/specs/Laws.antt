@@ -18,4 +18,5 @@ pub record UpdateLeaves (s : Dimensions) (d n : ℕ) (store : Store) (op : Asked
 
 -- so it is of every right update on a store that fits
 abbrev pub RightUpdatesLeave : Type 0
-RightUpdatesLeave = (s : Dimensions) (d n : ℕ) (store : Store) (op : Asked) (u : Update) → StoreFits s store → (right : IsRight s store n op u) → UpdateLeaves s d n store op u right
+RightUpdatesLeave = (s : Dimensions) (d n : ℕ) (store : Store) (op : Asked) (u : Update) → StoreFits s store
+    → (right : IsRight s store n op u) → UpdateLeaves s d n store op u right

@@ -51,4 +51,5 @@ sum_number bytes = from_be_bytes w32 (four (checksum bytes))
 
 -- the frame that bytes are, if their last four are the sum of those before them
 unfoldable pub frame_of_bytes : Dimensions → List ℕ → Option Frame
-frame_of_bytes s bytes = if from_be_bytes w32 (drop (length bytes - 4) bytes) == sum_number (take (length bytes - 4) bytes) then frame_in s (drop 4 (take (length bytes - 4) bytes)) else None
+frame_of_bytes s bytes = if from_be_bytes w32 (drop (length bytes - 4) bytes) == sum_number
+    (take (length bytes - 4) bytes) then frame_in s (drop 4 (take (length bytes - 4) bytes)) else None

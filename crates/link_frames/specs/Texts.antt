@@ -1,5 +1,6 @@
 -- What is read of a text; none where no frame is spelled there.
-use Rattle.std.specs.Prelude.{ℕ, ℤ, pos, negsuc, ◌-◌, ◌^◌, ◌==◌, nat_lt, nat_le, ◌&&◌, Bool, true, false, List, [], ◌∷◌, length, Option, Some, None, if◌then◌else◌}
+use Rattle.std.specs.Prelude.{ℕ, ℤ, pos, negsuc, ◌-◌, ◌^◌, ◌==◌, nat_lt, nat_le, ◌&&◌, Bool, true, false, List, [], ◌∷◌}
+use Rattle.std.specs.Prelude.{length, Option, Some, None, if◌then◌else◌}
 use Rattle.std.specs.Int.{w16, w32, w64, is_power_of_two}
 use Rattle.group_types.specs.Dimensions.{Dimensions, processes_of, space_of}
 use Rattle.group_types.specs.Shape.{most_space}
@@ -14,7 +15,9 @@ use Rattle.group_calls.specs.declared.event.Answer.TheVariants as answers
 use Rattle.group_calls.specs.declared.event.Cause.{Cause}
 use Rattle.group_calls.specs.declared.event.Cause.TheVariants.{Pending, Block}
 use Rattle.group_wire.specs.State as wire
-use Rattle.wire_codec.specs.Reading.{◌>>=◌, Read, nothing, given, one_at, decode_number, made_at, of_two, of_three, of_four, of_five, tested_at, picked, tagged_at, decode_process, key_at, long_at, message_in}
+use Rattle.wire_codec.specs.Reading.{◌>>=◌, Read, nothing, given, one_at, decode_number, made_at, of_two, of_three}
+use Rattle.wire_codec.specs.Reading.{of_four, of_five, tested_at, picked, tagged_at, decode_process, key_at, long_at}
+use Rattle.wire_codec.specs.Reading.{message_in}
 use Rattle.link_frames.specs.declared.hello.Hello.{Hello}
 use Rattle.link_frames.specs.declared.hello.GroupId.{GroupId}
 use Rattle.link_frames.specs.declared.frame.Frame.{Frame}
@@ -40,7 +43,8 @@ flag_at = tagged_at flag_table
 
 -- whether a shape is within its limits
 abbrev pub passes_shape : Dimensions → Bool
-passes_shape s = nat_le 1 s.k && nat_le s.k 16 && nat_le s.m 4 && nat_le 16 s.block && nat_le s.block 65536 && is_power_of_two s.block && nat_le 1 s.blocks && nat_le (space_of s) most_space
+passes_shape s = nat_le 1 s.k && nat_le s.k 16 && nat_le s.m 4 && nat_le 16 s.block && nat_le s.block 65536 &&
+    is_power_of_two s.block && nat_le 1 s.blocks && nat_le (space_of s) most_space
 
 abbrev pub dimensions_by : ℕ → ℕ → ℕ → ℕ → Dimensions
 dimensions_by k m blocks block = record { k = k; m = m; blocks = blocks; block = block }
@@ -75,8 +79,10 @@ abbrev pub item_at : (List ℕ → ℕ → ℤ → List ℕ → Act) → Read Ac
 item_at make = of_four make key_at (decode_number w32) signed_at value_at
 
 abbrev pub act_table : List (ℕ × Read Act)
-act_table = (0, made_at asks.Get key_at) ∷ (1, item_at asks.Set) ∷ (2, item_at asks.Add) ∷ (3, item_at asks.Replace) ∷ (4, cas_at) ∷ (5, made_at asks.Delete key_at) ∷ (6, touch_at)
-    ∷ (7, of_two asks.Append key_at value_at) ∷ (8, of_two asks.Prepend key_at value_at) ∷ (9, of_two asks.Incr key_at (decode_number w64)) ∷ (10, of_two asks.Decr key_at (decode_number w64)) ∷ []
+act_table = (0, made_at asks.Get key_at) ∷ (1, item_at asks.Set) ∷ (2, item_at asks.Add) ∷ (3, item_at asks.Replace)
+    ∷ (4, cas_at) ∷ (5, made_at asks.Delete key_at) ∷ (6, touch_at)
+    ∷ (7, of_two asks.Append key_at value_at) ∷ (8, of_two asks.Prepend key_at value_at)
+      ∷ (9, of_two asks.Incr key_at (decode_number w64)) ∷ (10, of_two asks.Decr key_at (decode_number w64)) ∷ []
 
 unfoldable pub act_at : Read Act
 act_at = tagged_at act_table
@@ -103,7 +109,8 @@ unfoldable pub value_reply_at : Read Reply
 value_reply_at = of_three value_reply (decode_number w32) (decode_number w64) value_at
 
 abbrev pub reply_table : List (ℕ × Read Reply)
-reply_table = (0, value_reply_at) ∷ (1, given says.Miss) ∷ (2, given says.Stored) ∷ (3, given says.NotStored) ∷ (4, given says.Exists) ∷ (5, given says.NotFound) ∷ (6, given says.Deleted) ∷ (7, given says.Touched)
+reply_table = (0, value_reply_at) ∷ (1, given says.Miss) ∷ (2, given says.Stored) ∷ (3, given says.NotStored)
+    ∷ (4, given says.Exists) ∷ (5, given says.NotFound) ∷ (6, given says.Deleted) ∷ (7, given says.Touched)
     ∷ (8, made_at says.Number (decode_number w64)) ∷ (9, given says.NotNumber) ∷ (10, given says.TooLarge) ∷ []
 
 unfoldable pub reply_at : Read Reply
@@ -119,8 +126,11 @@ unfoldable pub cause_at : Read Cause
 cause_at = tagged_at cause_table
 
 abbrev pub answer_table : List (ℕ × Read Answer)
-answer_table = (0, made_at answers.Reply reply_at) ∷ (1, made_at answers.Ticket (decode_number w64)) ∷ (2, given answers.NotYet) ∷ (3, given answers.NoSpace) ∷ (4, made_at answers.Retry cause_at) ∷ (5, given answers.Moved)
-    ∷ (6, given answers.Lost) ∷ (7, given answers.Down) ∷ (8, given answers.Idle) ∷ (9, given answers.Stranger) ∷ (10, given answers.Done) ∷ (11, given answers.AlreadyDead) ∷ (12, given answers.Gone)
+answer_table = (0, made_at answers.Reply reply_at) ∷ (1, made_at answers.Ticket (decode_number w64))
+    ∷ (2, given answers.NotYet) ∷ (3, given answers.NoSpace) ∷ (4, made_at answers.Retry cause_at)
+    ∷ (5, given answers.Moved)
+    ∷ (6, given answers.Lost) ∷ (7, given answers.Down) ∷ (8, given answers.Idle) ∷ (9, given answers.Stranger)
+      ∷ (10, given answers.Done) ∷ (11, given answers.AlreadyDead) ∷ (12, given answers.Gone)
     ∷ (13, made_at answers.Stale (decode_number w64)) ∷ []
 
 unfoldable pub told_answer_at : Read Answer
@@ -140,7 +150,9 @@ said_at s = made_at said_names (tested_at (λ names. nat_lt names (2 ^ processes
 
 -- the kinds that are not messages
 abbrev pub link_kinds : Dimensions → List (ℕ × Read Frame)
-link_kinds s = (11, made_at carries.Hello hello_at) ∷ (12, said_at s) ∷ (13, made_at Ping (decode_number w64)) ∷ (14, made_at Pong (decode_number w64)) ∷ (15, made_at Request ask_at) ∷ (16, made_at Request trace_at) ∷ (17, made_at Told telling_at) ∷ []
+link_kinds s = (11, made_at carries.Hello hello_at) ∷ (12, said_at s) ∷ (13, made_at Ping (decode_number w64))
+    ∷ (14, made_at Pong (decode_number w64)) ∷ (15, made_at Request ask_at) ∷ (16, made_at Request trace_at)
+    ∷ (17, made_at Told telling_at) ∷ []
 
 unfoldable pub frame_at : Dimensions → Read Frame
 frame_at s = tagged_at (link_kinds s)

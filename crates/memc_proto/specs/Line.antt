@@ -85,12 +85,17 @@ with_last last line = if nat_le (length last) 1 then line else refused Unknown
 
 -- `<key> <flags> <exptime> <bytes> [noreply]`
 abbrev pub store_line : Verb → List (List ℕ) → Line
-store_line verb (key ∷ flags ∷ exptime ∷ bytes ∷ last) = with_last last (storing (number_word Bytes (2 ^ 32) bytes) (store_of verb key (sizes_of flags exptime bytes) (Ok 0) last))
+store_line verb (key ∷ flags ∷ exptime ∷ bytes ∷ last) =
+    with_last last
+    (storing (number_word Bytes (2 ^ 32) bytes) (store_of verb key (sizes_of flags exptime bytes) (Ok 0) last))
 store_line verb _ = refused Unknown
 
 -- `<key> <flags> <exptime> <bytes> <cas unique> [noreply]`
 abbrev pub cas_line : List (List ℕ) → Line
-cas_line (key ∷ flags ∷ exptime ∷ bytes ∷ unique ∷ last) = with_last last (storing (number_word Bytes (2 ^ 32) bytes) (store_of verb.Cas key (sizes_of flags exptime bytes) (number_word CasUnique (2 ^ 64) unique) last))
+cas_line (key ∷ flags ∷ exptime ∷ bytes ∷ unique ∷ last) =
+    with_last last
+    (storing (number_word Bytes (2 ^ 32) bytes)
+    (store_of verb.Cas key (sizes_of flags exptime bytes) (number_word CasUnique (2 ^ 64) unique) last))
 cas_line _ = refused Unknown
 
 -- a deletion

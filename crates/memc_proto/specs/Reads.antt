@@ -22,4 +22,5 @@ is_quit _ = false
 -- then the rest, which has no whole request at its front. After a quit nothing is read
 abbrev pub Reads : List ℕ → List Request → List ℕ → Type 0
 Reads input [] rest = (input ≡ rest) × HasNoRequest rest
-Reads input (request ∷ requests) rest = (after : List ℕ) × Begins input request after × MatchBool (is_quit request) ((requests ≡ []) × (after ≡ rest)) (Reads after requests rest)
+Reads input (request ∷ requests) rest = (after : List ℕ) × Begins input request after
+    × MatchBool (is_quit request) ((requests ≡ []) × (after ≡ rest)) (Reads after requests rest)

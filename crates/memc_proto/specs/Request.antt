@@ -26,7 +26,8 @@ block_length (Skips _ len) = len
 
 -- what a store's data block makes of it: the call with the value, if a line end is behind the value
 abbrev pub store_request : Store → List ℕ → Request
-store_request store block = if bytes_eq (drop store.len block) (13 ∷ 10 ∷ []) then Change (act_of store (take store.len block)) store.noreply else Refused BadChunk
+store_request store block = if bytes_eq (drop store.len block) (13 ∷ 10 ∷ []) then Change
+    (act_of store (take store.len block)) store.noreply else Refused BadChunk
 
 -- the request of what a line says and the bytes behind it
 abbrev pub request_of : Line → List ℕ → Request

@@ -25,7 +25,8 @@ cas_text false cas = []
 
 -- an item that was found
 abbrev pub item_text : List ℕ → Bool → Item → List ℕ
-item_text key with_cas item = line (codes "VALUE " ++ key ++ next_number item.flags ++ next_number (length item.value) ++ cas_text with_cas item.cas) ++ line item.value
+item_text key with_cas item = line (codes "VALUE " ++ key ++ next_number item.flags ++ next_number (length item.value)
+    ++ cas_text with_cas item.cas) ++ line item.value
 
 -- the reply to a call on a key
 abbrev pub reply_text : List ℕ → Bool → Reply → List ℕ

@@ -1,5 +1,6 @@
 -- Pages, seen as a finite map from block numbers to blocks of bytes.
-use Rattle.std.specs.Prelude.{◌≡◌, ◌≢◌, ℕ, ◌+◌, ◌*◌, ◌/◌, ◌%◌, ◌<◌, ◌≤◌, ◌==◌, if◌then◌else◌, List, [], ◌∷◌, length, map, replicate, slice_index_or, bit_xor, ◌⊎◌, Option, Some, None, IsSome}
+use Rattle.std.specs.Prelude.{◌≡◌, ◌≢◌, ℕ, ◌+◌, ◌*◌, ◌/◌, ◌%◌, ◌<◌, ◌≤◌, ◌==◌, if◌then◌else◌, List, [], ◌∷◌, length}
+use Rattle.std.specs.Prelude.{map, replicate, slice_index_or, bit_xor, ◌⊎◌, Option, Some, None, IsSome}
 use Rattle.field_byte.specs.Field.{product}
 use Rattle.page_map.specs.declared.page.Page.{Page}
 

@@ -15,7 +15,7 @@ use Rattle.group_run.specs.Receiving.{take_over_if, taken_over, takes_over}
 use Rattle.group_run.specs.Replica.{Replica, empty_replica}
 use Rattle.group_run.specs.Rows.{parity_number}
 use Rattle.head_service.specs.Serving.{Serving}
-use Rattle.process_service.specs.Noticing.{adoption_if, adoptions, heir_at, heir_if, heirs, is_due, is_taken_over}
+use Rattle.process_service.specs.Noticing.{adoption_if, adoptions, successor_at, successor_if, successors, is_due, is_taken_over}
 use Rattle.process_service.specs.Steps.{after_mourning}
 
 module _ (s : Dimensions) where
@@ -122,12 +122,12 @@ module _ (s : Dimensions) where
       ∙ ap (λ (x : ProcessId). adoption_if (is_due p.known x e (at None p.heads e)) s p.known x e (replica p e)) same.name
 
   -- nor does its new head change
-  pub heir-same : (d e : ℕ) (p q : Process) → e ≢ d → IsSameBut d p q → heir_at (view q) e ≡ heir_at (view p) e
-  heir-same d e p q other same =
-      ap (λ (x : Replica). heir_if (is_taken_over (view q) e) s q.name x) (same.other e other)
-      ∙ ap (λ (x : Option Head). heir_if (is_due q.known q.name e x) s q.name (replica p e)) (same.head e other)
-      ∙ ap (λ (x : Membership). heir_if (is_due x q.name e (at None p.heads e)) s q.name (replica p e)) same.known
-      ∙ ap (λ (x : ProcessId). heir_if (is_due p.known x e (at None p.heads e)) s x (replica p e)) same.name
+  pub successor-same : (d e : ℕ) (p q : Process) → e ≢ d → IsSameBut d p q → successor_at (view q) e ≡ successor_at (view p) e
+  successor-same d e p q other same =
+      ap (λ (x : Replica). successor_if (is_taken_over (view q) e) s q.name x) (same.other e other)
+      ∙ ap (λ (x : Option Head). successor_if (is_due q.known q.name e x) s q.name (replica p e)) (same.head e other)
+      ∙ ap (λ (x : Membership). successor_if (is_due x q.name e (at None p.heads e)) s q.name (replica p e)) same.known
+      ∙ ap (λ (x : ProcessId). successor_if (is_due p.known x e (at None p.heads e)) s x (replica p e)) same.name
 
   told-later : (d n a : ℕ) (p q : Process) → d < a → IsSameBut d p q → adoptions (view q) (range_with_len a n) ≡ adoptions (view p) (range_with_len a n)
   told-later d zero a p q later same = refl
@@ -179,16 +179,16 @@ module _ (s : Dimensions) where
       ∙ judged-adoptions (range_with_len 0 s.k) p q (judges-keep (range_with_len 0 s.k) p)
 
   -- judging leaves the new heads
-  judged-heir : (e : ℕ) (p q : Process) → KeepsUnheaded p q → heir_at (view q) e ≡ heir_at (view p) e
-  judged-heir e p q keeps = ap (λ (due : Bool). heir_if due s q.name (replica q e)) (judged-due e p q keeps) ∙ by (is_taken_over (view p) e) refl where
-    by : (due : Bool) → is_taken_over (view p) e ≡ due → heir_if due s q.name (replica q e) ≡ heir_if due s p.name (replica p e)
+  judged-successor : (e : ℕ) (p q : Process) → KeepsUnheaded p q → successor_at (view q) e ≡ successor_at (view p) e
+  judged-successor e p q keeps = ap (λ (due : Bool). successor_if due s q.name (replica q e)) (judged-due e p q keeps) ∙ by (is_taken_over (view p) e) refl where
+    by : (due : Bool) → is_taken_over (view p) e ≡ due → successor_if due s q.name (replica q e) ≡ successor_if due s p.name (replica p e)
     by false is = refl
     by true is =
-        ap (heir_if true s q.name) (keeps.unheaded e (due-unheaded p.known p.name e (at None p.heads e) is))
-        ∙ ap (λ (x : ProcessId). heir_if true s x (replica p e)) keeps.name
+        ap (successor_if true s q.name) (keeps.unheaded e (due-unheaded p.known p.name e (at None p.heads e) is))
+        ∙ ap (λ (x : ProcessId). successor_if true s x (replica p e)) keeps.name
 
-  pub judged-heirs : (ds : List ℕ) (p q : Process) → KeepsUnheaded p q → heirs (view q) ds ≡ heirs (view p) ds
-  judged-heirs [] p q keeps = refl
-  judged-heirs (d ∷ ds) p q keeps =
-      ap (λ (x : Option Head). x ∷ heirs (view q) ds) (judged-heir d p q keeps)
-      ∙ ap (λ (xs : List (Option Head)). heir_at (view p) d ∷ xs) (judged-heirs ds p q keeps)
+  pub judged-successors : (ds : List ℕ) (p q : Process) → KeepsUnheaded p q → successors (view q) ds ≡ successors (view p) ds
+  judged-successors [] p q keeps = refl
+  judged-successors (d ∷ ds) p q keeps =
+      ap (λ (x : Option Head). x ∷ successors (view q) ds) (judged-successor d p q keeps)
+      ∙ ap (λ (xs : List (Option Head)). successor_at (view p) d ∷ xs) (judged-successors ds p q keeps)

@@ -20,9 +20,9 @@ is_due known (DataNode _) d head = false
 is_due known (ParityNode i) d head = not (is_some head) && knows_dead known (DataNode d) && list_all (λ j. knows_dead known (ParityNode j)) (range_with_len 0 i)
 
 -- the head that it is then, and what it tells the others
-abbrev pub heir_if : Bool → Dimensions → ProcessId → Replica → Option Head
-heir_if true s name r = Some (new_head s (suc (parity_number name)) (last_of r))
-heir_if false s name r = None
+abbrev pub successor_if : Bool → Dimensions → ProcessId → Replica → Option Head
+successor_if true s name r = Some (new_head s (suc (parity_number name)) (last_of r))
+successor_if false s name r = None
 
 abbrev pub adoption_if : Bool → Dimensions → Membership → ProcessId → ℕ → Replica → List Sent
 adoption_if true s known name d r = to_parities (other_parities s.m name known) (tells.Adopt (rank (suc (parity_number name))) (partition d) r.applied r.log)
@@ -33,12 +33,12 @@ abbrev pub is_taken_over : Serving → ℕ → Bool
 is_taken_over v d = is_due v.known v.name d (at None v.heads d)
 
 -- the new head of a partition, if it is taken over
-abbrev pub heir_at : Serving → ℕ → Option Head
-heir_at v d = heir_if (is_taken_over v d) v.shape v.name (at empty_replica v.replicas d)
+abbrev pub successor_at : Serving → ℕ → Option Head
+successor_at v d = successor_if (is_taken_over v d) v.shape v.name (at empty_replica v.replicas d)
 
 -- the new heads of these partitions, and what is told of them, in order
-abbrev pub heirs : Serving → List ℕ → List (Option Head)
-heirs v ds = map (heir_at v) ds
+abbrev pub successors : Serving → List ℕ → List (Option Head)
+successors v ds = map (successor_at v) ds
 
 abbrev pub adoptions : Serving → List ℕ → List Sent
 adoptions v ds = flat_map (λ d. adoption_if (is_taken_over v d) v.shape v.known v.name d (at empty_replica v.replicas d)) ds
@@ -54,5 +54,5 @@ bereaved dead v = record v { known = with_dead v.known dead }
 -- what was made for the notice of a death is what a process needs that knows of it
 pub record IsPrepared (v : Serving) (known : Membership) (heads : List (Option Head)) (room : ℕ) : Type 0 where
   pub known_is : known ≡ v.known
-  pub heads_are : heads ≡ heirs v (range_with_len 0 v.shape.k)
+  pub heads_are : heads ≡ successors v (range_with_len 0 v.shape.k)
   pub room_is : room ≡ waiting v.replicas

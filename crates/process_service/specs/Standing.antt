@@ -63,7 +63,8 @@ at_start s name = record {
 }
 
 -- what it keeps is of each of the k partitions and of this shape; a head counts m acknowledgements, and no key is ready without need
-pub record IsServingState (s : Dimensions) (name : ProcessId) (known : Membership) (replicas : List ReplicaState) (ranks : ℕ) (heads : List (Option Head)) (held : ℕ) : Type 0 where
+pub record IsServingState (s : Dimensions) (name : ProcessId) (known : Membership) (replicas : List ReplicaState)
+    (ranks : ℕ) (heads : List (Option Head)) (held : ℕ) : Type 0 where
   pub process : IsProcess s name
   pub members : known.shape ≡ s
   pub replicas_long : length replicas ≡ s.k

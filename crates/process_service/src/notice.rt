@@ -43,7 +43,7 @@ impl Service {
         };
         'partitions: for d in 0..self.shape.k() {
             let due = self.is_due(known, Partition(d));
-            let head = self.heir_if(due, Partition(d))?;
+            let head = self.successor_if(due, Partition(d))?;
             notice.heads.push(head)?;
             self.adoption_if(due, known, Partition(d), sent)?;
         }

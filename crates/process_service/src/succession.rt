@@ -5,11 +5,11 @@ ghost use Rattle.group_types.specs.declared.process.ProcessId.TheVariants.{Parit
 ghost use Rattle.membership.specs.Members.{knows_dead};
 ghost use Rattle.group_run.specs.Replica.{empty_replica};
 ghost use Rattle.group_run.specs.Rows.{parity_number};
-ghost use Rattle.process_service.specs.Noticing.{adoption_if, heir_if, is_due};
+ghost use Rattle.process_service.specs.Noticing.{adoption_if, successor_if, is_due};
 
 use crate::service::Service;
 use group_types::{Partition, ProcessId, Rank};
-use head_service::take_over::{adoption, heir};
+use head_service::take_over::{adoption, successor};
 use head_service::{Head, Peers, Sent};
 use membership::Members;
 use std::alloc::AllocError;
@@ -32,20 +32,20 @@ impl Service {
     }
 
     // The head that the process is then.
-    pub(crate) fn heir_if(
+    pub(crate) fn successor_if(
         &self,
         due: bool,
         partition: Partition,
     ) -> Result<Option<Head>, AllocError>
         requires { partition.0 < self.now.shape.k }
-        ensures { IfOk result (λ head. head ≡ heir_if due self.now.shape self.now.name
+        ensures { IfOk result (λ head. head ≡ successor_if due self.now.shape self.now.name
             (at empty_replica self.now.replicas partition.0)) }
     {
         if !due {
             return Ok(None);
         }
         let replica = &self.replicas[partition.0 as usize];
-        let head = heir(self.alloc, self.shape, self.next_rank(), replica)?;
+        let head = successor(self.alloc, self.shape, self.next_rank(), replica)?;
         Ok(Some(head))
     }
 

@@ -3,7 +3,7 @@ ghost use Rattle.std.specs.List.{range_with_len};
 ghost use Rattle.group_run.specs.Applying.{for_each};
 ghost use Rattle.group_run.specs.Receiving as machine;
 ghost use Rattle.head_service.specs.Serving.{serving};
-ghost use Rattle.process_service.specs.Noticing.{heir_at, heirs, waiting};
+ghost use Rattle.process_service.specs.Noticing.{successor_at, successors, waiting};
 ghost use Rattle.process_service.specs.Standing.{IsBeneath, StaysOver};
 ghost use Rattle.process_service.specs.Steps.{HasMade};
 
@@ -20,7 +20,7 @@ impl Service {
         below: &mut B,
         settled: &mut Vec<Settlement>,
     )
-        requires heads { heads.old.items ≡ heirs self.old (range_with_len 0 self.old.shape.k) }
+        requires heads { heads.old.items ≡ successors self.old (range_with_len 0 self.old.shape.k) }
         requires beneath { IsBeneath self.old (B.storage below.old) }
         requires room { vec_len settled.old + waiting self.old.replicas ≤ vec_capacity settled.old }
         ensures stays { StaysOver self.old self.new (B.storage below.old) (B.storage below.new) }
@@ -43,7 +43,7 @@ impl Service {
         settled: &mut Vec<Settlement>,
     )
         requires partition { partition.0 < self.old.shape.k }
-        requires head { head ≡ heir_at self.old partition.0 }
+        requires head { head ≡ successor_at self.old partition.0 }
         requires beneath { IsBeneath self.old (B.storage below.old) }
         requires room { vec_len settled.old + waiting self.old.replicas ≤ vec_capacity settled.old }
         ensures stays { StaysOver self.old self.new (B.storage below.old) (B.storage below.new) }

@@ -11,7 +11,7 @@ use Rattle.group_run.specs.Meaning.{count_logged}
 use Rattle.group_run.specs.World.{opening}
 use Rattle.group_eras.specs.Carry.{carried, read_era, reading, setting}
 use Rattle.group_eras.specs.Eras.{Eras, era_step, eras_after, first_era, next_era}
-use Rattle.group_eras.specs.Promise.{Begins, Carries, Deed, IsLed, Makes, MayAllBeDone, MayBeDone, all_done, done}
+use Rattle.group_eras.specs.Promise.{Begins, Carries, EraMove, IsLed, Makes, MayAllBeDone, MayBeDone, all_done, done}
 
 abbrev pub IsSized : Eras → Type 0
 IsSized e = length e.bases ≡ e.world.shape.k
@@ -32,17 +32,17 @@ carried-sized e s same =
     after-sized (next_era (read_era e) s) (setting (opening s) (reading e.world).parcels)
     (next-sized (read_era e) s (same ∙ sym (ap (λ (t : Dimensions). t.k) (after-shape e (reading e.world).events))))
 
-done-sized : (e : Eras) (deed : Deed) → MayBeDone e deed → IsSized e → IsSized (done e deed)
+done-sized : (e : Eras) (move : EraMove) → MayBeDone e move → IsSized e → IsSized (done e move)
 done-sized e (Makes x) may sized = sized
 done-sized e (Carries s) may sized = carried-sized e s may.0.partitions
 done-sized e (Begins many) may sized = after-sized e (take many (reading e.world).events) sized
 
-all-sized : (e : Eras) (deeds : List Deed) → MayAllBeDone e deeds → IsSized e → IsSized (all_done e deeds)
+all-sized : (e : Eras) (moves : List EraMove) → MayAllBeDone e moves → IsSized e → IsSized (all_done e moves)
 all-sized e [] may sized = sized
-all-sized e (deed ∷ deeds) may sized = all-sized (done e deed) deeds may.1 (done-sized e deed may.0 sized)
+all-sized e (move ∷ moves) may sized = all-sized (done e move) moves may.1 (done-sized e move may.0 sized)
 
 pub led-sized : (e : Eras) → IsLed e → IsSized e
-led-sized e led = subst IsSized (sym led.is) (all-sized (first_era (opening led.s)) led.deeds led.may (length-replicate led.s.k 0))
+led-sized e led = subst IsSized (sym led.is) (all-sized (first_era (opening led.s)) led.moves led.may (length-replicate led.s.k 0))
 
 low-all : (most : ℕ) (bases : List ℕ) → ((d : ℕ) → d < length bases → at 0 bases d < most) → All (λ base. base < most) bases
 low-all most [] each = All-nil (λ base. base < most)

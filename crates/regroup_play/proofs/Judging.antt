@@ -22,7 +22,7 @@ use Rattle.scenario_text.specs.declared.line.LineFault.TheVariants as line
 use Rattle.group_eras.specs.Carry.{carried, many_carried}
 use Rattle.group_eras.specs.Eras.{Eras}
 use Rattle.group_eras.specs.Items.{bytes_in_partition}
-use Rattle.group_eras.specs.Promise.{Carries, Deed, IsEra, IsLed}
+use Rattle.group_eras.specs.Promise.{Carries, EraMove, IsEra, IsLed}
 use Rattle.group_eras.specs.Refusal.{CanCarry, IsFirstTooLong, IsRefused}
 use Rattle.group_eras.specs.declared.fault.CarryFault.{CarryFault}
 use Rattle.group_eras.specs.declared.fault.CarryFault.TheVariants.{Down, NoSpace, NotDrained, Want}
@@ -132,7 +132,7 @@ module _ (p : EraPlay) (s : Dimensions) where
   want-done Ends now = tt
   want-done (Refused fault) now = tt
 
-  written-done : (next : EraNext) (now : EraPlay) (turns : List Deed) (text wanted : List ℕ)
+  written-done : (next : EraNext) (now : EraPlay) (turns : List EraMove) (text wanted : List ℕ)
       (r : Result (Option (List ℕ)) LineFault) → next ≡ Goes (Some now) turns text → wanted ≡ text
       → IsWrittenAs wanted r
       → HasDone (Some p) next (Some now) r

@@ -12,7 +12,7 @@ use Rattle.scenario_play.specs.declared.status.Status.{Status}
 use Rattle.scenario_play.specs.declared.status.Status.TheVariants as status
 use Rattle.scenario_play.proofs.Treating as treating
 use Rattle.group_eras.specs.Eras.{Eras, first_era}
-use Rattle.group_eras.specs.Promise.{Deed, IsLed}
+use Rattle.group_eras.specs.Promise.{EraMove, IsLed}
 use Rattle.regroup_run.specs.Playing.{EraNext, EraPlay, next_of}
 use Rattle.regroup_run.specs.Promises.{KeepsPromises}
 use Rattle.regroup_run.specs.Script.{first_fault}
@@ -22,33 +22,33 @@ use Rattle.regroup_run.proofs.Running as running
 use Rattle.regroup_play.specs.Doing.{HasDone, ErasGoOn, IsReadyEras, end_in, log_len}
 use Rattle.regroup_play.specs.Language.{era_scripts}
 
--- deeds that led to eras, from their first shape
+-- moves that led to eras, from their first shape
 pub led-to : (e : Eras) → (led : IsLed e) → leading.IsLedTo led.s e
-led-to e led = record { limits = led.limits; deeds = led.deeds; leads = record { may = led.may; to = sym led.is } }
+led-to e led = record { limits = led.limits; moves = led.moves; leads = record { may = led.may; to = sym led.is } }
 
 ready-to : (p : EraPlay) → (ready : IsReadyEras p) → running.IsReady ready.led.s p
 ready-to p ready = record { led = led-to p.eras ready.led; moment = ready.moment }
 
 -- a line that goes on
 record Went (before now : Option EraPlay) (bytes text : List ℕ) : Type 0 where
-  deeds : List Deed
-  next : next_of before bytes ≡ Goes now deeds text
+  moves : List EraMove
+  next : next_of before bytes ≡ Goes now moves text
 
 went_by : (before : Option EraPlay) (next : EraNext) (now : Option EraPlay) (text : List ℕ)
-    → HasDone before next now (Ok (Some text)) → (deeds : List Deed) × (next ≡ Goes now deeds text)
-went_by before (Goes play deeds written) now text done = (
-  deeds,
-  ap (λ (p : Option EraPlay). Goes p deeds written) (sym done.0) ∙ ap (λ (xs : List ℕ). Goes now deeds xs)
+    → HasDone before next now (Ok (Some text)) → (moves : List EraMove) × (next ≡ Goes now moves text)
+went_by before (Goes play moves written) now text done = (
+  moves,
+  ap (λ (p : Option EraPlay). Goes p moves written) (sym done.0) ∙ ap (λ (xs : List ℕ). Goes now moves xs)
       (sym done.1),
 )
 went_by before Ends now text done = absurd done
 went_by before (Refused fault) now text done = absurd done
 
 went : (before now : Option EraPlay) (bytes text : List ℕ) → HasDone before (next_of before bytes) now (Ok (Some text)) → Went before now bytes text
-went before now bytes text done = let by = went_by before (next_of before bytes) now text done in record { deeds = by.0; next = by.1 }
+went before now bytes text done = let by = went_by before (next_of before bytes) now text done in record { moves = by.0; next = by.1 }
 
 ended : (before : Option EraPlay) (next : EraNext) (now : Option EraPlay) → HasDone before next now (Ok None) → (next ≡ Ends) × (now ≡ before)
-ended before (Goes play deeds text) now done = absurd done
+ended before (Goes play moves text) now done = absurd done
 ended before Ends now done = (refl, done)
 ended before (Refused fault) now done = absurd done
 
@@ -57,14 +57,14 @@ refused : (before : Option EraPlay) (next : EraNext) (now : Option EraPlay) (cau
 refused before next now Want done = inl refl
 refused before (Refused fault) now BadLine done = inr (ap Refused (sym done))
 refused before (Refused fault) now (BadShape bad) done = inr (ap Refused (sym done))
-refused before (Goes play deeds text) now BadLine done = absurd done
-refused before (Goes play deeds text) now (BadShape bad) done = absurd done
+refused before (Goes play moves text) now BadLine done = absurd done
+refused before (Goes play moves text) now (BadShape bad) done = absurd done
 refused before Ends now BadLine done = absurd done
 refused before Ends now (BadShape bad) done = absurd done
 
 -- the script may go on
-opens-ready : (now : Option EraPlay) (deeds : List Deed) (text : List ℕ) → running.Opens now deeds text → ErasGoOn now
-opens-ready now deeds text opens = by opens.is where
+opens-ready : (now : Option EraPlay) (moves : List EraMove) (text : List ℕ) → running.Opens now moves text → ErasGoOn now
+opens-ready now moves text opens = by opens.is where
   by : (now ≡ None) ⊎ ((s : Dimensions) × IsShape s × (now ≡ Some (record { eras = first_era (opening s); moment = 0 }))) → ErasGoOn now
   by (inl none) = subst ErasGoOn (sym none) tt
   by (inr (s, limits, some)) =
@@ -73,18 +73,18 @@ opens-ready now deeds text opens = by opens.is where
         moment = omega arith;
       })
 
-goes-ready : (p : EraPlay) (now : Option EraPlay) (deeds : List Deed) → IsReadyEras p → running.GoesOn p now deeds → ErasGoOn now
-goes-ready p now deeds ready on =
+goes-ready : (p : EraPlay) (now : Option EraPlay) (moves : List EraMove) → IsReadyEras p → running.GoesOn p now moves → ErasGoOn now
+goes-ready p now moves ready on =
     subst ErasGoOn (sym on.is)
     (record {
       led = leading.is-led ready.led.s on.play.eras
-          (leading.led-on ready.led.s p.eras on.play.eras deeds (led-to p.eras ready.led) on.leads);
+          (leading.led-on ready.led.s p.eras on.play.eras moves (led-to p.eras ready.led) on.leads);
       moment = on.moment;
     })
 
 ready-on : (before now : Option EraPlay) (bytes text : List ℕ) → ErasGoOn before → Went before now bytes text → ErasGoOn now
-ready-on None now bytes text ready w = opens-ready now w.deeds text (running.line-opens bytes now w.deeds text w.next)
-ready-on (Some p) now bytes text ready w = goes-ready p now w.deeds ready (running.line-leads ready.led.s p bytes now w.deeds text (ready-to p ready) w.next)
+ready-on None now bytes text ready w = opens-ready now w.moves text (running.line-opens bytes now w.moves text w.next)
+ready-on (Some p) now bytes text ready w = goes-ready p now w.moves ready (running.line-leads ready.led.s p bytes now w.moves text (ready-to p ready) w.next)
 
 -- what a player over eras tells
 abbrev pub tells : Telling (Option EraPlay)
@@ -94,24 +94,24 @@ tells = telling (λ play lines. text_in next_of play lines)
 
 -- the same without its entries
 abbrev bare : Telling (Option EraPlay)
-bare = treating.tells next_of BadLine told_at (λ play. 0) (λ deeds. 0) (λ n play. ErasGoOn play)
+bare = treating.tells next_of BadLine told_at (λ play. 0) (λ moves. 0) (λ n play. ErasGoOn play)
 
 end-on : (before : Option EraPlay) (line : List ℕ) (lines : List (List ℕ)) (next : EraNext) → next_of before line ≡ next
-    → end_in before (line ∷ lines) ≡ elim next [ Goes play deeds text ↦ end_in play lines | Ends ↦ before | Refused fault ↦ before ]
-end-on before line lines next is = ap (λ (x : EraNext). elim x [ Goes play deeds text ↦ end_in play lines | Ends ↦ before | Refused fault ↦ before ]) is
+    → end_in before (line ∷ lines) ≡ elim next [ Goes play moves text ↦ end_in play lines | Ends ↦ before | Refused fault ↦ before ]
+end-on before line lines next is = ap (λ (x : EraNext). elim x [ Goes play moves text ↦ end_in play lines | Ends ↦ before | Refused fault ↦ before ]) is
 
 module _ (n : ℕ) (before now : Option EraPlay) (bytes : List ℕ) where
   pub treated-on : (text : List ℕ) → ErasGoOn before → HasDone before (next_of before bytes) now (Ok (Some text))
       → HasTreatedLine tells n before now bytes (Ok (Some text))
   treated-on text ready done =
       let on : Went before now bytes text = went before now bytes text done in
-      let goes : ScriptGoesOn bare n before now bytes text = treating.goes-on next_of BadLine told_at (λ play. 0) (λ deeds. 0)
-      (λ n play. ErasGoOn play) n before now bytes on.deeds text on.next (λ more. refl) refl
+      let goes : ScriptGoesOn bare n before now bytes text = treating.goes-on next_of BadLine told_at (λ play. 0) (λ moves. 0)
+      (λ n play. ErasGoOn play) n before now bytes on.moves text on.next (λ more. refl) refl
       (ready-on before now bytes text ready on) in
       record {
         text = goes.text;
         verdict = goes.verdict;
-        entries = λ lines. ap log_len (end-on before bytes lines (Goes now on.deeds text) on.next);
+        entries = λ lines. ap log_len (end-on before bytes lines (Goes now on.moves text) on.next);
         ready = goes.ready;
       }
 
@@ -121,13 +121,13 @@ module _ (n : ℕ) (before now : Option EraPlay) (bytes : List ℕ) where
   pub treated-last : HasDone before (next_of before bytes) now (Ok None) → HasTreatedLine tells n before now bytes (Ok None)
   treated-last done =
       let end = ended before (next_of before bytes) now done in (
-        ends-here status.Done (treating.ends-at next_of BadLine told_at (λ play. 0) (λ deeds. 0) (λ n play. ErasGoOn play) n before bytes end.0),
+        ends-here status.Done (treating.ends-at next_of BadLine told_at (λ play. 0) (λ moves. 0) (λ n play. ErasGoOn play) n before bytes end.0),
         λ lines. ap log_len (end-on before bytes lines Ends end.0 ∙ sym end.1),
       )
 
   refuses : (cause : LineFault) → next_of before bytes ≡ Refused cause → EndsAt tells n before bytes (told_at n cause)
   refuses cause next =
-      ends-here (told_at n cause) (treating.refused-at next_of BadLine told_at (λ play. 0) (λ deeds. 0)
+      ends-here (told_at n cause) (treating.refused-at next_of BadLine told_at (λ play. 0) (λ moves. 0)
       (λ n play. ErasGoOn play) n before bytes cause next)
 
   pub treated-refused : (cause : LineFault) → HasDone before (next_of before bytes) now (Err cause)

@@ -6,7 +6,7 @@ use Rattle.scenario_text.specs.declared.line.LineFault.{LineFault}
 use Rattle.scenario_text.specs.declared.line.LineFault.TheVariants.{Want}
 use Rattle.regroup_run.specs.Playing.{EraNext, EraPlay, next_of}
 
--- deeds led to the eras, and the moment is one of asks
+-- moves led to the eras, and the moment is one of asks
 pub record IsReadyEras (p : EraPlay) : Type 0 where
   pub led : IsLed p.eras
   pub moment : p.moment ≤ 2 ^ 62

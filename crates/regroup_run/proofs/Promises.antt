@@ -24,12 +24,12 @@ use Rattle.scenario_run.proofs.Following.{fault_after, named-line, turns_after}
 use Rattle.scenario_run.proofs.Running.{parts}
 use Rattle.scenario_run.proofs.Truth.{up}
 use Rattle.group_eras.specs.Eras.{Eras, first_era, stamp_in}
-use Rattle.group_eras.specs.Promise.{Begins, Carries, Deed, Makes, MayAllBeDone, done}
+use Rattle.group_eras.specs.Promise.{Begins, Carries, EraMove, Makes, MayAllBeDone, done}
 use Rattle.group_eras.proofs.Promises.{carries_keep}
 use Rattle.regroup_run.specs.Meaning.{regroup_line}
 use Rattle.regroup_run.specs.Playing.{EraNext, EraPlay, look, next_by, next_of, regroup_by, regroups, shape_in}
 use Rattle.regroup_run.specs.Promises.{AreTrueLines, IsTrueLine, KeepAll, Keeps, ScriptsKeepPromises, ShowsTruth}
-use Rattle.regroup_run.specs.Script.{deeds_of}
+use Rattle.regroup_run.specs.Script.{era_moves_of}
 use Rattle.regroup_run.proofs.Leading.{IsLedTo, Leads, is-led, leads-then, led-on, opened, promised, world-led}
 use Rattle.regroup_run.proofs.Regrouping.{reads-no-regroup}
 use Rattle.regroup_run.proofs.Running.{GoesOn, IsReady, Opens, line-leads, line-opens, never-ends}
@@ -42,16 +42,16 @@ TrueAfter play line next lines = elim next [
   | Refused fault ↦ Unit {0}
 ]
 
--- deeds that may be done from some eras
-record Runs (e : Eras) (deeds : List Deed) : Type 0 where
+-- moves that may be done from some eras
+record Runs (e : Eras) (moves : List EraMove) : Type 0 where
   f : Eras
-  leads : Leads e f deeds
+  leads : Leads e f moves
 
 none : (e : Eras) → Runs e []
 none e = record { f = e; leads = record { may = tt; to = refl } }
 
-ready-on : (s : Dimensions) (p : EraPlay) (next : Option EraPlay) (deeds : List Deed) → IsReady s p → (on : GoesOn p next deeds) → IsReady s on.play
-ready-on s p next deeds ready on = record { led = led-on s p.eras on.play.eras deeds ready.led on.leads; moment = on.moment }
+ready-on : (s : Dimensions) (p : EraPlay) (next : Option EraPlay) (moves : List EraMove) → IsReady s p → (on : GoesOn p next moves) → IsReady s on.play
+ready-on s p next moves ready on = record { led = led-on s p.eras on.play.eras moves ready.led on.leads; moment = on.moment }
 
 -- what is shown is true
 truth : (s : Dimensions) (e : Eras) → IsLedTo s e → HoldsTruth e.world
@@ -88,7 +88,7 @@ module _ (s : Dimensions) where
               (subst (λ (q : Option EraPlay). Leads on.play.eras rest.f (turns_of_lines next_of q lines)) (sym on.is) rest.leads);
         }
 
-  true-read : (p : EraPlay) (l : Result Line LineFault) (next : Option EraPlay) (turns : List Deed) (text : List ℕ)
+  true-read : (p : EraPlay) (l : Result Line LineFault) (next : Option EraPlay) (turns : List EraMove) (text : List ℕ)
       → IsLedTo s p.eras → ((l' : Line) → l ≡ Ok l' → IsLineOf (Some p.eras.world.shape) l')
       → next_by (Some p) l ≡ Goes next turns text → IsTrueLine (Some p) l text
   true-read p (Err fault) next turns text led within is = tt
@@ -109,7 +109,7 @@ module _ (s : Dimensions) where
   true-read p (Ok Stop) next turns text led within is = tt
 
   -- a line `regroup` is none that shows bytes
-  true-line : (p : EraPlay) (line : List ℕ) (next : Option EraPlay) (turns : List Deed) (text : List ℕ)
+  true-line : (p : EraPlay) (line : List ℕ) (next : Option EraPlay) (turns : List EraMove) (text : List ℕ)
       → IsLedTo s p.eras → next_of (Some p) line ≡ Goes next turns text
       → IsTrueLine (Some p) (line_meaning (Some p.eras.world.shape) line) text
   true-line p line next turns text led is = by (regroups line) refl is where
@@ -138,19 +138,19 @@ module _ (s : Dimensions) where
               (later on.play (ready-on s p next turns ready on)),
         )
 
-  -- the promise is kept before and after each deed
-  keeps : (e : Eras) (deed : Deed) → IsLedTo s e → MayAllBeDone e (deed ∷ []) → Keeps e deed
+  -- the promise is kept before and after each move
+  keeps : (e : Eras) (move : EraMove) → IsLedTo s e → MayAllBeDone e (move ∷ []) → Keeps e move
   keeps e (Makes event) led may = tt
   keeps e (Carries t) led may = carries_keep e t (is-led s e led) may.0.0 may.0.1
   keeps e (Begins many) led may = tt
 
-  keep-all : (e : Eras) (deeds : List Deed) → IsLedTo s e → MayAllBeDone e deeds → KeepAll e deeds
+  keep-all : (e : Eras) (moves : List EraMove) → IsLedTo s e → MayAllBeDone e moves → KeepAll e moves
   keep-all e [] led may = promised s e led
-  keep-all e (deed ∷ deeds) led may = (
+  keep-all e (move ∷ moves) led may = (
     promised s e led,
-    keeps e deed led (may.0, tt),
-    keep-all (done e deed) deeds
-        (led-on s e (done e deed) (deed ∷ []) led (record { may = (may.0, tt); to = refl })) may.1,
+    keeps e move led (may.0, tt),
+    keep-all (done e move) moves
+        (led-on s e (done e move) (move ∷ []) led (record { may = (may.0, tt); to = refl })) may.1,
   )
 
 -- a script with a group line
@@ -167,13 +167,13 @@ begun-ready s limits = record { led = opened s limits; moment = omega arith }
 begins : (n : ℕ) (lines : List (List ℕ)) → fault_in next_of BadLine n None lines ≡ None → Named lines
 begins n [] ends = absurd (cc ends)
 begins n (line ∷ lines) ends = by (next_of None line) refl ends (begins (n + 1) lines) where
-  begun : (next : Option EraPlay) (turns : List Deed) (text : List ℕ) → next_of None line ≡ Goes next turns text
+  begun : (next : Option EraPlay) (turns : List EraMove) (text : List ℕ) → next_of None line ≡ Goes next turns text
       → Opens next turns text → fault_in next_of BadLine (n + 1) next lines ≡ None
       → (fault_in next_of BadLine (n + 1) None lines ≡ None → Named lines) → Named (line ∷ lines)
   begun next turns text is opens rest later = either opens.is where
     turns_are : (q : Option EraPlay) → next ≡ q → turns_of_lines next_of None (line ∷ lines) ≡ turns_of_lines next_of q lines
     turns_are q same = ap (λ (x : EraNext). turns_after next_of x lines) is
-        ∙ ap (λ (ts : List Deed). ts ++ turns_of_lines next_of next lines) opens.quiet
+        ∙ ap (λ (ts : List EraMove). ts ++ turns_of_lines next_of next lines) opens.quiet
         ∙ ap (λ (x : Option EraPlay). turns_of_lines next_of x lines) same
 
     shape_is : (q : Option EraPlay) → next ≡ q → shape_in (named_in next_of None (line ∷ lines)) ≡ shape_in (named_in next_of q lines)
@@ -216,7 +216,7 @@ scripts_keep_promises text whole = record {
   named = named.named;
   limits = named.limits;
   may = named.runs_are.leads.may;
-  kept = keep-all named.shape (first_era (opening named.shape)) (deeds_of text) (opened named.shape named.limits) named.runs_are.leads.may;
+  kept = keep-all named.shape (first_era (opening named.shape)) (era_moves_of text) (opened named.shape named.limits) named.runs_are.leads.may;
   shown = named.true_lines;
 } where
   named : Named (lines_of text)

@@ -1,4 +1,4 @@
--- The deeds of a script may be done.
+-- The moves of a script may be done.
 use Rattle.std.proofs.Common.{ℕ, ◌≡◌, ◌≤◌, ◌<◌, ◌+◌, ◌^◌, ◌⊎◌, inl, inr, Bool, true, false, ◌&&◌, zero, suc, nat_lt}
 use Rattle.std.proofs.Common.{nat_le, List, [], ◌∷◌, map, codes, Option, Some, None, Result, Ok, Err, if◌then◌else◌}
 use Rattle.std.proofs.Common.{refl, sym, ap, subst, ◌∙◌, arith}
@@ -33,7 +33,7 @@ use Rattle.scenario_run.proofs.Truth.{up}
 use Rattle.group_eras.specs.Carry.{carried}
 use Rattle.group_eras.specs.Eras.{Eras, MayMake, carrier, era_step, eras_after, first_era}
 use Rattle.group_eras.specs.Items.{bytes_in_partition}
-use Rattle.group_eras.specs.Promise.{Deed, Carries, IsLed, Makes}
+use Rattle.group_eras.specs.Promise.{EraMove, Carries, IsLed, Makes}
 use Rattle.group_eras.specs.Refusal.{CanCarry}
 use Rattle.group_eras.proofs.Promises.{eras_are_runs}
 use Rattle.regroup_run.specs.Meaning.{IsLowLine, regroup_line, shape_of_numbers, shape_unless, shape_within}
@@ -49,10 +49,10 @@ pub record IsReady (s : Dimensions) (p : EraPlay) : Type 0 where
   pub moment : p.moment ≤ 2 ^ 62
 
 -- what a line did goes on from there
-pub record GoesOn (p : EraPlay) (next : Option EraPlay) (deeds : List Deed) : Type 0 where
+pub record GoesOn (p : EraPlay) (next : Option EraPlay) (moves : List EraMove) : Type 0 where
   pub play : EraPlay
   pub is : next ≡ Some play
-  pub leads : Leads p.eras play.eras deeds
+  pub leads : Leads p.eras play.eras moves
   pub moment : play.moment ≤ 2 ^ 62
 
 none-leads : (e : Eras) → Leads e e []
@@ -63,10 +63,10 @@ abbrev idly : EraPlay → List ℕ → EraNext
 idly q wrote = Goes (Some q) [] wrote
 
 -- nothing is done
-stays : (p q : EraPlay) (next : Option EraPlay) (deeds : List Deed) (wrote text : List ℕ) → p.eras ≡ q.eras
-    → q.moment ≤ 2 ^ 62 → idly q wrote ≡ Goes next deeds text → GoesOn p next deeds
-stays p q next deeds wrote text same low is =
-    let both = parts (Some q) next [] deeds wrote text is in
+stays : (p q : EraPlay) (next : Option EraPlay) (moves : List EraMove) (wrote text : List ℕ) → p.eras ≡ q.eras
+    → q.moment ≤ 2 ^ 62 → idly q wrote ≡ Goes next moves text → GoesOn p next moves
+stays p q next moves wrote text same low is =
+    let both = parts (Some q) next [] moves wrote text is in
     record {
       play = q;
       is = both.0;
@@ -76,56 +76,56 @@ stays p q next deeds wrote text same low is =
     }
 
 -- an event that may be made leads on
-comes : (s : Dimensions) (p : EraPlay) (e : Event) (next : Option EraPlay) (deeds : List Deed) (text : List ℕ)
-    → IsReady s p → MayMake p.eras e → by_event p e ≡ Goes next deeds text → GoesOn p next deeds
-comes s p e next deeds text ready may is =
+comes : (s : Dimensions) (p : EraPlay) (e : Event) (next : Option EraPlay) (moves : List EraMove) (text : List ℕ)
+    → IsReady s p → MayMake p.eras e → by_event p e ≡ Goes next moves text → GoesOn p next moves
+comes s p e next moves text ready may is =
     let q : EraPlay = record { eras = (era_step p.eras e).eras; moment = p.moment } in
-    let both = parts (Some q) next (Makes e ∷ []) deeds _ text is in
+    let both = parts (Some q) next (Makes e ∷ []) moves _ text is in
     record { play = q; is = both.0; leads = subst (Leads p.eras q.eras) (sym both.1) (record { may = (may, tt); to = refl }); moment = ready.moment }
 
 -- a call of a caller that doesn't carry
-calls : (s : Dimensions) (p : EraPlay) (caller : ℕ) (e : Event) (next : Option EraPlay) (deeds : List Deed)
+calls : (s : Dimensions) (p : EraPlay) (caller : ℕ) (e : Event) (next : Option EraPlay) (moves : List EraMove)
     (text : List ℕ) → IsReady s p → (caller < carrier → MayMake p.eras e)
-    → by_call p caller e ≡ Goes next deeds text → GoesOn p next deeds
-calls s p caller e next deeds text ready may is = by (nat_lt caller carrier) refl is where
-  by : (b : Bool) → nat_lt caller carrier ≡ b → (if b then by_event p e else Refused BadLine) ≡ Goes next deeds text → GoesOn p next deeds
-  by true less goes = comes s p e next deeds text ready (may (grind (arith, nat_tests))) goes
+    → by_call p caller e ≡ Goes next moves text → GoesOn p next moves
+calls s p caller e next moves text ready may is = by (nat_lt caller carrier) refl is where
+  by : (b : Bool) → nat_lt caller carrier ≡ b → (if b then by_event p e else Refused BadLine) ≡ Goes next moves text → GoesOn p next moves
+  by true less goes = comes s p e next moves text ready (may (grind (arith, nat_tests))) goes
   by false less goes = absurd (cc goes)
 
 -- a call is traced that was asked in the current era
-traces : (s : Dimensions) (p : EraPlay) (caller call : ℕ) (e : Event) (next : Option EraPlay) (deeds : List Deed) (text : List ℕ) → IsReady s p
-    → (call < at 0 p.eras.world.asked caller → caller < carrier → MayMake p.eras e) → by_trace p caller call e ≡ Goes next deeds text → GoesOn p next deeds
-traces s p caller call e next deeds text ready may is = by (nat_lt call (at 0 p.eras.world.asked caller)) refl is where
+traces : (s : Dimensions) (p : EraPlay) (caller call : ℕ) (e : Event) (next : Option EraPlay) (moves : List EraMove) (text : List ℕ) → IsReady s p
+    → (call < at 0 p.eras.world.asked caller → caller < carrier → MayMake p.eras e) → by_trace p caller call e ≡ Goes next moves text → GoesOn p next moves
+traces s p caller call e next moves text ready may is = by (nat_lt call (at 0 p.eras.world.asked caller)) refl is where
   by : (b : Bool) → nat_lt call (at 0 p.eras.world.asked caller) ≡ b
-      → (if b then by_call p caller e else Refused BadLine) ≡ Goes next deeds text → GoesOn p next deeds
-  by true less goes = calls s p caller e next deeds text ready (may (grind (arith, nat_tests))) goes
+      → (if b then by_call p caller e else Refused BadLine) ≡ Goes next moves text → GoesOn p next moves
+  by true less goes = calls s p caller e next moves text ready (may (grind (arith, nat_tests))) goes
   by false less goes = absurd (cc goes)
 
 -- what a line behind the group line does
-then-leads : (s : Dimensions) (p : EraPlay) (l : Line) (next : Option EraPlay) (deeds : List Deed) (text : List ℕ)
+then-leads : (s : Dimensions) (p : EraPlay) (l : Line) (next : Option EraPlay) (moves : List EraMove) (text : List ℕ)
     → IsReady s p → IsLineOf (Some p.eras.world.shape) l → IsLowLine l
-    → then_by p l ≡ Goes next deeds text → GoesOn p next deeds
-then-leads s p Skipped next deeds text ready within low is = stays p p next deeds [] text refl ready.moment is
-then-leads s p (Group shape) next deeds text ready within low is = absurd within
-then-leads s p (Ask caller from act) next deeds text ready within low is =
+    → then_by p l ≡ Goes next moves text → GoesOn p next moves
+then-leads s p Skipped next moves text ready within low is = stays p p next moves [] text refl ready.moment is
+then-leads s p (Group shape) next moves text ready within low is = absurd within
+then-leads s p (Ask caller from act) next moves text ready within low is =
     let op : Asked = record { moment = p.moment; act = act } in
-    calls s p caller (happens.Ask caller op from) next deeds text ready
+    calls s p caller (happens.Ask caller op from) next moves text ready
     (λ less. record { may = within; others = less; range = record { moment = ready.moment; expiry = low } }) is
-then-leads s p (Collect caller call from) next deeds text ready within low is =
-    calls s p caller (happens.Collect caller call from) next deeds text ready (λ less. record { may = within; others = less; range = tt }) is
-then-leads s p (Deliver from to) next deeds text ready within low is = comes s p (happens.Deliver from to) next deeds
+then-leads s p (Collect caller call from) next moves text ready within low is =
+    calls s p caller (happens.Collect caller call from) next moves text ready (λ less. record { may = within; others = less; range = tt }) is
+then-leads s p (Deliver from to) next moves text ready within low is = comes s p (happens.Deliver from to) next moves
     text ready (record { may = within; others = tt; range = tt }) is
-then-leads s p (Fail from keep) next deeds text ready within low is = comes s p (happens.Fail from keep) next deeds text
+then-leads s p (Fail from keep) next moves text ready within low is = comes s p (happens.Fail from keep) next moves text
     ready (record { may = within; others = tt; range = tt }) is
-then-leads s p (Flush from) next deeds text ready within low is = comes s p (happens.Flush from) next deeds text ready
+then-leads s p (Flush from) next moves text ready within low is = comes s p (happens.Flush from) next moves text ready
     (record { may = within; others = tt; range = tt }) is
-then-leads s p (Trace caller call d from) next deeds text ready within low is =
-    traces s p caller call (happens.Trace caller call d from) next deeds text ready
+then-leads s p (Trace caller call d from) next moves text ready within low is =
+    traces s p caller call (happens.Trace caller call d from) next moves text ready
     (λ asked less. record { may = (within.0, asked, within.1, within.2); others = less; range = tt }) is
-then-leads s p Drain next deeds text ready within low is =
+then-leads s p Drain next moves text ready within low is =
     let es : List Event = draining_unless_down p.eras.world in
     let q : EraPlay = record { eras = eras_after p.eras es; moment = p.moment } in
-    let both = parts (Some q) next (map Makes es) deeds _ text is in
+    let both = parts (Some q) next (map Makes es) moves _ text is in
     record {
       play = q;
       is = both.0;
@@ -134,15 +134,15 @@ then-leads s p Drain next deeds text ready within low is =
       moment =
           ready.moment;
     }
-then-leads s p (Show from run) next deeds text ready within low is = stays p p next deeds _ text refl ready.moment is
-then-leads s p Places next deeds text ready within low is = stays p p next deeds _ text refl ready.moment is
-then-leads s p (Time moment) next deeds text ready within low is = stays p (record { eras = p.eras; moment = moment }) next deeds [] text refl within is
-then-leads s p Stop next deeds text ready within low is = absurd (cc is)
+then-leads s p (Show from run) next moves text ready within low is = stays p p next moves _ text refl ready.moment is
+then-leads s p Places next moves text ready within low is = stays p p next moves _ text refl ready.moment is
+then-leads s p (Time moment) next moves text ready within low is = stays p (record { eras = p.eras; moment = moment }) next moves [] text refl within is
+then-leads s p Stop next moves text ready within low is = absurd (cc is)
 
-next-leads : (s : Dimensions) (p : EraPlay) (l : Result Line LineFault) (next : Option EraPlay) (deeds : List Deed) (text : List ℕ) → IsReady s p
-    → ((l' : Line) → l ≡ Ok l' → IsLineOf (Some p.eras.world.shape) l' × IsLowLine l') → next_by (Some p) l ≡ Goes next deeds text → GoesOn p next deeds
-next-leads s p (Err fault) next deeds text ready within is = absurd (cc is)
-next-leads s p (Ok l) next deeds text ready within is = then-leads s p l next deeds text ready (within l refl).0 (within l refl).1 is
+next-leads : (s : Dimensions) (p : EraPlay) (l : Result Line LineFault) (next : Option EraPlay) (moves : List EraMove) (text : List ℕ) → IsReady s p
+    → ((l' : Line) → l ≡ Ok l' → IsLineOf (Some p.eras.world.shape) l' × IsLowLine l') → next_by (Some p) l ≡ Goes next moves text → GoesOn p next moves
+next-leads s p (Err fault) next moves text ready within is = absurd (cc is)
+next-leads s p (Ok l) next moves text ready within is = then-leads s p l next moves text ready (within l refl).0 (within l refl).1 is
 
 both-true : (x y : Bool) → (x && y) ≡ true → (x ≡ true) × (y ≡ true)
 both-true true true is = (refl, refl)
@@ -192,22 +192,22 @@ can-carry s p t ready down waits space = record {
   drained : IsDrained p.eras.world
   drained = (next-tells p.eras (is-led s p.eras ready.led)).0 (none (next_delivery p.eras.world) waits)
 
-carries : (s : Dimensions) (p : EraPlay) (t : Dimensions) (next : Option EraPlay) (deeds : List Deed) (text : List ℕ)
+carries : (s : Dimensions) (p : EraPlay) (t : Dimensions) (next : Option EraPlay) (moves : List EraMove) (text : List ℕ)
     → IsReady s p → IsShape t → t.k ≡ p.eras.world.shape.k
-    → by_regroup p t ≡ Goes next deeds text → GoesOn p next deeds
-carries s p t next deeds text ready shaped same is =
+    → by_regroup p t ≡ Goes next moves text → GoesOn p next moves
+carries s p t next moves text ready shaped same is =
     by (is_down p.eras.world) (is_some (next_delivery p.eras.world)) (has_space p.eras.world t) refl refl refl is where
       by : (down waits space : Bool) → is_down p.eras.world ≡ down → is_some (next_delivery p.eras.world) ≡ waits → has_space p.eras.world t ≡ space
           → (if down then refuses p (codes "down") else
           (if waits then refuses p (codes "not_drained") else
-          (if space then by_carry p t else refuses p (codes "no_space")))) ≡ Goes next deeds text
-          → GoesOn p next deeds
-      by true waits space isdown iswaits isspace goes = stays p p next deeds _ text refl ready.moment goes
-      by false true space isdown iswaits isspace goes = stays p p next deeds _ text refl ready.moment goes
-      by false false false isdown iswaits isspace goes = stays p p next deeds _ text refl ready.moment goes
+          (if space then by_carry p t else refuses p (codes "no_space")))) ≡ Goes next moves text
+          → GoesOn p next moves
+      by true waits space isdown iswaits isspace goes = stays p p next moves _ text refl ready.moment goes
+      by false true space isdown iswaits isspace goes = stays p p next moves _ text refl ready.moment goes
+      by false false false isdown iswaits isspace goes = stays p p next moves _ text refl ready.moment goes
       by false false true isdown iswaits isspace goes =
           let q : EraPlay = record { eras = carried p.eras t; moment = p.moment } in
-          let both = parts (Some q) next (Carries t ∷ []) deeds _ text goes in
+          let both = parts (Some q) next (Carries t ∷ []) moves _ text goes in
           record {
             play = q;
             is = both.0;
@@ -255,53 +255,53 @@ line-named k (a ∷ b ∷ c ∷ []) t is = absurd (cc is)
 line-named k (name ∷ m ∷ blocks ∷ block ∷ []) t is = numbers-named k _ _ _ t is
 line-named k (a ∷ b ∷ c ∷ d ∷ e ∷ ws) t is = absurd (cc is)
 
-regroup-leads : (s : Dimensions) (p : EraPlay) (r : Result Dimensions LineFault) (next : Option EraPlay) (deeds : List Deed) (text : List ℕ) → IsReady s p
-    → ((t : Dimensions) → r ≡ Ok t → Named p.eras.world.shape.k t) → regroup_by p r ≡ Goes next deeds text → GoesOn p next deeds
-regroup-leads s p (Err fault) next deeds text ready named is = absurd (cc is)
-regroup-leads s p (Ok t) next deeds text ready named is = let n = named t refl in carries s p t next deeds text ready n.shaped n.same is
+regroup-leads : (s : Dimensions) (p : EraPlay) (r : Result Dimensions LineFault) (next : Option EraPlay) (moves : List EraMove) (text : List ℕ) → IsReady s p
+    → ((t : Dimensions) → r ≡ Ok t → Named p.eras.world.shape.k t) → regroup_by p r ≡ Goes next moves text → GoesOn p next moves
+regroup-leads s p (Err fault) next moves text ready named is = absurd (cc is)
+regroup-leads s p (Ok t) next moves text ready named is = let n = named t refl in carries s p t next moves text ready n.shaped n.same is
 
-pub line-leads : (s : Dimensions) (p : EraPlay) (line : List ℕ) (next : Option EraPlay) (deeds : List Deed) (text : List ℕ) → IsReady s p
-    → next_of (Some p) line ≡ Goes next deeds text → GoesOn p next deeds
-line-leads s p line next deeds text ready is = by (regroups line) is where
+pub line-leads : (s : Dimensions) (p : EraPlay) (line : List ℕ) (next : Option EraPlay) (moves : List EraMove) (text : List ℕ) → IsReady s p
+    → next_of (Some p) line ≡ Goes next moves text → GoesOn p next moves
+line-leads s p line next moves text ready is = by (regroups line) is where
   by : (b : Bool)
       → (if b then regroup_by p (regroup_line p.eras.world.shape.k (split_words line)) else next_by (Some p)
-      (line_meaning (Some p.eras.world.shape) line)) ≡ Goes next deeds text → GoesOn p next deeds
-  by true goes = regroup-leads s p (regroup_line p.eras.world.shape.k (split_words line)) next deeds text ready
+      (line_meaning (Some p.eras.world.shape) line)) ≡ Goes next moves text → GoesOn p next moves
+  by true goes = regroup-leads s p (regroup_line p.eras.world.shape.k (split_words line)) next moves text ready
       (line-named p.eras.world.shape.k (split_words line)) goes
-  by false goes = next-leads s p (line_meaning (Some p.eras.world.shape) line) next deeds text ready
+  by false goes = next-leads s p (line_meaning (Some p.eras.world.shape) line) next moves text ready
       (λ l reads. (line_of-within (Some p.eras.world.shape) line l reads, line_of-low p.eras.world.shape line l reads)) goes
 
 -- the group line, or a line before it
-pub record Opens (next : Option EraPlay) (deeds : List Deed) (text : List ℕ) : Type 0 where
-  pub quiet : deeds ≡ []
+pub record Opens (next : Option EraPlay) (moves : List EraMove) (text : List ℕ) : Type 0 where
+  pub quiet : moves ≡ []
   pub silent : text ≡ []
   pub is : (next ≡ None) ⊎ ((s : Dimensions) × IsShape s × (next ≡ Some (record { eras = first_era (opening s); moment = 0 })))
 
-first-opens : (l : Line) (next : Option EraPlay) (deeds : List Deed) (text : List ℕ) → IsLineOf None l
-    → first_by l ≡ Goes next deeds text → Opens next deeds text
-first-opens Skipped next deeds text within is = let both = parts None next [] deeds [] text is in record { quiet = both.1; silent = both.2; is = inl both.0 }
-first-opens (Group s) next deeds text within is =
-    let both = parts (Some (record { eras = first_era (opening s); moment = 0 })) next [] deeds [] text is in
+first-opens : (l : Line) (next : Option EraPlay) (moves : List EraMove) (text : List ℕ) → IsLineOf None l
+    → first_by l ≡ Goes next moves text → Opens next moves text
+first-opens Skipped next moves text within is = let both = parts None next [] moves [] text is in record { quiet = both.1; silent = both.2; is = inl both.0 }
+first-opens (Group s) next moves text within is =
+    let both = parts (Some (record { eras = first_era (opening s); moment = 0 })) next [] moves [] text is in
     record { quiet = both.1; silent = both.2; is = inr (s, within, both.0) }
-first-opens (Ask caller from act) next deeds text within is = absurd within
-first-opens (Collect caller call from) next deeds text within is = absurd within
-first-opens (Deliver from to) next deeds text within is = absurd within
-first-opens (Fail from keep) next deeds text within is = absurd within
-first-opens (Flush from) next deeds text within is = absurd within
-first-opens (Trace caller call d from) next deeds text within is = absurd within
-first-opens Drain next deeds text within is = absurd within
-first-opens (Show from run) next deeds text within is = absurd within
-first-opens Places next deeds text within is = absurd within
-first-opens (Time moment) next deeds text within is = absurd within
-first-opens Stop next deeds text within is = absurd within
+first-opens (Ask caller from act) next moves text within is = absurd within
+first-opens (Collect caller call from) next moves text within is = absurd within
+first-opens (Deliver from to) next moves text within is = absurd within
+first-opens (Fail from keep) next moves text within is = absurd within
+first-opens (Flush from) next moves text within is = absurd within
+first-opens (Trace caller call d from) next moves text within is = absurd within
+first-opens Drain next moves text within is = absurd within
+first-opens (Show from run) next moves text within is = absurd within
+first-opens Places next moves text within is = absurd within
+first-opens (Time moment) next moves text within is = absurd within
+first-opens Stop next moves text within is = absurd within
 
-next-opens : (l : Result Line LineFault) (next : Option EraPlay) (deeds : List Deed) (text : List ℕ)
-    → ((l' : Line) → l ≡ Ok l' → IsLineOf None l') → next_by None l ≡ Goes next deeds text → Opens next deeds text
-next-opens (Err fault) next deeds text within is = absurd (cc is)
-next-opens (Ok l) next deeds text within is = first-opens l next deeds text (within l refl) is
+next-opens : (l : Result Line LineFault) (next : Option EraPlay) (moves : List EraMove) (text : List ℕ)
+    → ((l' : Line) → l ≡ Ok l' → IsLineOf None l') → next_by None l ≡ Goes next moves text → Opens next moves text
+next-opens (Err fault) next moves text within is = absurd (cc is)
+next-opens (Ok l) next moves text within is = first-opens l next moves text (within l refl) is
 
-pub line-opens : (line : List ℕ) (next : Option EraPlay) (deeds : List Deed) (text : List ℕ) → next_of None line ≡ Goes next deeds text → Opens next deeds text
-line-opens line next deeds text is = next-opens (line_meaning None line) next deeds text (λ l reads. line_of-within None line l reads) is
+pub line-opens : (line : List ℕ) (next : Option EraPlay) (moves : List EraMove) (text : List ℕ) → next_of None line ≡ Goes next moves text → Opens next moves text
+line-opens line next moves text is = next-opens (line_meaning None line) next moves text (λ l reads. line_of-within None line l reads) is
 
 -- before the group line no line is the last
 never-ends-by : (l : Line) → IsLineOf None l → first_by l ≡ Ends → ⊥

@@ -1,5 +1,6 @@
 -- What a line of a script over eras makes of them, and what is written for it.
-use Rattle.std.specs.Prelude.{ℕ, nat_lt, nat_le, Bool, false, List, [], ◌∷◌, ◌++◌, codes, drop, length, map, Option, Some, None, Result, Ok, Err, option_map, if◌then◌else◌}
+use Rattle.std.specs.Prelude.{ℕ, nat_lt, nat_le, Bool, false, List, [], ◌∷◌, ◌++◌, codes, drop, length, map, Option}
+use Rattle.std.specs.Prelude.{Some, None, Result, Ok, Err, option_map, if◌then◌else◌}
 use Rattle.std.specs.Fmt.{decimal}
 use Rattle.std.specs.List.{list_all, range_with_len}
 use Rattle.std.specs.Option.{is_some}
@@ -26,7 +27,7 @@ use Rattle.scenario_run.specs.Playing.{draining_unless_down}
 use Rattle.group_eras.specs.Carry.{carried, many_carried}
 use Rattle.group_eras.specs.Eras.{EraEntry, Eras, carrier, era_step, eras_after, first_era, stamp_in}
 use Rattle.group_eras.specs.Items.{bytes_in_partition}
-use Rattle.group_eras.specs.Promise.{Deed, Makes, Carries}
+use Rattle.group_eras.specs.Promise.{EraMove, Makes, Carries}
 use Rattle.regroup_run.specs.Meaning.{is_regroup, regroup_line}
 use Rattle.regroup_run.specs.Texts.{era_entries_text}
 
@@ -35,9 +36,9 @@ pub record EraPlay : Type 0 where
   pub eras : Eras
   pub moment : ℕ
 
--- what a line of its script does; its turns are deeds
+-- what a line of its script does; its turns are moves
 abbrev pub EraNext : Type 0
-EraNext = Next EraPlay Deed LineFault
+EraNext = Next EraPlay EraMove LineFault
 
 -- a line that writes nothing and does nothing
 abbrev pub quietly : Option EraPlay → EraNext
@@ -140,4 +141,5 @@ regroups line = if is_skipped line then false else is_regroup (split_words line)
 -- what a line does
 abbrev pub next_of : Option EraPlay → List ℕ → EraNext
 next_of None line = next_by None (line_meaning None line)
-next_of (Some p) line = if regroups line then regroup_by p (regroup_line p.eras.world.shape.k (split_words line)) else next_by (Some p) (line_meaning (shape_in (Some p)) line)
+next_of (Some p) line = if regroups line then regroup_by p (regroup_line p.eras.world.shape.k (split_words line)) else
+    next_by (Some p) (line_meaning (shape_in (Some p)) line)

@@ -1,4 +1,4 @@
--- What holds of every script over eras: its deeds may be done, so the laws of eras are about it; and the lines that show
+-- What holds of every script over eras: its moves may be done, so the laws of eras are about it; and the lines that show
 -- bytes show what the log tells.
 use Rattle.std.specs.Prelude.{ℕ, ◌≡◌, List, [], ◌∷◌, ◌++◌, Option, Some, None, Result, Ok}
 use Rattle.group_types.specs.Dimensions.{Dimensions}
@@ -14,19 +14,19 @@ use Rattle.scenario_text.specs.declared.line.LineFault.{LineFault}
 use Rattle.scenario_run.specs.Course.{Goes, Ends, Refused}
 use Rattle.scenario_run.specs.Lines.{lines_of}
 use Rattle.group_eras.specs.Eras.{Eras, first_era}
-use Rattle.group_eras.specs.Promise.{Deed, Carries, HasCarried, HasPromise, MayAllBeDone, done}
+use Rattle.group_eras.specs.Promise.{EraMove, Carries, HasCarried, HasPromise, MayAllBeDone, done}
 use Rattle.regroup_run.specs.Playing.{EraPlay, look, next_of, shape_in}
-use Rattle.regroup_run.specs.Script.{deeds_of, era_script_shape, first_fault}
+use Rattle.regroup_run.specs.Script.{era_moves_of, era_script_shape, first_fault}
 
 -- what a carry leaves is what it should
-abbrev pub Keeps : Eras → Deed → Type 0
+abbrev pub Keeps : Eras → EraMove → Type 0
 Keeps e (Carries s) = HasCarried e s
 Keeps e _ = Unit {0}
 
--- before and after each deed the eras have their promise, and each carry keeps what it carries
-abbrev pub KeepAll : Eras → List Deed → Type 0
+-- before and after each move the eras have their promise, and each carry keeps what it carries
+abbrev pub KeepAll : Eras → List EraMove → Type 0
 KeepAll e [] = HasPromise e
-KeepAll e (deed ∷ deeds) = HasPromise e × Keeps e deed × KeepAll (done e deed) deeds
+KeepAll e (move ∷ moves) = HasPromise e × Keeps e move × KeepAll (done e move) moves
 
 -- the text shows what the log tells
 abbrev pub ShowsTruth : Eras → ProcessId → Run → List ℕ → Type 0
@@ -51,8 +51,8 @@ pub record KeepsPromises (text : List ℕ) : Type 0 where
   pub shape : Dimensions
   pub named : era_script_shape text ≡ Some shape
   pub limits : IsShape shape
-  pub may : MayAllBeDone (first_era (opening shape)) (deeds_of text)
-  pub kept : KeepAll (first_era (opening shape)) (deeds_of text)
+  pub may : MayAllBeDone (first_era (opening shape)) (era_moves_of text)
+  pub kept : KeepAll (first_era (opening shape)) (era_moves_of text)
   pub shown : AreTrueLines None (lines_of text)
 
 -- the promises are kept by every script none of whose lines is refused

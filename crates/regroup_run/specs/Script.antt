@@ -1,16 +1,16 @@
--- A script over eras as a whole: its deeds, its transcript, and the first line that is refused.
+-- A script over eras as a whole: its moves, its transcript, and the first line that is refused.
 use Rattle.std.specs.Prelude.{ℕ, List, Option, None}
 use Rattle.group_types.specs.Dimensions.{Dimensions}
 use Rattle.scenario_text.specs.declared.line.LineFault.{LineFault}
 use Rattle.scenario_text.specs.declared.line.LineFault.TheVariants.{BadLine}
 use Rattle.scenario_run.specs.Course.{Fault, fault_in, named_in, text_in, turns_of_lines}
 use Rattle.scenario_run.specs.Lines.{lines_of}
-use Rattle.group_eras.specs.Promise.{Deed}
+use Rattle.group_eras.specs.Promise.{EraMove}
 use Rattle.regroup_run.specs.Playing.{next_of, shape_in}
 
--- a script's deeds, its transcript, its first fault, and the shape of its first era
-abbrev pub deeds_of : List ℕ → List Deed
-deeds_of text = turns_of_lines next_of None (lines_of text)
+-- a script's moves, its transcript, its first fault, and the shape of its first era
+abbrev pub era_moves_of : List ℕ → List EraMove
+era_moves_of text = turns_of_lines next_of None (lines_of text)
 
 abbrev pub transcript : List ℕ → List ℕ
 transcript text = text_in next_of None (lines_of text)

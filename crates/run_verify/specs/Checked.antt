@@ -22,13 +22,17 @@ pub record RepliesWithin (turns : List Turn) : Type 0 where
   -- no two entries have one name
   pub once : (i j : ℕ) (a b : Entry) → i < j → slice_get (log_of turns) i ≡ Some a → slice_get (log_of turns) j ≡ Some b → name_of a ≢ name_of b
   -- each entry has the op of the ask of its name, which is not later than the event that logged it
-  pub asked : (i : ℕ) (turn : Turn) (entry : Entry) → slice_get turns i ≡ Some turn → Contains turn.logged entry → (j : ℕ) × (ask : Turn) × (j ≤ i) × IsAsk turns j ask (name_of entry) entry.op
+  pub asked : (i : ℕ) (turn : Turn) (entry : Entry) → slice_get turns i ≡ Some turn → Contains turn.logged entry
+      → (j : ℕ) × (ask : Turn) × (j ≤ i) × IsAsk turns j ask (name_of entry) entry.op
   -- a reply to an ask is the one of its entry, which this event logged
-  pub at_once : (i : ℕ) (turn : Turn) (name : CallName) (op : Asked) (reply : Reply) → IsAsk turns i turn name op → turn.answer ≡ answered.Reply reply → Contains turn.logged (call_entry name op reply)
+  pub at_once : (i : ℕ) (turn : Turn) (name : CallName) (op : Asked) (reply : Reply) → IsAsk turns i turn name op
+      → turn.answer ≡ answered.Reply reply → Contains turn.logged (call_entry name op reply)
   -- a reply to a collect or a trace is the one of its entry
-  pub later : (i : ℕ) (turn : Turn) (name : CallName) (reply : Reply) → slice_get turns i ≡ Some turn → Fetches turn.event name → turn.answer ≡ answered.Reply reply → IsLoggedSince turns i name reply
+  pub later : (i : ℕ) (turn : Turn) (name : CallName) (reply : Reply) → slice_get turns i ≡ Some turn
+      → Fetches turn.event name → turn.answer ≡ answered.Reply reply → IsLoggedSince turns i name reply
   -- a call that got neither a reply nor a ticket is in no entry
-  pub refused : (i : ℕ) (turn : Turn) (name : CallName) (op : Asked) (entry : Entry) → IsAsk turns i turn name op → ¬ (IsTaken turn.answer) → Contains (log_of turns) entry → name_of entry ≢ name
+  pub refused : (i : ℕ) (turn : Turn) (name : CallName) (op : Asked) (entry : Entry) → IsAsk turns i turn name op
+      → ¬ (IsTaken turn.answer) → Contains (log_of turns) entry → name_of entry ≢ name
 
 -- the runs name exactly the updates that bring a value, each where it is clear of the items before it
 pub record ArePlaced (s : Dimensions) (log : List Entry) (runs : List (List (Option Run))) : Type 0 where

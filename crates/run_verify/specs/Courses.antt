@@ -6,7 +6,8 @@ use Rattle.group_calls.specs.Turns.{accepts}
 use Rattle.group_calls.specs.declared.entry.Entry.{Entry}
 use Rattle.transcript_text.specs.declared.place.Place.{Place}
 use Rattle.run_verify.specs.Judging.{IsAnswerJudged, Judges}
-use Rattle.run_verify.specs.Passing.{Account, FailsAt, IsToldRun, JudgingState, LineTellsEntry, PassAll, PassesBy, account_after_entry, begins_entry, first_state}
+use Rattle.run_verify.specs.Passing.{Account, FailsAt, IsToldRun, JudgingState, LineTellsEntry, PassAll, PassesBy}
+use Rattle.run_verify.specs.Passing.{account_after_entry, begins_entry, first_state}
 use Rattle.run_verify.specs.Placings.{placing}
 use Rattle.run_verify.specs.Runs.{ArePlacesOf}
 use Rattle.run_verify.specs.Sheet.{Sheet}
@@ -29,7 +30,8 @@ pub record IsSheetOf (s : Dimensions) (places : List Place) (sheet : Sheet) : Ty
 
 -- a line of the log tells the next entry, behind which the account is this
 abbrev pub IsLineLogged : Sheet → Account → List ℕ → Account → Type 0
-IsLineLogged sheet a line next = (e : Entry) × (run : Option Run) × LineTellsEntry a line e × IsToldRun (accepts e.reply) sheet a e run × (next ≡ account_after_entry sheet a e run)
+IsLineLogged sheet a line next = (e : Entry) × (run : Option Run) × LineTellsEntry a line e
+    × IsToldRun (accepts e.reply) sheet a e run × (next ≡ account_after_entry sheet a e run)
 
 -- a line of the log was judged, by the places alone
 abbrev pub HasLogged : {E : Type 0} → Dimensions → List Place → Account → List ℕ → Account → Result Bool E → Type 0
@@ -44,10 +46,15 @@ IsMet s a Placing line ahead next = ⊥
 
 -- what a line was found to be, which is one of the log or isn't, with this step in turn and these to come
 abbrev pub HasFoundBy : Bool → Sheet → Account → Step → List Step → Bool → List ℕ → List (List ℕ) → Account → Found → Type 0
-HasFoundBy is_log sheet a step steps logging line ahead now found.Entry = (is_log ≡ true) × PassesBy is_log sheet (judging_state a (step ∷ steps) logging) line ahead (judging_state now (step ∷ steps) logging)
-HasFoundBy is_log sheet a step steps logging line ahead now found.Answer = (step ≢ Placing) × PassesBy is_log sheet (judging_state a (step ∷ steps) logging) line ahead (judging_state now steps true)
-HasFoundBy is_log sheet a step steps logging line ahead now found.Over = (step ≢ Placing) × PassesBy is_log sheet (judging_state a (step ∷ steps) logging) line ahead (judging_state now steps false)
-HasFoundBy is_log sheet a step steps logging line ahead now found.Fails = (next : JudgingState) → ¬ (PassesBy is_log sheet (judging_state a (step ∷ steps) logging) line ahead next)
+HasFoundBy is_log sheet a step steps logging line ahead now found.Entry = (is_log ≡ true)
+    × PassesBy is_log sheet (judging_state a (step ∷ steps) logging) line ahead
+    (judging_state now (step ∷ steps) logging)
+HasFoundBy is_log sheet a step steps logging line ahead now found.Answer = (step ≢ Placing)
+    × PassesBy is_log sheet (judging_state a (step ∷ steps) logging) line ahead (judging_state now steps true)
+HasFoundBy is_log sheet a step steps logging line ahead now found.Over = (step ≢ Placing)
+    × PassesBy is_log sheet (judging_state a (step ∷ steps) logging) line ahead (judging_state now steps false)
+HasFoundBy is_log sheet a step steps logging line ahead now found.Fails = (next : JudgingState)
+    → ¬ (PassesBy is_log sheet (judging_state a (step ∷ steps) logging) line ahead next)
 HasFoundBy is_log sheet a step steps logging line ahead now found.Places = (step ≡ Placing) × (is_log ≡ false) × (now ≡ a)
 
 -- so it is on each sheet of the group with these places, whatever steps are to come
@@ -90,7 +97,8 @@ sheet_on s steps lines = record { script = record { shape = s; steps = steps }; 
 
 -- what comes of lines behind so many, from a state on
 abbrev pub IsJudgedBehind : ℕ → Sheet → JudgingState → List (List ℕ) → Verdict → Type 0
-IsJudgedBehind done sheet s lines (Verified many shows) = (account : Account) × PassAll sheet s lines account × (account.entries ≡ many) × (account.shown ≡ shows)
+IsJudgedBehind done sheet s lines (Verified many shows) = (account : Account) × PassAll sheet s lines account
+    × (account.entries ≡ many) × (account.shown ≡ shows)
 IsJudgedBehind done sheet s lines (Refused n) = (m : ℕ) × (n ≡ done + m) × FailsAt sheet m s lines
 
 -- what comes of all lines of a sheet

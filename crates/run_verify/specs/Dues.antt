@@ -89,7 +89,8 @@ LeadsTo s changes placed lines now rest = (found : Option ℕ) → ArePlacedBehi
 
 -- what comes of the lines for the changes of partition d
 abbrev pub HasToldPart : Dimensions → List (List Change) → ℕ → ℕ → List ℕ → Told → Type 0
-HasToldPart s changes d placed text (told.All now rest) = (dues_left changes now ≡ dues_on changes (d + 1)) × LeadsTo s changes placed (lines_of text) now (lines_of rest.now)
+HasToldPart s changes d placed text (told.All now rest) = (dues_left changes now ≡ dues_on changes (d + 1))
+    × LeadsTo s changes placed (lines_of text) now (lines_of rest.now)
     × (now + length rest.now ≤ placed + length text)
 HasToldPart s changes d placed text (told.Fails n) = ArePlacedBehind s changes placed (lines_of text) (Some n)
 

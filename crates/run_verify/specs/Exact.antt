@@ -16,7 +16,8 @@ pub record PassesWhole (sheet : Sheet) : Type 0 where
 
 -- so it is where the transcript of a text is checked
 abbrev pub CheckedTranscriptsPass : Type 0
-CheckedTranscriptsPass = (text : List ℕ) (sheet : Sheet) → length text ≤ longest_sheet → sheet_of text ≡ Ok sheet → IsChecked sheet.script sheet.lines → PassesWhole sheet
+CheckedTranscriptsPass = (text : List ℕ) (sheet : Sheet) → length text ≤ longest_sheet → sheet_of text ≡ Ok sheet
+    → IsChecked sheet.script sheet.lines → PassesWhole sheet
 
 -- a text gives a sheet whose transcript is checked
 abbrev pub IsCheckedText : List ℕ → Type 0

@@ -54,8 +54,10 @@ IsTextThere None front text ahead = LogsAhead front text ahead
 -- so it is of the call of an event
 abbrev pub TellsReplyTo : Account → Event → List ℕ → List (List ℕ) → Type 0
 TellsReplyTo a (happens.Ask caller _ _) text ahead = LogsAhead (entry_front (next_call_name a caller)) text ahead
-TellsReplyTo a (happens.Collect caller call _) text ahead = IsTextThere (reply_logged a.calls caller call) (entry_front (record { caller = caller; call = call })) text ahead
-TellsReplyTo a (happens.Trace caller call _ _) text ahead = IsTextThere (reply_logged a.calls caller call) (entry_front (record { caller = caller; call = call })) text ahead
+TellsReplyTo a (happens.Collect caller call _) text ahead = IsTextThere (reply_logged a.calls caller call)
+    (entry_front (record { caller = caller; call = call })) text ahead
+TellsReplyTo a (happens.Trace caller call _ _) text ahead = IsTextThere (reply_logged a.calls caller call)
+    (entry_front (record { caller = caller; call = call })) text ahead
 TellsReplyTo a (happens.Deliver _ _) text ahead = ⊥
 TellsReplyTo a (happens.Fail _ _) text ahead = ⊥
 TellsReplyTo a (happens.Flush _) text ahead = ⊥
@@ -92,5 +94,6 @@ IsEntryTold e line None = line ≢ entry_text e
 
 -- an op was applied to the table, and its entry is the line's, within its limits; or the line isn't that entry's
 abbrev pub HasAppliedOp : Account → Name → Asked → List ℕ → Account → Option Entry → Type 0
-HasAppliedOp before name op line now (Some e) = (e ≡ entry_on before name op) × FitsReply e.reply × (line ≡ entry_text e) × (now ≡ with_table before (table_after before.table op))
+HasAppliedOp before name op line now (Some e) = (e ≡ entry_on before name op) × FitsReply e.reply
+    × (line ≡ entry_text e) × (now ≡ with_table before (table_after before.table op))
 HasAppliedOp before name op line now None = line ≢ entry_text (entry_on before name op)

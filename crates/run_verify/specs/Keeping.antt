@@ -41,7 +41,8 @@ account_kept k a e run = record {
 
 -- the run of an entry's change is found, if it makes one
 abbrev pub IsFoundIf : Bool → Dimensions → List Place → Account → Entry → Option Run → Type 0
-IsFoundIf true s places a e run = let d : ℕ = home_of (key_of e.op.act) s.k in IsRunFound s places d (length (changes_at a d) + 1) (change_by a e run).effect run
+IsFoundIf true s places a e run = let d : ℕ = home_of (key_of e.op.act) s.k in
+    IsRunFound s places d (length (changes_at a d) + 1) (change_by a e run).effect run
 IsFoundIf false s places a e run = ⊤
 
 -- an entry that was applied to the table is kept

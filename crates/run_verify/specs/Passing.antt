@@ -1,5 +1,7 @@
 -- Which lines of a transcript pass, one after the other, and which is the first that fails.
-use Rattle.std.specs.Prelude.{ℕ, zero, suc, ◌≡◌, ◌≢◌, ◌<◌, ◌≤◌, ◌+◌, ◌^◌, ◌==◌, ◌⊎◌, Bool, true, false, All, List, [], ◌∷◌, ◌++◌, codes, drop, length, replicate, slice_get, take, Option, Some, None, option_and_then, ⊤}
+use Rattle.std.specs.Prelude.{ℕ, zero, suc, ◌≡◌, ◌≢◌, ◌<◌, ◌≤◌, ◌+◌, ◌^◌, ◌==◌, ◌⊎◌, Bool, true, false, All, List, []}
+use Rattle.std.specs.Prelude.{◌∷◌, ◌++◌, codes, drop, length, replicate, slice_get, take, Option, Some, None}
+use Rattle.std.specs.Prelude.{option_and_then, ⊤}
 use Rattle.group_types.specs.Dimensions.{Dimensions, callers, space_of}
 use Rattle.group_types.specs.Hash.{home_of}
 use Rattle.group_types.specs.Lists.{at, put}
@@ -91,7 +93,8 @@ BeginsAndEnds front reply line = (op : List ℕ) × (line ≡ front ++ (op ++ 32
 -- of the lines of the log right ahead, the first that begins so ends with the text of this reply
 abbrev pub LogsAhead : List ℕ → List ℕ → List (List ℕ) → Type 0
 LogsAhead front reply [] = ⊥
-LogsAhead front reply (line ∷ lines) = (begins_entry line ≡ true) × (BeginsAndEnds front reply line ⊎ ((¬ (IsFrontOf front line)) × LogsAhead front reply lines))
+LogsAhead front reply (line ∷ lines) = (begins_entry line ≡ true)
+    × (BeginsAndEnds front reply line ⊎ ((¬ (IsFrontOf front line)) × LogsAhead front reply lines))
 
 -- the entry of a call is there with this reply: logged before, or else right ahead
 abbrev pub IsEntryThere : Option Reply → CallName → Reply → List (List ℕ) → Type 0
@@ -101,8 +104,12 @@ IsEntryThere None name reply ahead = LogsAhead (entry_front name) (reply_text re
 -- a reply is the one of its call's entry; that of an ask is logged by its own event
 abbrev pub IsReplyTo : Account → Event → Reply → List (List ℕ) → Type 0
 IsReplyTo a (happens.Ask caller _ _) reply ahead = LogsAhead (entry_front (next_call_name a caller)) (reply_text reply) ahead
-IsReplyTo a (happens.Collect caller call _) reply ahead = IsEntryThere (logged_reply a (record { caller = caller; call = call })) (record { caller = caller; call = call }) reply ahead
-IsReplyTo a (happens.Trace caller call _ _) reply ahead = IsEntryThere (logged_reply a (record { caller = caller; call = call })) (record { caller = caller; call = call }) reply ahead
+IsReplyTo a (happens.Collect caller call _) reply ahead =
+    IsEntryThere (logged_reply a (record { caller = caller; call = call })) (record { caller = caller; call = call })
+    reply ahead
+IsReplyTo a (happens.Trace caller call _ _) reply ahead =
+    IsEntryThere (logged_reply a (record { caller = caller; call = call })) (record { caller = caller; call = call })
+    reply ahead
 IsReplyTo a (happens.Deliver _ _) reply ahead = ⊥
 IsReplyTo a (happens.Fail _ _) reply ahead = ⊥
 IsReplyTo a (happens.Flush _) reply ahead = ⊥
@@ -226,7 +233,9 @@ with_account s a = record { account = a; steps = s.steps; logging = s.logging }
 -- a log line passes
 abbrev pub PassesEntry : Sheet → JudgingState → List ℕ → JudgingState → Type 0
 PassesEntry sheet s line next =
-    MayLog s × (e : Entry) × (run : Option Run) × LineTellsEntry s.account line e × IsToldRun (accepts e.reply) sheet s.account e run × (next ≡ with_account s (account_after_entry sheet s.account e run))
+    MayLog s × (e : Entry) × (run : Option Run) × LineTellsEntry s.account line e
+        × IsToldRun (accepts e.reply) sheet s.account e run
+        × (next ≡ with_account s (account_after_entry sheet s.account e run))
 
 -- behind the last line of a step
 abbrev pub on_to : Account → List Step → JudgingState

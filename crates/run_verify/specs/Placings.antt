@@ -21,4 +21,5 @@ IsPlacedFrom sheet a lines (Some n) = FailsAt sheet n (placing a) lines
 
 -- so it is for every sheet of this shape and every account with these changes that has so many places
 abbrev pub ArePlacedFrom : Dimensions → List (List Change) → ℕ → List (List ℕ) → Option ℕ → Type 0
-ArePlacedFrom s changes placed lines found = (sheet : Sheet) (a : Account) → sheet.script.shape ≡ s → a.changes ≡ changes → a.placed ≡ placed → IsPlacedFrom sheet a lines found
+ArePlacedFrom s changes placed lines found = (sheet : Sheet) (a : Account) → sheet.script.shape ≡ s
+    → a.changes ≡ changes → a.placed ≡ placed → IsPlacedFrom sheet a lines found

@@ -58,7 +58,8 @@ IsToldOf n line.Want told = told ≡ Want
 -- a line was taken, with its number and the lines behind it: the script goes on with the steps that are kept, or ends before
 -- it, or it has the first fault
 abbrev pub HasTakenLine : ℕ → Option Setting → Option Setting → List Step → List Step → List ℕ → List (List ℕ) → Result Bool VerifyFault → Type 0
-HasTakenLine n before now kept keeps line lines (Ok true) = (steps : List Step) × (keeps ≡ kept ++ steps) × (script_in n before (line ∷ lines) ≡ behind steps (script_in (n + 1) now lines))
+HasTakenLine n before now kept keeps line lines (Ok true) = (steps : List Step) × (keeps ≡ kept ++ steps)
+    × (script_in n before (line ∷ lines) ≡ behind steps (script_in (n + 1) now lines))
 HasTakenLine n before now kept keeps line lines (Ok false) = (now ≡ before) × (keeps ≡ kept) × (script_in n before (line ∷ lines) ≡ ended n before)
 HasTakenLine n before now kept keeps line lines (Err fault) = HasReadScript (script_in n before (line ∷ lines)) (Err fault)
 

@@ -1,5 +1,6 @@
 -- What a script asks of its transcript, step by step, and the first of its lines that is refused.
-use Rattle.std.specs.Prelude.{ℕ, ◌+◌, nat_lt, not, Bool, true, List, [], ◌∷◌, ◌++◌, codes, replicate, slice_index, slice_set, Option, Some, None, Result, Ok, Err, option_map, if◌then◌else◌}
+use Rattle.std.specs.Prelude.{ℕ, ◌+◌, nat_lt, not, Bool, true, List, [], ◌∷◌, ◌++◌, codes, replicate, slice_index}
+use Rattle.std.specs.Prelude.{slice_set, Option, Some, None, Result, Ok, Err, option_map, if◌then◌else◌}
 use Rattle.std.specs.Str.{bytes_eq}
 use Rattle.group_types.specs.Dimensions.{Dimensions, callers}
 use Rattle.group_calls.specs.declared.event.Event.{Event}
@@ -115,4 +116,5 @@ script_from_line skipped well n setting (Refused cause) rest = Err (record { num
 -- the script of lines, or the first of them that is refused, where the next has the number n
 abbrev pub script_in : ℕ → Option Setting → List (List ℕ) → Result Script (Fault LineFault)
 script_in n setting [] = ended n setting
-script_in n setting (line ∷ lines) = script_from_line (is_skipped line) (stands_well line lines) n setting (steps_of_line setting line) (λ next. script_in (n + 1) next lines)
+script_in n setting (line ∷ lines) = script_from_line (is_skipped line) (stands_well line lines) n setting
+    (steps_of_line setting line) (λ next. script_in (n + 1) next lines)

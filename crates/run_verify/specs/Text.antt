@@ -41,10 +41,12 @@ abbrev pub HasJudged : Input → Input → List ℕ → List ℕ → VerifyStatu
 HasJudged before now held held_now Done = (entries shown : ℕ) × IsVerifiedText before now entries shown × Appends held held_now (verified_line entries shown)
 HasJudged before now held held_now (Refused n) = (text : List ℕ) × IsRead before now text × IsVerdictOf text (Ok (verdict.Refused n)) × (held_now ≡ held)
 HasJudged before now held held_now (BadLine n) = (text : List ℕ) × IsRead before now text × IsVerdictOf text (Err (fault.BadLine n)) × (held_now ≡ held)
-HasJudged before now held held_now (BadShape field) = (text : List ℕ) × IsRead before now text × IsVerdictOf text (Err (fault.BadShape field)) × (held_now ≡ held)
+HasJudged before now held held_now (BadShape field) = (text : List ℕ) × IsRead before now text
+    × IsVerdictOf text (Err (fault.BadShape field)) × (held_now ≡ held)
 HasJudged before now held held_now TooLong = (text : List ℕ) × Takes before now text × (length text ≡ longest_sheet + 1) × (held_now ≡ held)
 HasJudged before now held held_now ReadFault = TakesAtMost longest_sheet before now × (held_now ≡ held)
-HasJudged before now held held_now WriteFault = (entries shown : ℕ) × IsVerifiedText before now entries shown × HasWritten held held_now (verified_line entries shown)
+HasJudged before now held held_now WriteFault = (entries shown : ℕ) × IsVerifiedText before now entries shown
+    × HasWritten held held_now (verified_line entries shown)
 HasJudged before now held held_now Want =
     (TakesAtMost (longest_sheet + 1) before now × (held_now ≡ held))
     ⊎ ((entries shown : ℕ) × IsVerifiedText before now entries shown × HasWritten held held_now (verified_line entries shown))

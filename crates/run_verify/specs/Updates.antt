@@ -64,7 +64,8 @@ item_run_behind updates key = run_on key None updates
 
 -- an update stands right behind others: its value at a clear run, or no run where it brings none
 abbrev pub StandsRight : Dimensions → List Logged → Logged → Bool → Type 0
-StandsRight s before u true = (run : Run) × (value : Holding) × (u.run ≡ Some run) × (u.item ≡ Some value) × IsClearRun s (item_run_behind before) run (length value.item.value)
+StandsRight s before u true = (run : Run) × (value : Holding) × (u.run ≡ Some run) × (u.item ≡ Some value)
+    × IsClearRun s (item_run_behind before) run (length value.item.value)
 StandsRight s before u false = u.run ≡ None
 
 -- so do updates, one after the other

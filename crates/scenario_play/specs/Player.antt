@@ -34,7 +34,8 @@ pub record EndsAt {P : Type 0} (tells : Telling P) (n : ℕ) (before : P) (line 
 -- a line was treated: the script goes on or ends, or the line is refused, or there was no memory
 abbrev pub HasTreatedLine : {P : Type 0} → Telling P → ℕ → P → P → List ℕ → Result (Option (List ℕ)) Status → Type 0
 HasTreatedLine tells n before now line (Ok (Some written)) = ScriptGoesOn tells n before now line written
-HasTreatedLine tells n before now line (Ok None) = EndsAt tells n before line Done × ((lines : List (List ℕ)) → tells.entries before (line ∷ lines) ≡ tells.entries now [])
+HasTreatedLine tells n before now line (Ok None) = EndsAt tells n before line Done
+    × ((lines : List (List ℕ)) → tells.entries before (line ∷ lines) ≡ tells.entries now [])
 HasTreatedLine tells n before now line (Err status) = (status ≡ Want) ⊎ (TellsOfLine status × EndsAt tells n before line status)
 
 -- there are no more lines: all were treated, or one is lacking
@@ -46,9 +47,11 @@ HasMetEnd tells n player (Err status) = (tells.text player [] ≡ []) × (tells.
 -- it
 abbrev pub HasPlayed : List ℕ → List ℕ → ℕ → ℕ → (List ℕ → List ℕ) → List ℕ → Status → Result (Unit {0}) Status → Type 0
 HasPlayed before now faults_before faults_now transcript script verdict (Ok _) = (verdict ≡ Done) × Appends before now (transcript script)
-HasPlayed before now faults_before faults_now transcript script verdict (Err WriteFault) = Rose faults_before faults_now × HasWritten before now (transcript script)
+HasPlayed before now faults_before faults_now transcript script verdict (Err WriteFault) = Rose faults_before faults_now
+    × HasWritten before now (transcript script)
 HasPlayed before now faults_before faults_now transcript script verdict (Err Want) = IsPlayedInPart transcript script before now
-HasPlayed before now faults_before faults_now transcript script verdict (Err status) = TellsOfLine status × (verdict ≡ status) × Appends before now (transcript script)
+HasPlayed before now faults_before faults_now transcript script verdict (Err status) = TellsOfLine status
+    × (verdict ≡ status) × Appends before now (transcript script)
 
 -- the bytes in an answer
 abbrev pub bytes_in_text : {E Z : Type 0} → Result (Option (Vec ℕ Z)) E → Result (Option (List ℕ)) E

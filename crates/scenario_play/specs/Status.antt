@@ -12,7 +12,9 @@ use Rattle.scenario_run.specs.Course.{Fault}
 use Rattle.scenario_run.specs.Script.{first_fault}
 use Rattle.scenario_play.specs.declared.status.Count.TheVariants.{Groups, Nodes}
 use Rattle.scenario_play.specs.declared.status.Status.{Status}
-use Rattle.scenario_play.specs.declared.status.Status.TheVariants.{Done, BadWords, BadLine, BadShape, BadCount, TooLong, ReadFault, WriteFault, Want, Cut, LineTooLong, Worn, BadFrame, Refused, BadConfig, AcceptFault}
+use Rattle.scenario_play.specs.declared.status.Status.TheVariants.{Done, BadWords, BadLine, BadShape, BadCount, TooLong}
+use Rattle.scenario_play.specs.declared.status.Status.TheVariants.{ReadFault, WriteFault, Want, Cut, LineTooLong, Worn}
+use Rattle.scenario_play.specs.declared.status.Status.TheVariants.{BadFrame, Refused, BadConfig, AcceptFault}
 
 -- the number with which the program ends
 abbrev pub number_of_status : Status → ℕ

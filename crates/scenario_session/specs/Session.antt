@@ -25,7 +25,8 @@ session_end_of (Err fault.Want) = Want
 
 -- a connection was served over a fresh group of this shape, and ended so; whatever calls lead from that group on, their
 -- ends are those of one table
-pub record IsSessionServed (s : Dimensions) (told : Option ℕ) (input input_now : Input) (held held_now : List ℕ) (connection : Result End ConnectionFault) : Type 0 where
+pub record IsSessionServed (s : Dimensions) (told : Option ℕ) (input input_now : Input) (held held_now : List ℕ)
+    (connection : Result End ConnectionFault) : Type 0 where
   pub after : Caller
   pub served : HasServed group_ways told input input_now (stand (fresh s) held) (stand after held_now) connection
   pub one_table : IsOneTable s

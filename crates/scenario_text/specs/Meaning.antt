@@ -1,4 +1,5 @@
-use Rattle.std.specs.Prelude.{ℕ, ◌<◌, ◌≤◌, ◌+◌, ⊤, ◌==◌, ◌≢◌, ◌^◌, nat_le, ◌&&◌, not, Bool, true, All, List, [], ◌∷◌, find, codes, Option, Some, None, option_map, Result, Ok, Err, if◌then◌else◌}
+use Rattle.std.specs.Prelude.{ℕ, ◌<◌, ◌≤◌, ◌+◌, ⊤, ◌==◌, ◌≢◌, ◌^◌, nat_le, ◌&&◌, not, Bool, true, All, List, [], ◌∷◌}
+use Rattle.std.specs.Prelude.{find, codes, Option, Some, None, option_map, Result, Ok, Err, if◌then◌else◌}
 use Rattle.std.specs.Int.{is_power_of_two}
 use Rattle.std.specs.Str.{bytes_eq}
 use Rattle.group_types.specs.Dimensions.{Dimensions, callers, space_of}
@@ -51,7 +52,9 @@ group_line_of _ _ _ _ = Err BadLine
 
 -- the words `group <k> <m> <blocks> <block>`
 abbrev pub group_line : List (List ℕ) → Result Line LineFault
-group_line (name ∷ k ∷ m ∷ blocks ∷ block ∷ []) = if bytes_eq name (codes "group") then group_line_of (number_below (2 ^ 32) k) (number_below (2 ^ 32) m) (number_below (2 ^ 32) blocks) (number_below (2 ^ 32) block) else Err BadLine
+group_line (name ∷ k ∷ m ∷ blocks ∷ block ∷ []) = if bytes_eq name (codes "group") then group_line_of
+    (number_below (2 ^ 32) k) (number_below (2 ^ 32) m) (number_below (2 ^ 32) blocks) (number_below (2 ^ 32) block)
+    else Err BadLine
 group_line _ = Err BadLine
 
 -- the keyword that the first word of a line is

@@ -1,5 +1,6 @@
 -- What is read at the front of bytes, and the bytes behind it; none where no such thing is spelled there.
-use Rattle.std.specs.Prelude.{ℕ, zero, suc, ◌≡◌, ◌==◌, ◌&&◌, nat_lt, nat_le, not, Bool, List, [], ◌∷◌, length, take, drop, Option, Some, None, Result, Ok, Err, ⊤, if◌then◌else◌}
+use Rattle.std.specs.Prelude.{ℕ, zero, suc, ◌≡◌, ◌==◌, ◌&&◌, nat_lt, nat_le, not, Bool, List, [], ◌∷◌, length, take}
+use Rattle.std.specs.Prelude.{drop, Option, Some, None, Result, Ok, Err, ⊤, if◌then◌else◌}
 use Rattle.std.specs.List.{list_all}
 use Rattle.std.specs.Int.{Width, w16, w32, w64, byte_len, from_be_bytes}
 use Rattle.group_types.specs.declared.process.ProcessId.{ProcessId}
@@ -184,7 +185,8 @@ unfoldable pub block_at : Read Message
 block_at = of_three tells.Block session_at long_at (decode_number w64)
 
 unfoldable pub mark_at : Read Message
-mark_at = of_five (λ s r block d number. tells.Mark s (record { 0 = r }) block (record { 0 = d }) number) session_at one_at (decode_number w32) one_at (decode_number w64)
+mark_at = of_five (λ s r block d number. tells.Mark s (record { 0 = r }) block (record { 0 = d }) number) session_at
+    one_at (decode_number w32) one_at (decode_number w64)
 
 unfoldable pub stamp_at : Read (List ℕ)
 stamp_at = list_at one_at (decode_number w64)
@@ -200,7 +202,8 @@ notice_at = made_at tells.Notice decode_process
 
 -- the kinds of messages, and how the fields of each are read
 abbrev pub kinds : List (ℕ × Read Message)
-kinds = (1, update_message_at) ∷ (2, ack_at) ∷ (3, stable_at) ∷ (4, adopt_at) ∷ (5, read_block_at) ∷ (6, block_at) ∷ (7, mark_at) ∷ (8, row_at) ∷ (9, cease_at) ∷ (10, notice_at) ∷ []
+kinds = (1, update_message_at) ∷ (2, ack_at) ∷ (3, stable_at) ∷ (4, adopt_at) ∷ (5, read_block_at) ∷ (6, block_at)
+    ∷ (7, mark_at) ∷ (8, row_at) ∷ (9, cease_at) ∷ (10, notice_at) ∷ []
 
 unfoldable pub message_at : Read Message
 message_at = tagged_at kinds

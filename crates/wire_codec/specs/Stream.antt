@@ -61,7 +61,8 @@ HasDecoded kept input messages = DecodesFrom 0 kept input messages
 
 -- whatever was fed before, with a piece more these messages more are given
 abbrev pub Feeds : DecoderState → DecoderState → List ℕ → List Message → Type 0
-Feeds before after piece given = (input : List ℕ) (messages : List Message) → HasDecoded before input messages → HasDecoded after (input ++ piece) (messages ++ given)
+Feeds before after piece given = (input : List ℕ) (messages : List Message) → HasDecoded before input messages
+    → HasDecoded after (input ++ piece) (messages ++ given)
 
 -- a decoder may be fed so many bytes more: with them the stream has at most 2^62, or it has met a frame that is no spelling
 abbrev pub CanBeFed : DecoderState → ℕ → Type 0

@@ -43,11 +43,13 @@ pub record CarriesByClients (t : Contents) (s : Dimensions) (actions more : List
 
 -- then the group's log begins with a carry, whatever is done behind
 abbrev pub AcknowledgedAreCarried : Type 0
-AcknowledgedAreCarried = (t : Contents) (s : Dimensions) (actions more : List Action) → CarriesByClients t s actions more → BeginsWithCarry t (log_made s (actions ++ more))
+AcknowledgedAreCarried = (t : Contents) (s : Dimensions) (actions more : List Action)
+    → CarriesByClients t s actions more → BeginsWithCarry t (log_made s (actions ++ more))
 
 -- and each item whose set is acknowledged is then what it was, with a cas number above all earlier ones of its partition
 abbrev pub AcknowledgedKeep : Type 0
-AcknowledgedKeep = (earlier told : List Entry) (s : Dimensions) (actions more : List Action) → IsLegal s.k earlier → CarriesByClients (table_left s.k earlier) s actions more
+AcknowledgedKeep = (earlier told : List Entry) (s : Dimensions) (actions more : List Action) → IsLegal s.k earlier
+    → CarriesByClients (table_left s.k earlier) s actions more
     → IsTold earlier s actions told
     → (key : List ℕ) (h : Holding) → (table_left s.k earlier).items key ≡ Some h → IsAcknowledged s actions key
     → IsItemKept (table_left s.k earlier) key h (table_left s.k (earlier ++ told))

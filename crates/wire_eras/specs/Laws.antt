@@ -70,13 +70,15 @@ SetsKeepItems = (k : ℕ) (earlier sets told : List Entry) → 1 ≤ k → IsLeg
     → IsItemKept (table_left k earlier) key h (table_left k (earlier ++ told))
 
 -- an answer is that of the one table for what was asked, at the place of the call in the log over both
-pub record IsOfTable (earlier told : List Entry) (k : ℕ) (c : Composed) (caller : ℕ) (o : OpenCall) (shown : Reply) (asked : Asked) (answer : Reply) : Type 0 where
+pub record IsOfTable (earlier told : List Entry) (k : ℕ) (c : Composed) (caller : ℕ) (o : OpenCall) (shown : Reply)
+    (asked : Asked) (answer : Reply) : Type 0 where
   pub logged : IsLoggedSinceBegun c caller o shown
   pub table : answer ≡ reply_of (table_left k (earlier ++ take logged.place told)) asked
 
 -- so is what a client is shown: with the base taken off the cas number that it brings, and added to the one that it is told
 abbrev pub ShownIsOfTable : Type 0
-ShownIsOfTable = (earlier told : List Entry) (s : Dimensions) (actions : List Action) (caller ping : ℕ) (o : OpenCall) (t : Told) (shown : Reply) (asked : Asked)
+ShownIsOfTable = (earlier told : List Entry) (s : Dimensions) (actions : List Action) (caller ping : ℕ) (o : OpenCall)
+    (t : Told) (shown : Reply) (asked : Asked)
     → GoesOnFrom earlier s actions → IsTold earlier s actions told → NoTwoHoldAll (composed s actions).group
     → MayAct (composed s actions).group (Show caller ping) → Shows (composed s actions) caller o t → t.answer ≡ says.Reply shown
     → o.op ≡ op_for_era (bases_of s.k earlier) s.k asked

@@ -46,7 +46,8 @@ pub record HeadListsItems (s : Dimensions) (actions : List Action) (d : ℕ) : T
   pub base : (head_replica (composed s actions) d).applied ≡ at 0 (bases_of s.k (log_made s actions)) d
 
 abbrev pub HeadsListItems : Type 0
-HeadsListItems = (s : Dimensions) (actions : List Action) (d : ℕ) → AreActions s actions → AreMembersAtRest (composed s actions).group → d < s.k → HeadListsItems s actions d
+HeadsListItems = (s : Dimensions) (actions : List Action) (d : ℕ) → AreActions s actions
+    → AreMembersAtRest (composed s actions).group → d < s.k → HeadListsItems s actions d
 
 -- a call that begins behind is shown a reply
 pub record ShowsBehind (s : Dimensions) (actions more : List Action) (caller : ℕ) (o : OpenCall) (shown : Reply) : Type 0 where
@@ -74,8 +75,10 @@ pub record TableHoldsItem (t : Contents) (key : List ℕ) (item : Item) : Type 0
   pub same : holding.item ≡ item
 
 abbrev pub ValuesAreHeld : Type 0
-ValuesAreHeld = (t : Contents) (moment : ℕ) (key : List ℕ) (item : Item) → reply_of t (record { moment = moment; act = Get key }) ≡ reply.Value item → TableHoldsItem t key item
+ValuesAreHeld = (t : Contents) (moment : ℕ) (key : List ℕ) (item : Item)
+    → reply_of t (record { moment = moment; act = Get key }) ≡ reply.Value item → TableHoldsItem t key item
 
 abbrev pub MissesHaveEnded : Type 0
-MissesHaveEnded = (t : Contents) (moment : ℕ) (key : List ℕ) (h : Holding) → reply_of t (record { moment = moment; act = Get key }) ≡ reply.Miss → t.items key ≡ Some h
+MissesHaveEnded = (t : Contents) (moment : ℕ) (key : List ℕ) (h : Holding)
+    → reply_of t (record { moment = moment; act = Get key }) ≡ reply.Miss → t.items key ≡ Some h
     → is_live moment h.until ≡ false

@@ -35,10 +35,12 @@ further first then last before after = record {
   after = after.after ∙ ap (λ (w : World). world_after w after.events) before.after ∙ sym (both first.world before.events after.events);
 }
 
-failed : (before : GroupCaller) (p : ProcessId) (keep : ℕ) (end : FailEnd) (after : GroupCaller) → HasFailedProcess before p keep end after → IsLaterGroup before after
+failed : (before : GroupCaller) (p : ProcessId) (keep : ℕ) (end : FailEnd) (after : GroupCaller)
+    → HasFailedProcess before p keep end after → IsLaterGroup before after
 failed before p keep end after is = record { same = is.same; events = Fail p keep ∷ []; after = is.world }
 
-ordered : (before : GroupCaller) (p : ProcessId) (keep : ℕ) (end : FailEnd) (after : GroupCaller) → IsFailureOrdered before p keep end after → IsLaterGroup before after
+ordered : (before : GroupCaller) (p : ProcessId) (keep : ℕ) (end : FailEnd) (after : GroupCaller)
+    → IsFailureOrdered before p keep end after → IsLaterGroup before after
 ordered before p keep ends.Off after is = subst (IsLaterGroup before) (sym is.1) (at_itself before)
 ordered before p keep ends.NoProcess after is = subst (IsLaterGroup before) (sym is.2) (at_itself before)
 ordered before p keep ends.Worn after is = subst (IsLaterGroup before) (sym is.2) (at_itself before)

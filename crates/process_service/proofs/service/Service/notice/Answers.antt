@@ -7,12 +7,12 @@ use Rattle.group_run.specs.Heading.{judge}
 use Rattle.group_run.specs.Process.{Process}
 use Rattle.group_run.specs.Receiving.{take_over_if}
 use Rattle.head_service.specs.Serving.{Serving, serving}
-use Rattle.process_service.specs.Noticing.{adoptions, bereaved, heirs}
+use Rattle.process_service.specs.Noticing.{adoptions, bereaved, successors}
 use Rattle.process_service.specs.Standing.{IsBeneath}
 use Rattle.process_service.specs.Steps.{HasMade, after_mourning}
 use Rattle.process_service.specs.contracts.service.Service.{the_view}
 use Rattle.process_service.proofs.Each.{step-is}
-use Rattle.process_service.proofs.Mourning.{judged-heirs, judges-keep, mourned-sent, view}
+use Rattle.process_service.proofs.Mourning.{judged-successors, judges-keep, mourned-sent, view}
 use Rattle.process_service.proofs.Taken.{viewed}
 use Rattle.process_service.proofs.service.Service.notice.Given as given
 use Rattle.process_service.proofs.service.Service.notice.Goals as goal
@@ -58,11 +58,11 @@ module _ (g : given.Over) (c : goal.After-settled-2-1 g) where
   w-shape : s ≡ w.shape
   w-shape = sym (c.judge_all.ensures.stays.shape ∙ shape-is)
 
-  kept-heirs : heirs v ds ≡ heirs w ds
-  kept-heirs = sym (ap (λ (x : Serving). heirs x ds) (sym (viewed s w b2 c.judge_all.ensures.stays.beneath.name w-shape))
-      ∙ ap (λ (p : Process). heirs (view s p) ds) made.process
-      ∙ judged-heirs s ds (serving v b) judged.process (judges-keep s ds (serving v b))
-      ∙ ap (λ (x : Serving). heirs x ds) (viewed s v b c.requires.beneath.name refl))
+  kept-successors : successors v ds ≡ successors w ds
+  kept-successors = sym (ap (λ (x : Serving). successors x ds) (sym (viewed s w b2 c.judge_all.ensures.stays.beneath.name w-shape))
+      ∙ ap (λ (p : Process). successors (view s p) ds) made.process
+      ∙ judged-successors s ds (serving v b) judged.process (judges-keep s ds (serving v b))
+      ∙ ap (λ (x : Serving). successors x ds) (viewed s v b c.requires.beneath.name refl))
 
 pub judge_all-requires-clause-beneath : goal.judge_all-requires-clause-beneath
 judge_all-requires-clause-beneath g c =
@@ -79,8 +79,8 @@ returns-clause-stays g c = record {
 }
 
 pub take_over_all-requires-clause-heads : goal.take_over_all-requires-clause-heads
-take_over_all-requires-clause-heads g c = c.requires.prepared.heads_are ∙ kept-heirs g c
-    ∙ ap (λ (x : Dimensions). heirs c.judge_all.new.self (range_with_len 0 x.k)) (w-shape g c)
+take_over_all-requires-clause-heads g c = c.requires.prepared.heads_are ∙ kept-successors g c
+    ∙ ap (λ (x : Dimensions). successors c.judge_all.new.self (range_with_len 0 x.k)) (w-shape g c)
 
 pub returns-clause-step : goal.returns-clause-step
 returns-clause-step g c =

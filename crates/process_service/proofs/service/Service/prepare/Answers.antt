@@ -7,7 +7,7 @@ use Rattle.group_run.specs.Applying.{Sent}
 use Rattle.group_run.specs.Process.{Head}
 use Rattle.group_run.specs.Replica.{Replica, empty_replica}
 use Rattle.head_service.specs.Serving.{Serving}
-use Rattle.process_service.specs.Noticing.{adoption_if, adoptions, bereaved, heir_at, heir_if, heirs, is_due, is_taken_over}
+use Rattle.process_service.specs.Noticing.{adoption_if, adoptions, bereaved, successor_at, successor_if, successors, is_due, is_taken_over}
 use Rattle.process_service.proofs.Each.{range-front}
 use Rattle.process_service.proofs.service.Service.prepare.Goals as goal
 
@@ -22,17 +22,17 @@ partitions-preserved c =
     let rest : List ℕ = range_with_len (d + 1) (k - (d + 1)) in
     let due : c.is_due-due.result ≡ is_taken_over v d
     = c.is_due-due.ensures ∙ ap (λ (x : Membership). is_due x v.name d (at None v.heads d)) c.partitions.invariant.known in
-    let head : c.in_ok-head.head ≡ heir_at v d = c.in_ok-head.ensures ∙ ap (λ (x : Bool). heir_if x v.shape v.name r) due in
+    let head : c.in_ok-head.head ≡ successor_at v d = c.in_ok-head.ensures ∙ ap (λ (x : Bool). successor_if x v.shape v.name r) due in
     let told : adoption_if c.is_due-due.result v.shape c.fail.new.self v.name d r ≡ adoption_if (is_taken_over v d) v.shape v.known v.name d r
     = ap (λ (x : Bool). adoption_if x v.shape c.fail.new.self v.name d r) due
     ∙ ap (λ (x : Membership). adoption_if (is_taken_over v d) v.shape x v.name d r) c.partitions.invariant.known in
     record {
       known = c.partitions.invariant.known;
       kept = c.partitions.invariant.kept;
-      heads = ap (λ (xs : List (Option Head)). xs ++ heirs v rest) c.in_ok-push.ensures.items
-          ∙ append_assoc c.partitions.notice.heads.items (c.in_ok-head.head ∷ []) (heirs v rest)
-          ∙ ap (λ (x : Option Head). c.partitions.notice.heads.items ++ x ∷ heirs v rest) head
-          ∙ sym (ap (λ (ds : List ℕ). c.partitions.notice.heads.items ++ heirs v ds) (range-front d k below)) ∙ c.partitions.invariant.heads;
+      heads = ap (λ (xs : List (Option Head)). xs ++ successors v rest) c.in_ok-push.ensures.items
+          ∙ append_assoc c.partitions.notice.heads.items (c.in_ok-head.head ∷ []) (successors v rest)
+          ∙ ap (λ (x : Option Head). c.partitions.notice.heads.items ++ x ∷ successors v rest) head
+          ∙ sym (ap (λ (ds : List ℕ). c.partitions.notice.heads.items ++ successors v ds) (range-front d k below)) ∙ c.partitions.invariant.heads;
       sent = ap (λ (xs : List Sent). xs ++ adoptions v rest) c.in_ok-adoption_if.ensures
           ∙ append_assoc c.partitions.sent.items (adoption_if c.is_due-due.result v.shape c.fail.new.self v.name d r) (adoptions v rest)
           ∙ ap (λ (xs : List Sent). c.partitions.sent.items ++ (xs ++ adoptions v rest)) told

@@ -9,11 +9,11 @@ use Rattle.group_run.specs.Applying.{for_each}
 use Rattle.group_run.specs.Process.{Head, Process}
 use Rattle.group_run.specs.Receiving.{take_over_if}
 use Rattle.head_service.specs.Serving.{Serving, serving}
-use Rattle.process_service.specs.Noticing.{heir_at}
+use Rattle.process_service.specs.Noticing.{successor_at}
 use Rattle.process_service.specs.Steps.{HasMade}
 use Rattle.process_service.proofs.Each.{left-first, left-next}
 use Rattle.process_service.proofs.Lists.{entry-at, long-set}
-use Rattle.process_service.proofs.Taken.{heirs-stay}
+use Rattle.process_service.proofs.Taken.{successors-stay}
 use Rattle.process_service.proofs.service.Service.take_over_all.Goals as goal
 
 from-zero : (e : ℕ) → 0 + e ≡ e
@@ -28,9 +28,9 @@ partitions-init g c =
     record {
       stays = record { shape = refl; name = refl; beneath = c.requires.beneath; pages = refl };
       room = c.requires.room;
-      long = ap length c.requires.heads ∙ length-map-range_with_len (heir_at c.args.self.now) 0 s.k;
+      long = ap length c.requires.heads ∙ length-map-range_with_len (successor_at c.args.self.now) 0 s.k;
       heads = λ e low below. ap (λ (xs : List (Option Head)). at None xs e) c.requires.heads
-          ∙ at-map-range None (heir_at c.args.self.now) s.k 0 e below ∙ ap (heir_at c.args.self.now) (from-zero e);
+          ∙ at-map-range None (successor_at c.args.self.now) s.k 0 e below ∙ ap (successor_at c.args.self.now) (from-zero e);
       ahead = left-first (take_over_if s) s.k (serving c.args.self.now (g.B.Beneath.storage c.args.below.now).process) c.args.settled.now.items;
     }
 
@@ -70,7 +70,7 @@ partitions-preserved g c =
           (omega (arith, below, c.partitions.invariant.long)))
           ∙ at-put-other None c.partitions.heads.items d e c.take-head.new.self (above e d high)
           ∙ c.partitions.invariant.heads e (omega (arith, high)) within
-          ∙ sym (heirs-stay s c.partitions.self c.take_over_if.new.self b b2 c.partitions.invariant.stays.beneath.name (sym c.partitions.invariant.stays.shape)
+          ∙ sym (successors-stay s c.partitions.self c.take_over_if.new.self b b2 c.partitions.invariant.stays.beneath.name (sym c.partitions.invariant.stays.shape)
           c.take_over_if.ensures.stays.beneath.name
           (sym (c.take_over_if.ensures.stays.shape ∙ c.partitions.invariant.stays.shape)) d e (above e d high)
           made.process);

@@ -8,13 +8,13 @@ use Rattle.group_run.specs.Replica.{last_of}
 use Rattle.partition_replica.specs.State.{IsTidyBut, ReplicaState}
 use Rattle.head_service.specs.Peers.{settles}
 use Rattle.head_service.specs.Serving.{Serving, serving}
-use Rattle.process_service.specs.Noticing.{heir_at}
+use Rattle.process_service.specs.Noticing.{successor_at}
 use Rattle.process_service.specs.Steps.{HasMade}
 use Rattle.process_service.proofs.Lent.{IsLent, applied-kept, has-replica, headed, headed-is, here, other-heads}
 use Rattle.process_service.proofs.Lent.{room-left, seat-of, shape-after, stays-over, up-in}
 use Rattle.process_service.proofs.Lists.{long-set}
 use Rattle.process_service.proofs.Standing.{peers-are}
-use Rattle.process_service.proofs.Taken.{heir-long, taken-made}
+use Rattle.process_service.proofs.Taken.{successor-long, taken-made}
 use Rattle.process_service.proofs.service.Service.take_over_if.Given as given
 use Rattle.process_service.proofs.service.Service.take_over_if.Goals as goal
 
@@ -25,13 +25,13 @@ module _ (g : given.Over) (c : goal.After-judge-arg-2-1 g) where
   abbrev number : ℕ
   number = settles c.peers-peers.result c.in-Some.head (last_of c.index_mut.result.now.replica)
 
-  heir-is : Some c.in-Some.head ≡ heir_at c.args.self.now c.args.partition.0
-  heir-is = sym c.in-Some.is ∙ c.requires.head
+  successor-is : Some c.in-Some.head ≡ successor_at c.args.self.now c.args.partition.0
+  successor-is = sym c.in-Some.is ∙ c.requires.head
 
 pub judge-requires-clause-seat : goal.judge-requires-clause-seat
 judge-requires-clause-seat g c = record {
   seat = seat-of (lent g c) c.requires.beneath;
-  acks = heir-long c.args.self.now c.args.partition.0 c.in-Some.head (heir-is g c) ∙ sym c.peers-peers.ensures.m;
+  acks = successor-long c.args.self.now c.args.partition.0 c.in-Some.head (successor-is g c) ∙ sym c.peers-peers.ensures.m;
 }
 
 pub judge-requires-clause-room : goal.judge-requires-clause-room
@@ -54,7 +54,7 @@ invariant_of-self g c =
       tidy = All-set (λ (x : ReplicaState). IsTidyBut x (λ _. false)) c.self.inside.replicas.items d c.judge.new.replica
           c.judge.ensures.seat.tidy c.self.invariant.tidy;
       acks = All-set (λ (x : Option Head). IfSome x (λ h. length h.acks ≡ c.self.inside.shape.m)) c.self.inside.heads.items d (Some c.in-Some.head)
-          (heir-long c.args.self.now d c.in-Some.head (heir-is g f) ∙ sym (ap (λ (w : Serving). w.shape.m) c.self.view_is)) c.self.invariant.acks;
+          (successor-long c.args.self.now d c.in-Some.head (successor-is g f) ∙ sym (ap (λ (w : Serving). w.shape.m) c.self.view_is)) c.self.invariant.acks;
     }
 
 pub returns-clause-stays : goal.returns-clause-stays
@@ -89,5 +89,5 @@ returns-clause-made g c =
     (sym (headed-is (lent g f) c.judge.new.replica c.rank.result c.in-Some.head c.rank.ensures))
     (taken-made s v b c.requires.beneath.name c.requires.beneath.shape d c.peers-peers.result c.in-Some.head c.index_mut.result.now.replica
     (peers-are c.requires.beneath c.peers-peers.result c.peers-peers.ensures.m c.peers-peers.ensures.name c.peers-peers.ensures.known)
-    (here (lent g f)) (has-replica (lent g f)) (heir-is g f) c.judge.new.replica.replica b2 c.args.settled.now.items c.judge.new.settled.items
+    (here (lent g f)) (has-replica (lent g f)) (successor-is g f) c.judge.new.replica.replica b2 c.args.settled.now.items c.judge.new.settled.items
     c.judge.ensures.settled.applied.replica c.judge.ensures.settled.applied.process c.judge.ensures.settled.settled))

@@ -4,9 +4,9 @@ use Rattle.group_types.specs.Lists.{at}
 use Rattle.group_run.specs.Process.{Head, new_head}
 use Rattle.group_run.specs.Replica.{Replica, empty_replica, last_of}
 use Rattle.head_service.specs.Serving.{Serving}
-use Rattle.process_service.specs.Noticing.{heir_if}
+use Rattle.process_service.specs.Noticing.{successor_if}
 use Rattle.process_service.proofs.Lent.{IsLent, here}
-use Rattle.process_service.proofs.service.Service.heir_if.Goals as goal
+use Rattle.process_service.proofs.service.Service.successor_if.Goals as goal
 
 pub returns : goal.returns
 returns c =
@@ -16,6 +16,6 @@ returns c =
     ∙ ap (λ (s : Dimensions). Some (new_head s c.next_rank.result.0 (last_of c.index-replica.result.now.replica)))
     (ap (λ (v : Serving). v.shape) c.self.view_is)
     ∙ ap (λ (n : ℕ). Some (new_head c.args.self.now.shape n (last_of c.index-replica.result.now.replica))) c.next_rank.ensures
-    ∙ ap (λ (r : Replica). heir_if true c.args.self.now.shape c.args.self.now.name r) (sym (here lent))
-    ∙ ap (λ (due : Bool). heir_if due c.args.self.now.shape c.args.self.now.name
+    ∙ ap (λ (r : Replica). successor_if true c.args.self.now.shape c.args.self.now.name r) (sym (here lent))
+    ∙ ap (λ (due : Bool). successor_if due c.args.self.now.shape c.args.self.now.name
     (at empty_replica c.args.self.now.replicas c.args.partition.0)) (sym c.if-not-due.false)
