@@ -7,7 +7,7 @@ use Rattle.group_eras.specs.Eras.{EraEntry}
 use Rattle.group_eras.specs.Told.{Bases}
 use Rattle.group_run.specs.World.{World}
 use Rattle.group_regroup.specs.declared.changing.Lowered.{Lowered}
-use Rattle.group_regroup.specs.Kept.{entries_from, eras_of, past_from, told_at, told_from}
+use Rattle.group_regroup.specs.Kept.{entries_from, entry_of_era, eras_of, past_from, told_from}
 use Rattle.group_regroup.specs.Last.{entries_of_era}
 
 entries-append : (era : ℕ) (a b : List EraEntry) → entries_of_era era (a ++ b) ≡ entries_of_era era a ++ entries_of_era era b
@@ -41,14 +41,14 @@ told-own : (bases : Bases) (k n era : ℕ) (l : List Lowered) (p : ℕ) (xs : Li
     → entries_of_era era (told_from bases k n l p xs) ≡ entries_from bases k l p xs
 told-own bases k n era l p [] is = refl
 told-own bases k n era l p (x ∷ xs) is =
-    ap (λ (t : Bool). if t then told_at bases k l p x ∷ entries_of_era era (told_from bases k n l (suc p) xs) else
+    ap (λ (t : Bool). if t then entry_of_era bases k l p x ∷ entries_of_era era (told_from bases k n l (suc p) xs) else
     entries_of_era era (told_from bases k n l (suc p) xs)) (same-number n era is)
-    ∙ ap (λ (ys : List Entry). told_at bases k l p x ∷ ys) (told-own bases k n era l (suc p) xs is)
+    ∙ ap (λ (ys : List Entry). entry_of_era bases k l p x ∷ ys) (told-own bases k n era l (suc p) xs is)
 
 told-other : (bases : Bases) (k n era : ℕ) (l : List Lowered) (p : ℕ) (xs : List Entry) → n ≢ era → entries_of_era era (told_from bases k n l p xs) ≡ []
 told-other bases k n era l p [] is = refl
 told-other bases k n era l p (x ∷ xs) is =
-    ap (λ (t : Bool). if t then told_at bases k l p x ∷ entries_of_era era (told_from bases k n l (suc p) xs) else
+    ap (λ (t : Bool). if t then entry_of_era bases k l p x ∷ entries_of_era era (told_from bases k n l (suc p) xs) else
     entries_of_era era (told_from bases k n l (suc p) xs)) (other-number n era is)
     ∙ told-other bases k n era l (suc p) xs is
 

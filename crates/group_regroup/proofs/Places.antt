@@ -8,7 +8,7 @@ use Rattle.group_calls.specs.declared.entry.Entry.{Entry}
 use Rattle.group_eras.specs.Eras.{EraEntry}
 use Rattle.group_eras.specs.Told.{Bases}
 use Rattle.group_regroup.specs.declared.changing.Lowered.{Lowered}
-use Rattle.group_regroup.specs.Kept.{past_from, told_at, told_from}
+use Rattle.group_regroup.specs.Kept.{entry_of_era, past_from, told_from}
 
 pub get-front : (e : ℕ) (xs : List Entry) (ys : List EraEntry) (i : ℕ) (d : Entry) → i < length xs
     → slice_get xs i ≡ Some d → slice_get (map (λ x. (e, x)) xs ++ ys) i ≡ Some (e, d)
@@ -24,13 +24,14 @@ get-behind e (x ∷ xs) ys (suc i) high = get-behind e xs ys i (omega (arith, hi
     ∙ (let same : i - length xs ≡ suc i - suc (length xs) = omega arith in ap (slice_get ys) same)
 
 pub told-get : (bases : Bases) (k era : ℕ) (l : List Lowered) (p : ℕ) (xs : List Entry) (i : ℕ) (d : Entry)
-    → slice_get xs i ≡ Some d → slice_get (told_from bases k era l p xs) i ≡ Some (era, told_at bases k l (p + i) d)
+    → slice_get xs i ≡ Some d → slice_get (told_from bases k era l p xs) i ≡ Some (era, entry_of_era bases k l (p + i) d)
 told-get bases k era l p [] zero d is = absurd (none-some d is)
 told-get bases k era l p [] (suc i) d is = absurd (none-some d is)
 told-get bases k era l p (x ∷ xs) zero d is =
-    let here : p ≡ p + 0 = omega arith in ap (option_map (λ y. (era, told_at bases k l p y))) is ∙ ap (λ (n : ℕ). Some (era, told_at bases k l n d)) here
+    let here : p ≡ p + 0 =
+        omega arith in ap (option_map (λ y. (era, entry_of_era bases k l p y))) is ∙ ap (λ (n : ℕ). Some (era, entry_of_era bases k l n d)) here
 told-get bases k era l p (x ∷ xs) (suc i) d is =
-    let there : suc p + i ≡ p + suc i = omega arith in told-get bases k era l (suc p) xs i d is ∙ ap (λ (n : ℕ). Some (era, told_at bases k l n d)) there
+    let there : suc p + i ≡ p + suc i = omega arith in told-get bases k era l (suc p) xs i d is ∙ ap (λ (n : ℕ). Some (era, entry_of_era bases k l n d)) there
 
 pub told-none : (bases : Bases) (k era : ℕ) (l : List Lowered) (p : ℕ) (xs : List Entry) (i : ℕ) → length xs ≤ i
     → slice_get (told_from bases k era l p xs) i ≡ None

@@ -6,12 +6,12 @@ use Rattle.group_run.specs.World.{World, opening}
 use Rattle.group_eras.specs.Eras.{EraEntry, next_bases, next_era}
 use Rattle.group_eras.specs.Told.{Bases}
 use Rattle.group_regroup.specs.declared.changing.Lowered.{Lowered}
-use Rattle.group_regroup.specs.Kept.{entries_from, eras_of, past_from, told_at, told_from}
+use Rattle.group_regroup.specs.Kept.{entries_from, entry_of_era, eras_of, past_from, told_from}
 
 told-tagged : (bases : Bases) (k era : ℕ) (l : List Lowered) (p : ℕ) (xs : List Entry)
     → map (λ x. (era, x)) (entries_from bases k l p xs) ≡ told_from bases k era l p xs
 told-tagged bases k era l p [] = refl
-told-tagged bases k era l p (x ∷ xs) = ap (λ (ys : List EraEntry). (era, told_at bases k l p x) ∷ ys) (told-tagged bases k era l (suc p) xs)
+told-tagged bases k era l p (x ∷ xs) = ap (λ (ys : List EraEntry). (era, entry_of_era bases k l p x) ∷ ys) (told-tagged bases k era l (suc p) xs)
 
 past-push : (era : ℕ) (past : List (List Entry)) (xs : List Entry) → past_from era (past ++ xs ∷ [])
     ≡ past_from era past ++ map (λ x. (era + length past, x)) xs

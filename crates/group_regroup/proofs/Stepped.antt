@@ -24,7 +24,7 @@ use Rattle.law_moves.proofs.Reading.{grown-is}
 use Rattle.group_eras.specs.Eras.{EraEntry, era_step}
 use Rattle.group_eras.specs.Told.{Bases, based_reply, event_in, op_for_era, op_out, told_entry, told_op}
 use Rattle.group_regroup.specs.declared.changing.Lowered.{Lowered}
-use Rattle.group_regroup.specs.Kept.{covers, eras_of, is_low, lowered_by, lowered_until, op_asked, past_from, told_at, told_from}
+use Rattle.group_regroup.specs.Kept.{covers, entry_of_era, eras_of, is_low, lowered_by, lowered_until, op_asked, past_from, told_from}
 use Rattle.group_regroup.proofs.Asked.{logged-ops}
 
 -- an op comes out as it was asked, unless it went in lowered
@@ -55,7 +55,7 @@ module _ (bases : Bases) (k era : ℕ) where
   told-append l p [] ys = let same : p ≡ p + 0 = omega arith in ap (λ (n : ℕ). told_from bases k era l n ys) same
   told-append l p (x ∷ xs) ys =
       let same : suc p + length xs ≡ p + suc (length xs) = omega arith in
-      ap (λ (zs : List EraEntry). (era, told_at bases k l p x) ∷ zs) (told-append l (suc p) xs ys
+      ap (λ (zs : List EraEntry). (era, entry_of_era bases k l p x) ∷ zs) (told-append l (suc p) xs ys
       ∙ ap (λ (n : ℕ). told_from bases k era l (suc p) xs ++ told_from bases k era l n ys) same)
 
 -- what is lowered later doesn't cover an earlier place
@@ -106,7 +106,7 @@ module _ (bases : Bases) (k era : ℕ) where
             (based_reply bases (home_of (key_of e.op.act) k) e.reply),
       ) ∷ told_from bases k era (l ++ x ∷ []) (suc p) es)
       here
-      ∙ ap (λ (rest : List EraEntry). (era, told_at bases k l p e) ∷ rest) (told-early l x (suc p) es (omega (arith, low)))
+      ∙ ap (λ (rest : List EraEntry). (era, entry_of_era bases k l p e) ∷ rest) (told-early l x (suc p) es (omega (arith, low)))
 
   -- entries at places behind all that was lowered, told by what says of each which op was asked
   abbrev pub tell_by : Option AskedCall → Entry → EraEntry

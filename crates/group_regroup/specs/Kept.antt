@@ -28,14 +28,14 @@ op_asked [] place name = None
 op_asked (x ∷ xs) place name = if covers x place name then Some x.op else op_asked xs place name
 
 -- the entry at a place of the current world's log, as it is told
-abbrev pub told_at : Bases → ℕ → List Lowered → ℕ → Entry → Entry
-told_at bases k lowered place entry = call_entry (name_of entry) (unwrap_or (op_asked lowered place (name_of entry)) (op_out bases k entry.op))
+abbrev pub entry_of_era : Bases → ℕ → List Lowered → ℕ → Entry → Entry
+entry_of_era bases k lowered place entry = call_entry (name_of entry) (unwrap_or (op_asked lowered place (name_of entry)) (op_out bases k entry.op))
     (based_reply bases (home_of (key_of entry.op.act) k) entry.reply)
 
 -- the entries from a place on
 abbrev pub told_from : Bases → ℕ → ℕ → List Lowered → ℕ → List Entry → List EraEntry
 told_from bases k era lowered place [] = []
-told_from bases k era lowered place (x ∷ xs) = (era, told_at bases k lowered place x) ∷ told_from bases k era lowered (suc place) xs
+told_from bases k era lowered place (x ∷ xs) = (era, entry_of_era bases k lowered place x) ∷ told_from bases k era lowered (suc place) xs
 
 -- the logs of past eras, from an era on
 abbrev pub past_from : ℕ → List (List Entry) → List EraEntry
@@ -81,7 +81,7 @@ pub record KeptFitsWorld (w : World) (bases : Bases) (lowered : List Lowered) : 
 -- the entries from a place on, as they are told, without their era
 abbrev pub entries_from : Bases → ℕ → List Lowered → ℕ → List Entry → List Entry
 entries_from bases k lowered place [] = []
-entries_from bases k lowered place (x ∷ xs) = told_at bases k lowered place x ∷ entries_from bases k lowered (suc place) xs
+entries_from bases k lowered place (x ∷ xs) = entry_of_era bases k lowered place x ∷ entries_from bases k lowered (suc place) xs
 
 -- what is kept stands for eras to which moves led
 pub record AreLed (w : World) (bases : Bases) (past : List (List Entry)) (lowered : List Lowered) : Type 0 where

@@ -3,7 +3,7 @@ ghost use Rattle.std.specs.Option.{unwrap_or};
 ghost use Rattle.group_types.specs.Lists.{at};
 ghost use Rattle.group_calls.specs.Turns.{name_of};
 ghost use Rattle.group_eras.specs.Told.{based_reply, op_out};
-ghost use Rattle.group_regroup.specs.Kept.{covers, op_asked, told_at};
+ghost use Rattle.group_regroup.specs.Kept.{covers, entry_of_era, op_asked};
 
 use crate::changing::{Lowered, base_of};
 use group_calls::Entry;
@@ -21,7 +21,7 @@ pub(crate) fn told_at(
     entry: &Entry,
 ) -> Result<Entry, AllocError>
     requires { 1 ≤ k }
-    ensures { IfOk result (λ told. told ≡ told_at bases.now k lowered.now place entry.now) }
+    ensures { IfOk result (λ told. told ≡ entry_of_era bases.now k lowered.now place entry.now) }
 {
     let base = base_of(bases, home(entry.op.act().key(), k).0);
     let reply = told_reply(base, &entry.reply)?;

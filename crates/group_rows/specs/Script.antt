@@ -16,10 +16,10 @@ abbrev pub shape : ℕ → ℕ → ℕ → ℕ → Dimensions
 shape k m blocks block = record { k = k; m = m; blocks = blocks; block = block }
 
 -- lines of text, each with its end
-abbrev pub text_of : List (List ℕ) → List ℕ
-text_of [] = []
-text_of (line ∷ lines) = line ++ 10 ∷ text_of lines
+abbrev pub rows_text : List (List ℕ) → List ℕ
+rows_text [] = []
+rows_text (line ∷ lines) = line ++ 10 ∷ rows_text lines
 
 -- the script of a group, from its start on, writes these lines
 abbrev pub writes : Dimensions → List Line → List (List ℕ) → Type 0
-writes s script lines = text_from (Some (record { world = opening s; moment = 0 })) script ≡ text_of lines
+writes s script lines = text_from (Some (record { world = opening s; moment = 0 })) script ≡ rows_text lines

@@ -36,7 +36,7 @@ use Rattle.member_runs.proofs.Reaching.{shape-all}
 use Rattle.member_runs.proofs.Running.{make-a-run}
 use Rattle.member_gateway.specs.Calls.{AreMade, MadeCall}
 use Rattle.member_gateway.specs.Laws.{EndsAreLogged, HasBegunIn, IsLoggedFor, calls_at}
-use Rattle.member_gateway.specs.Rules.{HasBegun, IsShown, end_of}
+use Rattle.member_gateway.specs.Rules.{HasBegunCall, IsShown, end_of}
 use Rattle.member_gateway.proofs.Logged.{ends-logged}
 use Rattle.law_clients.specs.Logged.{log_by, step_of}
 use Rattle.law_clients.proofs.Growing.{get-below, logged-before}
@@ -89,7 +89,7 @@ all-logged : EndsAreLogged
 all-logged = ends-logged callers_are_theirs (show-logged callers_are_theirs shown_is_logged)
 
 module _ (s : Dimensions) (y : System) (steps before since behind : List SystemStep) (p : ProcessId) (caller : ℕ) (op : Asked) (reply : Reply)
-    (began now last : Member) (begun : HasBegun caller op began now) (shown : IsShown caller (ends.Reply reply) now last) where
+    (began now last : Member) (begun : HasBegunCall caller op began now) (shown : IsShown caller (ends.Reply reply) now last) where
   abbrev done : List SystemStep
   done = before ++ step_of p (calls.Begins caller op) begun.first ∷ since
 

@@ -8,6 +8,7 @@ use Rattle.group_calls.specs.Turns.{Turn}
 use Rattle.group_calls.specs.declared.event.Event.{Event}
 use Rattle.group_calls.specs.declared.event.Event.TheVariants as happens
 use Rattle.group_run.specs.World.{World, step, turns_from}
+use Rattle.group_run.specs.Causes.{IsDelivery}
 use Rattle.scenario_text.proofs.Lines.{line_of-within}
 use Rattle.scenario_text.specs.Meaning.{line_meaning}
 use Rattle.scenario_text.specs.declared.line.Line.{Line}
@@ -19,7 +20,6 @@ use Rattle.scenario_run.specs.Playing.{Play, PlayNext, by_event, draining_unless
 use Rattle.scenario_run.proofs.Following.{turns_after}
 use Rattle.run_verify.proofs.ExactFits.{FitsAct}
 use Rattle.run_verify.proofs.ExactLimits.{act-fits, read-limits}
-use Rattle.run_verify.specs.Told.{IsDelivery}
 use Rattle.law_transcripts.proofs.Deliveries.{draining-delivers}
 use Rattle.law_transcripts.proofs.Keys.{read-key}
 use Rattle.law_transcripts.proofs.Plain.{Plain}

@@ -11,6 +11,7 @@ use Rattle.group_types.specs.Lists.{at, put}
 use Rattle.group_calls.specs.declared.event.Event.{Event}
 use Rattle.group_calls.specs.declared.event.Event.TheVariants as happens
 use Rattle.group_run.specs.World.{World, step, world_after}
+use Rattle.group_run.specs.Causes.{IsDelivery}
 use Rattle.scenario_text.proofs.Lines.{line_of-within}
 use Rattle.scenario_text.specs.Meaning.{IsLineOf, line_meaning}
 use Rattle.scenario_text.specs.declared.line.Line.{Line}
@@ -22,7 +23,6 @@ use Rattle.scenario_run.specs.Playing.{Play, PlayNext, by_event, draining_unless
 use Rattle.scenario_run.proofs.Leading.{keeps-shape}
 use Rattle.run_verify.specs.Steps as verify
 use Rattle.run_verify.specs.Steps.{Setting, StepNext}
-use Rattle.run_verify.specs.Told.{IsDelivery}
 use Rattle.run_verify.specs.declared.step.Step.{Step}
 use Rattle.run_verify.specs.declared.step.Step.TheVariants.{Make}
 use Rattle.law_transcripts.proofs.Deliveries.{draining-delivers}

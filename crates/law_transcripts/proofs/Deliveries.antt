@@ -10,8 +10,8 @@ use Rattle.group_run.specs.Draining.{drain_events, event_or, next_among, next_de
 use Rattle.group_run.specs.Progress.{load_of}
 use Rattle.group_run.specs.Shown.{is_down}
 use Rattle.group_run.specs.World.{World, step}
+use Rattle.group_run.specs.Causes.{IsDelivery}
 use Rattle.scenario_run.specs.Playing.{draining_unless_down}
-use Rattle.run_verify.specs.Told.{IsDelivery}
 
 from-delivers : (w : World) (x : ℕ) (o : Option ℕ) (e : Event) → next_from w x o ≡ Some e → IsDelivery e
 from-delivers w x None e is = cc is

@@ -25,7 +25,7 @@ use Rattle.scenario_run.specs.Course.{Ends, Goes, Refused, text_in, turns_of_lin
 use Rattle.scenario_run.specs.Lines.{lines_of}
 use Rattle.scenario_run.specs.Playing.{Play, PlayNext, by_event, draining_unless_down, first_by, next_by, next_of, shape_in, then_by}
 use Rattle.scenario_run.proofs.Following.{turns_after}
-use Rattle.run_verify.specs.Told.{Down, Drained, Lost, Made, Placed, Shown, Told, count_placed, drained_line}
+use Rattle.run_verify.specs.Told.{Down, Drained, Lost, Made, Placed, Shown, ToldStep, count_placed, drained_line}
 use Rattle.run_verify.specs.Told.{lines_told, place_lines, placed_line, run_lines, told_lines}
 use Rattle.law_transcripts.proofs.Joining.{lines-joined}
 use Rattle.law_transcripts.proofs.Parts.{back-all, front-all, log-append}
@@ -79,7 +79,7 @@ placed-plain runs = subst (All Plain) (sym (append-nil (told_lines (Placed runs)
     (counted-plain (codes "placed ") (count_placed runs) plain.placed))
 
 -- what a line tells has lines without a line end, where the keys of what it logs have none
-abbrev TellsPlainly : PlayNext → List Told → Type 0
+abbrev TellsPlainly : PlayNext → List ToldStep → Type 0
 TellsPlainly (Goes q turns text) told = All PlainKey (log_of turns) → All Plain (lines_told told)
 TellsPlainly Ends told = ⊤
 TellsPlainly (Refused cause) told = ⊤
@@ -125,7 +125,7 @@ told-plain p (line ∷ lines) keys = by (next_of p line) (line-plain p (line_mea
     by Ends own later keys = All-nil Plain
     by (Refused cause) own later keys = All-nil Plain
     by (Goes q turns text) own later keys =
-        let told : List Told = told_on p (line_meaning (shape_in p) line) in
+        let told : List ToldStep = told_on p (line_meaning (shape_in p) line) in
         let both : All PlainKey (log_of turns ++ log_of (turns_of_lines next_of q lines)) =
         subst (All PlainKey) (log-append turns (turns_of_lines next_of q lines)) keys in
         subst (All Plain) (sym (lines-append told (told_along q lines)))

@@ -6,7 +6,7 @@ use Rattle.std.proofs.lemmas.List.Elements.{All-append, All-cons, All-nil}
 use Rattle.std.specs.Fmt.{decimal, digit_glyph, digits, digits_onto, signed_decimal}
 use Rattle.std.specs.Prelude.{All, slice_index}
 use Rattle.hex.specs.Hex.{encode_with, lower_digits}
-use Rattle.scenario_text.specs.Texts.{next_number, value_text}
+use Rattle.scenario_text.specs.Texts.{spaced_number, value_text}
 
 -- a text without a line end
 abbrev pub Plain : List ℕ → Type 0
@@ -62,7 +62,7 @@ pub number : (n : ℕ) → Plain (decimal n)
 unfolding digits
 number n = some-digits 64 n refl
 
-pub behind-space : (n : ℕ) → Plain (next_number n)
+pub behind-space : (n : ℕ) → Plain (spaced_number n)
 behind-space n = cons 32 (decimal n) (λ same. omega (arith, same)) (number n)
 
 pub signed : (z : ℤ) → Plain (signed_decimal z)

@@ -13,18 +13,18 @@ use Rattle.group_calls.specs.declared.event.Answer.TheVariants as answered
 use Rattle.group_calls.specs.declared.event.Cause.{Cause}
 use Rattle.group_calls.specs.declared.event.Cause.TheVariants.{Pending, Block}
 use Rattle.scenario_text.specs.Texts.{act_text, answer_text, behind_commas, cause_text, entry_text, expiry_text}
-use Rattle.scenario_text.specs.Texts.{flagged_text, moment_text, name_text, next_number, place_text, reply_text}
+use Rattle.scenario_text.specs.Texts.{flagged_text, moment_text, name_text, place_text, reply_words, spaced_number}
 use Rattle.scenario_text.specs.Texts.{shown_text, stamp_text, stored_text, value_text}
 use Rattle.law_transcripts.proofs.Plain.{Plain, append, behind-space, none, number, signed, value, word}
 
 -- ---- answers
 
-pub reply : (r : Reply) → Plain (reply_text r)
+pub reply : (r : Reply) → Plain (reply_words r)
 reply (replied.Value item) =
-    append (codes "value" ++ next_number item.flags ++ next_number item.cas ++ codes " ") (value_text item.value)
-    (append (codes "value" ++ next_number item.flags ++ next_number item.cas) (codes " ")
-    (append (codes "value" ++ next_number item.flags) (next_number item.cas)
-    (append (codes "value") (next_number item.flags) (word (codes "value") refl) (behind-space item.flags)) (behind-space item.cas))
+    append (codes "value" ++ spaced_number item.flags ++ spaced_number item.cas ++ codes " ") (value_text item.value)
+    (append (codes "value" ++ spaced_number item.flags ++ spaced_number item.cas) (codes " ")
+    (append (codes "value" ++ spaced_number item.flags) (spaced_number item.cas)
+    (append (codes "value") (spaced_number item.flags) (word (codes "value") refl) (behind-space item.flags)) (behind-space item.cas))
     (word (codes " ") refl)) (value item.value)
 reply (replied.Number n) = append (codes "number ") (decimal n) (word (codes "number ") refl) (number n)
 reply replied.Miss = word (codes "miss") refl
@@ -39,12 +39,12 @@ reply replied.TooLarge = word (codes "too_large") refl
 
 cause : (c : Cause) → Plain (cause_text c)
 cause (Pending partition n) =
-    append (codes "retry pending" ++ next_number partition.0) (next_number n)
-    (append (codes "retry pending") (next_number partition.0) (word (codes "retry pending") refl) (behind-space partition.0)) (behind-space n)
+    append (codes "retry pending" ++ spaced_number partition.0) (spaced_number n)
+    (append (codes "retry pending") (spaced_number partition.0) (word (codes "retry pending") refl) (behind-space partition.0)) (behind-space n)
 cause (Block block) = append (codes "retry block ") (decimal block) (word (codes "retry block ") refl) (number block)
 
 pub answer : (a : Answer) → Plain (answer_text a)
-answer (answered.Reply r) = append (codes "reply ") (reply_text r) (word (codes "reply ") refl) (reply r)
+answer (answered.Reply r) = append (codes "reply ") (reply_words r) (word (codes "reply ") refl) (reply r)
 answer (answered.Ticket n) = append (codes "ticket ") (decimal n) (word (codes "ticket ") refl) (number n)
 answer (answered.Retry c) = cause c
 answer (answered.Stale call) = append (codes "stale ") (decimal call) (word (codes "stale ") refl) (number call)
@@ -75,7 +75,7 @@ stored front z bytes plain =
     (append (front ++ codes " ") (value_text bytes) (append front (codes " ") plain (word (codes " ") refl)) (value bytes)) (expiry z)
 
 flagged : (name key : List ℕ) (flags : ℕ) → Plain name → Plain key → Plain (flagged_text name key flags)
-flagged name key flags first plain = append (name ++ key) (next_number flags) (append name key first plain) (behind-space flags)
+flagged name key flags first plain = append (name ++ key) (spaced_number flags) (append name key first plain) (behind-space flags)
 
 -- an act of a key without a line end
 act : (a : Act) → Plain (key_of a) → Plain (act_text a)
@@ -85,16 +85,16 @@ act (Add key flags z bytes) plain = stored (flagged_text (codes "add ") key flag
 act (Replace key flags z bytes) plain = stored (flagged_text (codes "replace ") key flags) z bytes
     (flagged (codes "replace ") key flags (word (codes "replace ") refl) plain)
 act (Cas key flags z cas bytes) plain =
-    stored (flagged_text (codes "cas ") key flags ++ next_number cas) z bytes
-    (append (flagged_text (codes "cas ") key flags) (next_number cas) (flagged (codes "cas ") key flags (word (codes "cas ") refl) plain) (behind-space cas))
+    stored (flagged_text (codes "cas ") key flags ++ spaced_number cas) z bytes
+    (append (flagged_text (codes "cas ") key flags) (spaced_number cas) (flagged (codes "cas ") key flags (word (codes "cas ") refl) plain) (behind-space cas))
 act (Delete key) plain = append (codes "delete ") key (word (codes "delete ") refl) plain
 act (Touch key z) plain =
     append (codes "touch " ++ key) (codes " " ++ signed_decimal z) (append (codes "touch ") key (word (codes "touch ") refl) plain)
     (append (codes " ") (signed_decimal z) (word (codes " ") refl) (signed z))
 act (Append key bytes) plain = stored (codes "append " ++ key) (pos 0) bytes (append (codes "append ") key (word (codes "append ") refl) plain)
 act (Prepend key bytes) plain = stored (codes "prepend " ++ key) (pos 0) bytes (append (codes "prepend ") key (word (codes "prepend ") refl) plain)
-act (Incr key by) plain = append (codes "incr " ++ key) (next_number by) (append (codes "incr ") key (word (codes "incr ") refl) plain) (behind-space by)
-act (Decr key by) plain = append (codes "decr " ++ key) (next_number by) (append (codes "decr ") key (word (codes "decr ") refl) plain) (behind-space by)
+act (Incr key by) plain = append (codes "incr " ++ key) (spaced_number by) (append (codes "incr ") key (word (codes "incr ") refl) plain) (behind-space by)
+act (Decr key by) plain = append (codes "decr " ++ key) (spaced_number by) (append (codes "decr ") key (word (codes "decr ") refl) plain) (behind-space by)
 
 moment : (t : ℕ) → Plain (moment_text t)
 moment t = by (t == 0)
@@ -112,7 +112,7 @@ name caller call t =
 
 pub entry : (e : Entry) → Plain (key_of e.op.act) → Plain (entry_text e)
 entry e plain =
-    append (name_text e.caller e.call e.op.moment ++ act_text e.op.act ++ codes " ") (reply_text e.reply)
+    append (name_text e.caller e.call e.op.moment ++ act_text e.op.act ++ codes " ") (reply_words e.reply)
     (append (name_text e.caller e.call e.op.moment ++ act_text e.op.act) (codes " ")
     (append (name_text e.caller e.call e.op.moment) (act_text e.op.act) (name e.caller e.call e.op.moment) (act e.op.act plain)) (word (codes " ") refl))
     (reply e.reply)
@@ -121,9 +121,9 @@ entry e plain =
 
 pub place : (d n : ℕ) (run : Run) → Plain (place_text d n run)
 place d n run =
-    append (codes "place" ++ next_number d ++ next_number n ++ next_number run.at) (next_number run.len)
-    (append (codes "place" ++ next_number d ++ next_number n) (next_number run.at)
-    (append (codes "place" ++ next_number d) (next_number n) (append (codes "place") (next_number d) (word (codes "place") refl) (behind-space d))
+    append (codes "place" ++ spaced_number d ++ spaced_number n ++ spaced_number run.at) (spaced_number run.len)
+    (append (codes "place" ++ spaced_number d ++ spaced_number n) (spaced_number run.at)
+    (append (codes "place" ++ spaced_number d) (spaced_number n) (append (codes "place") (spaced_number d) (word (codes "place") refl) (behind-space d))
     (behind-space n)) (behind-space run.at)) (behind-space run.len)
 
 commas : (ns : List ℕ) → Plain (behind_commas ns)

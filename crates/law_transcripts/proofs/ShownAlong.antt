@@ -21,7 +21,7 @@ use Rattle.scenario_run.proofs.Leading.{IsLedTo, Leads, leads-log, leads-then, l
 use Rattle.scenario_run.proofs.Running.{GoesOn, line-leads, parts}
 use Rattle.run_verify.specs.Checked.{AreWellShown, IsWellShown}
 use Rattle.run_verify.specs.Plain.{EndsPlacing}
-use Rattle.run_verify.specs.Told.{Told, runs_told, turns_told}
+use Rattle.run_verify.specs.Told.{ToldStep, runs_told, turns_told}
 use Rattle.run_verify.specs.declared.step.Step.{Step}
 use Rattle.run_verify.specs.declared.step.Step.TheVariants.{Look}
 use Rattle.law_transcripts.proofs.PlacedGrow.{Begins, leads-grow}
@@ -32,7 +32,7 @@ use Rattle.law_transcripts.proofs.ShownLines.{IsOther, line-shown, none-told, pl
 use Rattle.law_transcripts.proofs.Turns.{told_after, turns-along, turns-line-told}
 
 -- what is told from a group on, for these steps and turns
-pub record Course (s : Dimensions) (w : World) (turns : List Turn) (steps : List Step) (told : List Told) : Type 0 where
+pub record Course (s : Dimensions) (w : World) (turns : List Turn) (steps : List Step) (told : List ToldStep) : Type 0 where
   pub last : World
   pub leads : Leads w last turns
   pub runs : runs_told told ≡ places_of last
@@ -50,7 +50,7 @@ last-line : (s : Dimensions) (p : Play) (l : Result Line LineFault) (next : Opti
 last-line s p l next turns text lines is goes ends = subst (FromLine s p turns next lines) (sym is) (record {
   last = p.world;
   leads = record { events = []; run = tt; turns_are = sym all; to = refl };
-  runs = ap (λ (xs : List Told). places_of p.world ++ runs_told xs) silent ∙ append-nil (places_of p.world);
+  runs = ap (λ (xs : List ToldStep). places_of p.world ++ runs_told xs) silent ∙ append-nil (places_of p.world);
   shown = (tt, subst (λ (xs : List Step). AreWellShown s (places_of p.world) (p.world.log ++ []) xs (told_along next lines)) (sym none) tt);
 })
   where
@@ -77,7 +77,7 @@ look-on s p l v turns led leads within from run is = look-shown s p.world (place
 
 -- another line, and what is told behind it
 other-line : (s : Dimensions) (p : Play) (l : Result Line LineFault) (v : World) (turns more : List Turn) (steps : List Step)
-    (told : List Told) → IsLedTo s p.world → Leads p.world v turns
+    (told : List ToldStep) → IsLedTo s p.world → Leads p.world v turns
     → ((l' : Line) → l ≡ Ok l' → IsLineOf (Some p.world.shape) l') → turns_told (told_on (Some p) l) ≡ turns → IsOther p l
     → Course s v more steps told
     → Course s p.world (turns ++ more) (steps_on (Some p) l ++ steps) (told_on (Some p) l ++ told)

@@ -22,7 +22,7 @@ use Rattle.scenario_run.specs.Course.{Ends, Goes, Refused}
 use Rattle.scenario_run.specs.Playing.{Play, PlayNext, draining_unless_down, next_of, shape_in}
 use Rattle.run_verify.specs.Checked.{AreWellShown, IsWellShown}
 use Rattle.run_verify.specs.Plain.{EndsPlacing}
-use Rattle.run_verify.specs.Told.{Told, Made, Drained, Shown, Lost, Down, Placed, runs_told_in, runs_told, turns_told_in, turns_told}
+use Rattle.run_verify.specs.Told.{ToldStep, Made, Drained, Shown, Lost, Down, Placed, runs_told_in, runs_told, turns_told_in, turns_told}
 use Rattle.run_verify.specs.declared.step.Step.{Step}
 use Rattle.run_verify.specs.declared.step.Step.TheVariants.{Make, Deliveries, Look, Placing}
 use Rattle.law_transcripts.proofs.Telling.{looked, places_of, steps_along, steps_by, steps_on, told_along, told_by, told_on}
@@ -67,7 +67,7 @@ as-many play (line ∷ lines) = by (next_of play line) (λ q. as-many q lines) w
       ∙ ap₂ (λ (m n : ℕ). m + n) (lengths-on play (line_meaning (shape_in play) line)) (later next)
       ∙ sym (length-append (told_on play (line_meaning (shape_in play) line)) (told_along next lines))
 
-empty : (told : List Told) → length told ≡ 0 → told ≡ []
+empty : (told : List ToldStep) → length told ≡ 0 → told ≡ []
 empty [] is = refl
 empty (x ∷ xs) is = absurd (omega (arith, is))
 
@@ -106,18 +106,18 @@ places-or-other p (Ok Places) = inl refl
 places-or-other p (Ok (Time moment)) = inr (record { runs = refl; ends = λ steps ends. ends })
 places-or-other p (Ok Stop) = inr (record { runs = refl; ends = λ steps ends. ends })
 
-pub runs-append : (xs ys : List Told) → runs_told (xs ++ ys) ≡ runs_told xs ++ runs_told ys
+pub runs-append : (xs ys : List ToldStep) → runs_told (xs ++ ys) ≡ runs_told xs ++ runs_told ys
 runs-append [] ys = refl
 runs-append (x ∷ xs) ys = ap (λ (rs : List (List (Option Run))). runs_told_in x ++ rs) (runs-append xs ys)
     ∙ sym (append_assoc (runs_told_in x) (runs_told xs) (runs_told ys))
 
 -- ---- bytes
 
-module _ (s : Dimensions) (runs : List (List (Option Run))) (log : List Entry) (steps : List Step) (more : List Told) where
+module _ (s : Dimensions) (runs : List (List (Option Run))) (log : List Entry) (steps : List Step) (more : List ToldStep) where
   none-shown : AreWellShown s runs (log ++ []) steps more → AreWellShown s runs log steps more
   none-shown rest = subst (λ (es : List Entry). AreWellShown s runs es steps more) (append-nil log) rest
 
-  one-shown : (step : Step) (told : Told) → IsWellShown s runs log step told
+  one-shown : (step : Step) (told : ToldStep) → IsWellShown s runs log step told
       → AreWellShown s runs (log ++ log_of (turns_told (told ∷ []))) steps more → AreWellShown s runs log (step ∷ steps) (told ∷ more)
   one-shown step told is rest = (is, subst (λ (ts : List Turn). AreWellShown s runs (log ++ log_of ts) steps more) (append-nil (turns_told_in told)) rest)
 

@@ -12,14 +12,14 @@ use Rattle.scenario_run.specs.Promises.{KeepsPromises}
 use Rattle.scenario_run.specs.Script.{script_shape}
 use Rattle.run_verify.specs.Checked.{ArePlaced, AreWellShown, RepliesWithin}
 use Rattle.run_verify.specs.Plain.{EndsPlacing}
-use Rattle.run_verify.specs.Told.{Told, runs_told, turns_told}
+use Rattle.run_verify.specs.Told.{ToldStep, runs_told, turns_told}
 use Rattle.run_verify.specs.declared.step.Step.{Step}
 use Rattle.law_transcripts.proofs.ShownWhole.{IsWhole, whole}
 use Rattle.law_transcripts.proofs.Telling.{steps_along, told_along}
 use Rattle.law_transcripts.proofs.Turns.{legal-told, within-told}
 
 -- all that is checked of what is told for these steps but the lines that tell it
-pub record IsTold (s : Dimensions) (steps : List Step) (told : List Told) : Type 0 where
+pub record IsTold (s : Dimensions) (steps : List Step) (told : List ToldStep) : Type 0 where
   pub legal : IsLegal s.k (log_of (turns_told told))
   pub within : RepliesWithin (turns_told told)
   pub placed : ArePlaced s (log_of (turns_told told)) (runs_told told)
@@ -34,7 +34,7 @@ told-true text s keeps named ends = record {
   shown = subst (λ (t : Dimensions). AreWellShown t (runs_told told) [] (steps_along None (lines_of text)) told) same all.shown;
 }
   where
-    told : List Told
+    told : List ToldStep
     told = told_along None (lines_of text)
 
     all : IsWhole (named_in next_of None (lines_of text)) (steps_along None (lines_of text)) told

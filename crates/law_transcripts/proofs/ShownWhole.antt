@@ -14,7 +14,7 @@ use Rattle.scenario_run.proofs.Leading.{IsLedTo, led-on, leads-log, opened}
 use Rattle.scenario_run.proofs.Running.{line-opens}
 use Rattle.run_verify.specs.Checked.{ArePlaced, AreWellShown}
 use Rattle.run_verify.specs.Plain.{EndsPlacing}
-use Rattle.run_verify.specs.Told.{Told, runs_told, turns_told}
+use Rattle.run_verify.specs.Told.{ToldStep, runs_told, turns_told}
 use Rattle.run_verify.specs.declared.step.Step.{Step}
 use Rattle.law_transcripts.proofs.PlacedRuns.{are-placed}
 use Rattle.law_transcripts.proofs.ShownAlong.{Course, along}
@@ -23,7 +23,7 @@ use Rattle.law_transcripts.proofs.Telling.{places_of, steps_along, told_along}
 use Rattle.law_transcripts.proofs.Turns.{told_after, turns-along}
 
 -- what is told by a script whose group has this shape
-pub record IsWhole (named : Option Play) (steps : List Step) (told : List Told) : Type 0 where
+pub record IsWhole (named : Option Play) (steps : List Step) (told : List ToldStep) : Type 0 where
   pub shape : Dimensions
   pub is_named : shape_in named ≡ Some shape
   pub placed : ArePlaced shape (log_of (turns_told told)) (runs_told told)
@@ -45,7 +45,7 @@ opened-whole s lines limits ends = record {
     p : Play
     p = record { world = opening s; moment = 0 }
 
-    told : List Told
+    told : List ToldStep
     told = told_along (Some p) lines
 
     on : Course s (opening s) (course.turns_of_lines next_of (Some p) lines) (steps_along (Some p) lines) told

@@ -17,18 +17,18 @@ use Rattle.scenario_run.specs.Course.{Goes, Ends, Refused}
 use Rattle.scenario_run.specs.Playing.{Play, draining_unless_down, next_of, shape_in}
 use Rattle.run_verify.specs.declared.step.Step.{Step}
 use Rattle.run_verify.specs.declared.step.Step.TheVariants.{Make, Deliveries, Look, Placing}
-use Rattle.run_verify.specs.Told.{Told, Made, Drained, Shown, Lost, Down, Placed}
+use Rattle.run_verify.specs.Told.{ToldStep, Made, Drained, Shown, Lost, Down, Placed}
 
 -- what is told for an event
-abbrev pub made : Play → Event → List Told
+abbrev pub made : Play → Event → List ToldStep
 made p e = Made (step p.world e).turn ∷ []
 
 -- for a drain
-abbrev pub drained : World → List Event → List Told
+abbrev pub drained : World → List Event → List ToldStep
 drained w es = Drained (turns_from w es) (length (turns_from w es)) ∷ []
 
 -- for a look at a process
-abbrev pub looked : World → ProcessId → Run → Told
+abbrev pub looked : World → ProcessId → Run → ToldStep
 looked w p run = if is_down w then Down else (if is_dead w p then Lost else Shown (stamp_of w p) (held w p run))
 
 -- the runs of all partitions' updates, by number
@@ -36,7 +36,7 @@ abbrev pub places_of : World → List (List (Option Run))
 places_of w = map (λ d. at [] w.places d) (range_with_len 0 w.shape.k)
 
 -- for a line of this meaning behind the group line
-abbrev pub told_by : Play → Line → List Told
+abbrev pub told_by : Play → Line → List ToldStep
 told_by p (Ask caller from act) = made p (happens.Ask caller (record { moment = p.moment; act = act }) from)
 told_by p (Collect caller call from) = made p (happens.Collect caller call from)
 told_by p (Deliver from to) = made p (happens.Deliver from to)
@@ -49,12 +49,12 @@ told_by p Places = Placed (places_of p.world) ∷ []
 told_by p _ = []
 
 -- for a line that is read so
-abbrev pub told_on : Option Play → Result Line LineFault → List Told
+abbrev pub told_on : Option Play → Result Line LineFault → List ToldStep
 told_on (Some p) (Ok line) = told_by p line
 told_on _ _ = []
 
 -- for lines, up to the end
-abbrev pub told_along : Option Play → List (List ℕ) → List Told
+abbrev pub told_along : Option Play → List (List ℕ) → List ToldStep
 told_along play [] = []
 told_along play (line ∷ lines) =
     elim (next_of play line) [

@@ -16,6 +16,7 @@ use Rattle.group_run.specs.Headline.{MayCome}
 use Rattle.group_run.specs.Meaning.{is_dead}
 use Rattle.group_run.specs.Shown.{held, is_down, stamp_of}
 use Rattle.group_run.specs.World.{World, after, opening, step, turns_from}
+use Rattle.group_run.specs.Causes.{IsDelivery}
 use Rattle.scenario_text.proofs.Lines.{line_of-within}
 use Rattle.scenario_text.specs.Meaning.{IsLineOf, line_meaning}
 use Rattle.scenario_text.specs.declared.line.Line.{Line}
@@ -29,7 +30,7 @@ use Rattle.scenario_run.proofs.Following.{turns_after}
 use Rattle.scenario_run.proofs.Leading.{IsLedTo, led-on, opened}
 use Rattle.scenario_run.proofs.Running.{GoesOn, line-leads, line-opens}
 use Rattle.transcript_text.specs.Forms.{MayAnswer, kind_of_event}
-use Rattle.run_verify.specs.Told.{CanBeTold, Down, Drained, IsDelivery, Lost, Made, Shown, TellAll, Told}
+use Rattle.run_verify.specs.Told.{CanBeTold, Down, Drained, Lost, Made, Shown, TellAll, ToldStep}
 use Rattle.run_verify.specs.declared.step.Step.{Step}
 use Rattle.run_verify.specs.declared.step.Step.TheVariants.{Make, Deliveries, Look}
 use Rattle.law_transcripts.proofs.Answers.{may-answer}
@@ -41,7 +42,7 @@ use Rattle.law_transcripts.proofs.Steps.{steps_from}
 use Rattle.law_transcripts.proofs.Telling.{looked, steps_along, steps_by, steps_on, told_along, told_by, told_on}
 use Rattle.law_transcripts.proofs.Written.{told_from}
 
-tells-append : (xs ys : List Step) (ts us : List Told) → TellAll xs ts → TellAll ys us → TellAll (xs ++ ys) (ts ++ us)
+tells-append : (xs ys : List Step) (ts us : List ToldStep) → TellAll xs ts → TellAll ys us → TellAll (xs ++ ys) (ts ++ us)
 tells-append [] ys [] us first more = more
 tells-append [] ys (t ∷ ts) us first more = absurd first
 tells-append (x ∷ xs) ys [] us first more = absurd first
@@ -62,7 +63,7 @@ looked-tells w p run = by (is_down w) (is_dead w p)
     by false false = tt
 
 -- what a line tells is for its steps
-abbrev TellsNext : PlayNext → List Step → List Told → Type 0
+abbrev TellsNext : PlayNext → List Step → List ToldStep → Type 0
 TellsNext (Goes q turns text) steps told = All FitsIfReply turns → TellAll steps told
 TellsNext Ends steps told = ⊤
 TellsNext (Refused cause) steps told = ⊤

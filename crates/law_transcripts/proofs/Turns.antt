@@ -28,12 +28,12 @@ use Rattle.scenario_run.specs.Script.{script_turns}
 use Rattle.scenario_run.proofs.Following.{turns_after}
 use Rattle.scenario_run.proofs.Running.{line-opens, parts}
 use Rattle.run_verify.specs.Checked.{RepliesWithin}
-use Rattle.run_verify.specs.Told.{Told, Shown, Lost, Down, turns_told_in, turns_told}
+use Rattle.run_verify.specs.Told.{ToldStep, Shown, Lost, Down, turns_told_in, turns_told}
 use Rattle.law_transcripts.proofs.Telling.{looked, told_along, told_by, told_on}
 
 -- ---- line by line
 
-turns-append : (xs ys : List Told) → turns_told (xs ++ ys) ≡ turns_told xs ++ turns_told ys
+turns-append : (xs ys : List ToldStep) → turns_told (xs ++ ys) ≡ turns_told xs ++ turns_told ys
 turns-append [] ys = refl
 turns-append (x ∷ xs) ys =
     ap (λ (ts : List Turn). turns_told_in x ++ ts) (turns-append xs ys) ∙ sym (append_assoc (turns_told_in x) (turns_told xs) (turns_told ys))
@@ -103,7 +103,7 @@ turns-line-told (Some p) line next turns text is = turns-on p (line_meaning (Som
 -- ---- line behind line
 
 -- what is told for a line that does this, and behind it
-abbrev pub told_after : Option Play → List ℕ → PlayNext → List (List ℕ) → List Told
+abbrev pub told_after : Option Play → List ℕ → PlayNext → List (List ℕ) → List ToldStep
 told_after play line next lines = elim next
     [ Goes state turns text ↦ told_on play (line_meaning (shape_in play) line) ++ told_along state lines | Ends ↦ [] | Refused cause ↦ [] ]
 

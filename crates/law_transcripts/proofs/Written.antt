@@ -26,17 +26,17 @@ use Rattle.scenario_run.specs.Course.{Ends, Goes, Refused, text_in}
 use Rattle.scenario_run.specs.Placing.{many_runs, placed_text, runs_text}
 use Rattle.scenario_run.specs.Playing.{Play, PlayNext, by_event, drained_text, draining_unless_down, first_by, look, next_by, next_of, shape_in, then_by}
 use Rattle.scenario_run.specs.Playing.{turn_text}
-use Rattle.run_verify.specs.Told.{Down, Drained, Lost, Made, Placed, Shown, Told, count_placed, drained_line}
+use Rattle.run_verify.specs.Told.{Down, Drained, Lost, Made, Placed, Shown, ToldStep, count_placed, drained_line}
 use Rattle.run_verify.specs.Told.{lines_told, place_lines, placed_line, run_lines, told_lines}
 use Rattle.law_transcripts.proofs.Joining.{joined, joined-append}
 use Rattle.law_transcripts.proofs.Telling.{looked, places_of, told_along, told_by, told_on}
 
-pub lines-append : (xs ys : List Told) → lines_told (xs ++ ys) ≡ lines_told xs ++ lines_told ys
+pub lines-append : (xs ys : List ToldStep) → lines_told (xs ++ ys) ≡ lines_told xs ++ lines_told ys
 lines-append [] ys = refl
 lines-append (x ∷ xs) ys = ap (λ (ls : List (List ℕ)). told_lines x ++ ls) (lines-append xs ys)
     ∙ sym (append_assoc (told_lines x) (lines_told xs) (lines_told ys))
 
-one : (t : Told) → joined (told_lines t) ≡ joined (lines_told (t ∷ []))
+one : (t : ToldStep) → joined (told_lines t) ≡ joined (lines_told (t ∷ []))
 one t = ap joined (sym (append-nil (told_lines t)))
 
 -- ---- what is written
@@ -88,7 +88,7 @@ module _ (w : World) where
       ∙ sym (joined-append (place_lines 0 (places_of w)) (placed_line (count_placed (places_of w)) ∷ []))
 
 -- what is written for a line is what it tells
-abbrev Writes : PlayNext → List Told → Type 0
+abbrev Writes : PlayNext → List ToldStep → Type 0
 Writes (Goes q turns text) told = text ≡ joined (lines_told told)
 Writes Ends told = ⊤
 Writes (Refused cause) told = ⊤
@@ -139,7 +139,7 @@ line-writes None (Ok l) = first-writes l
 line-writes (Some p) (Ok l) = then-writes p l
 
 -- what is told from a line on, and what is written for it, by what it does
-abbrev pub told_from : Option Play → List ℕ → List (List ℕ) → PlayNext → List Told
+abbrev pub told_from : Option Play → List ℕ → List (List ℕ) → PlayNext → List ToldStep
 told_from p line lines next =
     elim next [ Goes q turns text ↦ told_on p (line_meaning (shape_in p) line) ++ told_along q lines | Ends ↦ [] | Refused cause ↦ [] ]
 
@@ -156,7 +156,7 @@ text-joined p (line ∷ lines) = by (next_of p line) (line-writes p (line_meanin
     by Ends writes later = refl
     by (Refused cause) writes later = refl
     by (Goes q turns text) writes later =
-        let own : List Told = told_on p (line_meaning (shape_in p) line) in
+        let own : List ToldStep = told_on p (line_meaning (shape_in p) line) in
         let rest = later q in
         (λ i. writes i ++ rest i) ∙ sym (joined-append (lines_told own) (lines_told (told_along q lines)))
         ∙ ap joined (sym (lines-append own (told_along q lines)))

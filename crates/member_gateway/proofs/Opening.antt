@@ -12,7 +12,7 @@ use Rattle.front_end.specs.Gateway.{IsNotOpen, KeepsOpen, LendsNone, LendsOnly}
 use Rattle.group_member.specs.Standing.{Member}
 use Rattle.member_runs.specs.Calls.{MemberCall, HasCalled, Begins}
 use Rattle.member_gateway.specs.Calls.{ComesByCalls, ComesQuietly, GoesQuietly, LeavesAll, LeavesOpen, MadeCall, begun_or_ended}
-use Rattle.member_gateway.specs.Rules.{Gateway, HasBegun, IsCallOpen, IsLaterMember, IsLentTo, member_rules}
+use Rattle.member_gateway.specs.Rules.{Gateway, HasBegunCall, IsCallOpen, IsLaterMember, IsLentTo, member_rules}
 use Rattle.member_gateway.specs.declared.slots.OwnCall.{OwnCall}
 use Rattle.member_gateway.specs.Order.{made_on}
 
@@ -35,7 +35,7 @@ module _ (a b : Member) (goes : GoesQuietly a b) where
   pub quiet-comes : ComesByCalls a b
   quiet-comes = record { calls = quiet-way.calls; made = quiet-way.made }
 
-  pub quiet-begun : (caller : ℕ) (op : Asked) (began : Member) → HasBegun caller op began a → HasBegun caller op began b
+  pub quiet-begun : (caller : ℕ) (op : Asked) (began : Member) → HasBegunCall caller op began a → HasBegunCall caller op began b
   quiet-begun caller op began begun = record {
     first = begun.first;
     begins = begun.begins;
@@ -72,7 +72,7 @@ inside_later inside before after is goes = subst (λ (g : Gateway). IsLaterMembe
 
 -- one call more
 pub one-more : (caller : ℕ) (op : Asked) (began before after : Member) (call : MemberCall) → HasCalled call before after → begun_or_ended call ≢ Some caller
-    → HasBegun caller op began before → HasBegun caller op began after
+    → HasBegunCall caller op began before → HasBegunCall caller op began after
 one-more caller op began before after call called leaves begun =
     let one : MadeCall = record { call = call; after = after } in record {
       first = begun.first;

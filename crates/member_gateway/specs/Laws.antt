@@ -16,7 +16,7 @@ use Rattle.member_runs.specs.Calls.{Begins}
 use Rattle.member_runs.specs.Laws.{HaveMade, composed_of}
 use Rattle.member_runs.specs.System.{System, SystemStep, after_steps}
 use Rattle.member_gateway.specs.Calls.{MadeCall}
-use Rattle.member_gateway.specs.Rules.{HasBegun, IsShown}
+use Rattle.member_gateway.specs.Rules.{HasBegunCall, IsShown}
 
 -- the calls that the member of a process made in steps, in their order
 abbrev pub calls_at : ProcessId → List SystemStep → List MadeCall
@@ -25,7 +25,7 @@ calls_at p (t ∷ steps) = one_or (same_process t.at p) (record { call = t.call;
 
 -- by its calls in these steps, a call of the op began at a caller of the member of a process, which left it open since
 pub record HasBegunIn (y : System) (before since : List SystemStep) (p : ProcessId) (caller : ℕ) (op : Asked) : Type 0 where
-  pub begun : HasBegun caller op ((after_steps y before).members p) ((after_steps y (before ++ since)).members p)
+  pub begun : HasBegunCall caller op ((after_steps y before).members p) ((after_steps y (before ++ since)).members p)
   pub calls : calls_at p since ≡ record { call = Begins caller op; after = begun.first } ∷ begun.calls
 
 -- the open call of a caller is of that op, and its entry in the machine's log has this reply, logged since the call began

@@ -27,7 +27,7 @@ abbrev pub IsLentTo : Gateway → OwnCall → Type 0
 IsLentTo now call = at None now.slots call.caller ≡ Some call
 
 -- a call of the op began at a caller, and the member's calls since leave it open
-pub record HasBegun (caller : ℕ) (op : Asked) (before now : Member) : Type 0 where
+pub record HasBegunCall (caller : ℕ) (op : Asked) (before now : Member) : Type 0 where
   pub first : Member
   pub begins : HasCalled (Begins caller op) before first
   pub calls : List MadeCall
@@ -52,13 +52,13 @@ pub record IsShown (caller : ℕ) (end : CallEnd) (before after : Member) : Type
 pub record IsCallOpen (now : Gateway) (call : OwnCall) (op : Asked) (began : Gateway) : Type 0 where
   pub lent : IsLentTo now call
   pub hash : call.hash ≡ fnv1a (key_of op.act)
-  pub begun : HasBegun call.caller op began.member now.member
+  pub begun : HasBegunCall call.caller op began.member now.member
 
 -- a call of the op began there, and ended so
 pub record HasCallEnded (began : Gateway) (op : Asked) (end : CallEnd) (after : Gateway) : Type 0 where
   pub caller : ℕ
   pub before : Member
-  pub begun : HasBegun caller op began.member before
+  pub begun : HasBegunCall caller op began.member before
   pub shown : IsShown caller end before after.member
 
 -- one gateway came from another by calls of its member

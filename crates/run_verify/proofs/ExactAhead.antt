@@ -4,7 +4,7 @@ use Rattle.std.proofs.Common.{codes, Some, append_assoc, refl, sym, ap, subst, a
 use Rattle.group_types.specs.Dimensions.{callers}
 use Rattle.group_calls.specs.Turns.{CallName, name_of}
 use Rattle.group_calls.specs.declared.entry.Entry.{Entry}
-use Rattle.scenario_text.specs.Texts.{entry_text, name_text, reply_text}
+use Rattle.scenario_text.specs.Texts.{entry_text, name_text, reply_words}
 use Rattle.transcript_text.proofs.Entries.{FitsEntry, entry-line, entry-names}
 use Rattle.run_verify.specs.Passing.{BeginsAndEnds, IsFrontOf, LogsAhead, entry_front}
 use Rattle.run_verify.proofs.ImpliedAhead.{AllFit}
@@ -14,11 +14,11 @@ abbrev pub AreNamedApart : List Entry → Type 0
 AreNamedApart es = (i j : ℕ) (d e : Entry) → i < j → slice_get es i ≡ Some d → slice_get es j ≡ Some e → name_of d ≢ name_of e
 
 ends-so : (e : Entry) (op : List ℕ) → entry_text e ≡ name_text e.caller e.call 0
-    ++ (op ++ codes " " ++ reply_text e.reply) → BeginsAndEnds (entry_front (name_of e)) (reply_text e.reply)
+    ++ (op ++ codes " " ++ reply_words e.reply) → BeginsAndEnds (entry_front (name_of e)) (reply_words e.reply)
     (entry_text e)
-ends-so e op is = (op, is ∙ ap (λ (t : List ℕ). name_text e.caller e.call 0 ++ t) (append_assoc op (codes " ") (reply_text e.reply)))
+ends-so e op is = (op, is ∙ ap (λ (t : List ℕ). name_text e.caller e.call 0 ++ t) (append_assoc op (codes " ") (reply_words e.reply)))
 
-here : (e : Entry) → BeginsAndEnds (entry_front (name_of e)) (reply_text e.reply) (entry_text e)
+here : (e : Entry) → BeginsAndEnds (entry_front (name_of e)) (reply_words e.reply) (entry_text e)
 here e = ends-so e _ (entry-line e)
 
 other-begins : (d : Entry) (name : CallName) → FitsEntry d → name.caller < callers → name.call < 2 ^ 64
@@ -31,11 +31,11 @@ other-begins d name fits fc fn other (rest, is) =
 
 pub logs-ahead : (es : List Entry) (rest : List (List ℕ)) (i : ℕ) (e : Entry) → AllFit es → AreNamedApart es
     → e.caller < callers → e.call < 2 ^ 64 → slice_get es i ≡ Some e
-    → LogsAhead (entry_front (name_of e)) (reply_text e.reply) (map entry_text es ++ rest)
+    → LogsAhead (entry_front (name_of e)) (reply_words e.reply) (map entry_text es ++ rest)
 logs-ahead [] rest i e fit apart fc fn is = cc is
 logs-ahead (d ∷ es) rest zero e fit apart fc fn is =
     let same : d ≡ e = cc is in
-    (refl, inl (subst (λ (x : Entry). BeginsAndEnds (entry_front (name_of e)) (reply_text e.reply) (entry_text x)) (sym same) (here e)))
+    (refl, inl (subst (λ (x : Entry). BeginsAndEnds (entry_front (name_of e)) (reply_words e.reply) (entry_text x)) (sym same) (here e)))
 logs-ahead (d ∷ es) rest (suc i) e fit apart fc fn is = (
   refl,
   inr (

@@ -15,13 +15,14 @@ use Rattle.group_calls.specs.Turns.{Turn, asks_in, asks_of, log_of}
 use Rattle.group_calls.specs.declared.entry.Entry.{Entry}
 use Rattle.group_calls.specs.declared.event.Event.{Event}
 use Rattle.group_calls.specs.declared.event.Event.TheVariants as happens
+use Rattle.group_run.specs.Causes.{IsDelivery}
 use Rattle.scenario_text.specs.Texts.{entry_text}
 use Rattle.run_verify.specs.Checked.{ArePlaced, IsChecked}
 use Rattle.run_verify.specs.Passing.{IsRunIn}
 use Rattle.run_verify.specs.Plain.{EndsPlacing, FitSteps, FitsStep, IsEventInRange}
 use Rattle.run_verify.specs.Sheet.{Sheet}
 use Rattle.run_verify.specs.Told.{Made, Drained, Shown, Lost, Down, Placed}
-use Rattle.run_verify.specs.Told.{CanBeTold, IsDelivery, TellAll, Told, drained_line, lines_told, runs_told, told_lines, turns_told, turns_told_in}
+use Rattle.run_verify.specs.Told.{CanBeTold, TellAll, ToldStep, drained_line, lines_told, runs_told, told_lines, turns_told, turns_told_in}
 use Rattle.run_verify.specs.Updates.{updates_by}
 use Rattle.run_verify.specs.declared.step.Step.{Step}
 use Rattle.run_verify.specs.declared.step.Step.TheVariants.{Make, Deliveries, Look, Placing}
@@ -68,7 +69,7 @@ delivery-fits t is = by t.event is
     by (happens.Trace caller call d p) is = absurd is
 
 -- the turns that are told for a step
-told-fits : (s : Dimensions) (step : Step) (told : Told) → FitsFully s step → CanBeTold step told → All FitsTurn (turns_told_in told)
+told-fits : (s : Dimensions) (step : Step) (told : ToldStep) → FitsFully s step → CanBeTold step told → All FitsTurn (turns_told_in told)
 told-fits s (Make event) (Made t) fits tells = All-cons FitsTurn t [] (subst FitsAsk (sym tells.0) fits) (All-nil FitsTurn)
 told-fits s Deliveries (Made t) fits tells = absurd tells
 told-fits s (Look p run) (Made t) fits tells = absurd tells
@@ -82,7 +83,7 @@ told-fits s step Lost fits tells = All-nil FitsTurn
 told-fits s step Down fits tells = All-nil FitsTurn
 told-fits s step (Placed runs) fits tells = All-nil FitsTurn
 
-turns-fit : (s : Dimensions) (steps : List Step) (told : List Told) → FitAll s steps → TellAll steps told → All FitsTurn (turns_told told)
+turns-fit : (s : Dimensions) (steps : List Step) (told : List ToldStep) → FitAll s steps → TellAll steps told → All FitsTurn (turns_told told)
 turns-fit s [] [] fit tells = All-nil FitsTurn
 turns-fit s [] (told ∷ more) fit tells = absurd tells
 turns-fit s (step ∷ steps) [] fit tells = absurd tells
@@ -124,7 +125,7 @@ asks-append : (caller : ℕ) (xs ys : List Turn) → asks_of caller (xs ++ ys) �
 asks-append caller [] ys = omega arith
 asks-append caller (x ∷ xs) ys = let rest = asks-append caller xs ys in omega (arith, rest)
 
-asks-told : (caller : ℕ) (step : Step) (told : Told) → CanBeTold step told → asks_of caller (turns_told_in told) ≤ 1
+asks-told : (caller : ℕ) (step : Step) (told : ToldStep) → CanBeTold step told → asks_of caller (turns_told_in told) ≤ 1
 asks-told caller step (Made t) tells = let one = asks-one caller t.event in omega (arith, one)
 asks-told caller Deliveries (Drained ts n) tells = let none = drained-none caller ts tells.0 in omega (arith, none)
 asks-told caller (Make event) (Drained ts n) tells = absurd tells
@@ -135,7 +136,7 @@ asks-told caller step Lost tells = omega arith
 asks-told caller step Down tells = omega arith
 asks-told caller step (Placed runs) tells = omega arith
 
-asks-few : (caller : ℕ) (steps : List Step) (told : List Told) → TellAll steps told → asks_of caller (turns_told told) ≤ length steps
+asks-few : (caller : ℕ) (steps : List Step) (told : List ToldStep) → TellAll steps told → asks_of caller (turns_told told) ≤ length steps
 asks-few caller [] [] tells = omega arith
 asks-few caller [] (told ∷ more) tells = absurd tells
 asks-few caller (step ∷ steps) [] tells = absurd tells
@@ -152,7 +153,7 @@ asks-take caller (suc j) (t ∷ ts) = let rest = asks-take caller j ts in omega 
 
 -- ---- lines
 
-told-long : (told : Told) → length (log_of (turns_told_in told)) ≤ length (told_lines told)
+told-long : (told : ToldStep) → length (log_of (turns_told_in told)) ≤ length (told_lines told)
 told-long (Made t) = let log = ap length (append-nil t.logged) in omega (arith, log, length-map t.logged entry_text)
 told-long (Drained ts n) = omega (arith, length-append (map entry_text (log_of ts)) (drained_line n ∷ []), length-map (log_of ts) entry_text)
 told-long (Shown stamp bytes) = omega arith
@@ -160,7 +161,7 @@ told-long Lost = omega arith
 told-long Down = omega arith
 told-long (Placed runs) = omega arith
 
-log-long : (told : List Told) → length (log_of (turns_told told)) ≤ length (lines_told told)
+log-long : (told : List ToldStep) → length (log_of (turns_told told)) ≤ length (lines_told told)
 log-long [] = omega arith
 log-long (told ∷ more) =
     let here = told-long told in

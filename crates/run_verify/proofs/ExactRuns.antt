@@ -14,7 +14,7 @@ use Rattle.scenario_text.specs.Texts.{answer_text, entry_text, place_text, shown
 use Rattle.run_verify.specs.Passing.{IsRunIn, RunFitsValue}
 use Rattle.run_verify.specs.Plain.{EndsPlacing}
 use Rattle.run_verify.specs.Told.{Made, Drained, Shown, Lost, Down, Placed}
-use Rattle.run_verify.specs.Told.{CanBeTold, TellAll, Told, count_placed, drained_line, lines_told, place_lines}
+use Rattle.run_verify.specs.Told.{CanBeTold, TellAll, ToldStep, count_placed, drained_line, lines_told, place_lines}
 use Rattle.run_verify.specs.Told.{placed_line, run_lines, runs_told, runs_told_in, told_lines}
 use Rattle.run_verify.specs.declared.step.Step.{Step}
 use Rattle.run_verify.specs.declared.step.Step.TheVariants.{Make, Deliveries, Look, Placing}
@@ -61,7 +61,7 @@ no-entries d n [] = tt
 no-entries d n (e ∷ es) = (starts-other d n (entry_text e) refl, no-entries d n es)
 
 -- the lines that are told for a step that isn't the one of the places
-no-told : (d n : ℕ) (step : Step) (told : Told) → step ≢ Placing → CanBeTold step told → (runs_told_in told ≡ []) × NoneOf d n (told_lines told)
+no-told : (d n : ℕ) (step : Step) (told : ToldStep) → step ≢ Placing → CanBeTold step told → (runs_told_in told ≡ []) × NoneOf d n (told_lines told)
 no-told d n step (Made turn) other tells = (refl, (no-answer d n turn.answer, no-entries d n turn.logged))
 no-told d n step (Drained turns m) other tells = (
   refl,
@@ -134,7 +134,7 @@ module _ (s : Dimensions) (d len : ℕ) (run : Run) (fd : d < 2 ^ 64) (fits : Ru
       (behind-none s d (suc (length front)) len (Some run) (run_lines e 0 rs) (place_lines (suc e) others ++ rest) none behind)
 
   -- found behind the lines of another step
-  behind-told : (told : Told) (more : List Told) (front : List (Option Run)) → (runs_told_in told ≡ [])
+  behind-told : (told : ToldStep) (more : List ToldStep) (front : List (Option Run)) → (runs_told_in told ≡ [])
       × NoneOf d (suc (length front)) (told_lines told)
       → ((j : ℕ) → length (at [] (runs_told (told ∷ more)) j) + 1 < 2 ^ 64)
       → at [] (runs_told (told ∷ more)) d ≡ front ++ Some run ∷ back
@@ -148,7 +148,7 @@ module _ (s : Dimensions) (d len : ℕ) (run : Run) (fd : d < 2 ^ 64) (fits : Ru
       (sym (ap (λ (r : List (List (Option Run))). at [] r d) same) ∙ is))
 
   -- found among all lines
-  pub run_found : (steps : List Step) (told : List Told) (front : List (Option Run)) → EndsPlacing steps
+  pub run_found : (steps : List Step) (told : List ToldStep) (front : List (Option Run)) → EndsPlacing steps
       → TellAll steps told → ((j : ℕ) → length (at [] (runs_told told) j) + 1 < 2 ^ 64) → length front + 1 < 2 ^ 64
       → at [] (runs_told told) d ≡ front ++ Some run ∷ back → IsRunIn (lines_told told) s d (suc (length front)) len (Some run)
   run_found [] told front ends tells few short is = absurd ends

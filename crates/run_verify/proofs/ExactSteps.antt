@@ -21,6 +21,7 @@ use Rattle.group_calls.specs.declared.event.Event.{Event}
 use Rattle.group_calls.specs.declared.event.Event.TheVariants as happens
 use Rattle.group_run.specs.Meaning.{Logged, is_update_of, runs_left, updates_from}
 use Rattle.group_run.specs.World.{front_if}
+use Rattle.group_run.specs.Causes.{IsDelivery}
 use Rattle.scenario_text.specs.Texts.{answer_text, entry_text, shown_text}
 use Rattle.transcript_text.specs.Forms.{FitsAnswer, MayAnswer, kind_of_event}
 use Rattle.transcript_text.specs.Texts.{FitsNumber}
@@ -31,7 +32,7 @@ use Rattle.run_verify.specs.Passing.{changes_at, dues_from, on_to, with_shown}
 use Rattle.run_verify.specs.Plain.{EndsPlacing, FitSteps}
 use Rattle.run_verify.specs.Sheet.{Sheet}
 use Rattle.run_verify.specs.Told.{Made, Drained, Shown, Lost, Down, Placed}
-use Rattle.run_verify.specs.Told.{IsDelivery, TellAll, Told, count_placed, drained_line, lines_told, place_lines, placed_line, runs_told, turns_told}
+use Rattle.run_verify.specs.Told.{TellAll, ToldStep, count_placed, drained_line, lines_told, place_lines, placed_line, runs_told, turns_told}
 use Rattle.run_verify.specs.Updates.{IsStampOf, StandRight, space_after_updates, updates_by}
 use Rattle.run_verify.specs.declared.step.Step.{Step}
 use Rattle.run_verify.specs.declared.step.Step.TheVariants.{Make, Deliveries, Look, Placing}
@@ -206,11 +207,11 @@ module _ (sheet : Sheet) (turns : List Turn) (runs : List (List (Option Run))) (
       )
 
   -- what is behind a step passes, wherever it begins
-  abbrev Onward : List Step → List Told → List Turn → Type 0
+  abbrev Onward : List Step → List ToldStep → List Turn → Type 0
   Onward steps more before = (a : Account) (logging : Bool) → NowFor a before → (final : Account)
       × PassAll sheet (state a steps logging) (lines_told more) final
 
-  made-passes : (event : Event) (t : Turn) (steps : List Step) (more : List Told) (before : List Turn) (a : Account)
+  made-passes : (event : Event) (t : Turn) (steps : List Step) (more : List ToldStep) (before : List Turn) (a : Account)
       (logging : Bool) → turns ≡ before ++ t ∷ turns_told more → t.event ≡ event → MayAnswer (kind_of_event event) t.answer
       → FitsAnswer t.answer
       → NowFor a before → Onward steps more (before ++ t ∷ []) → (final : Account)
@@ -235,7 +236,7 @@ module _ (sheet : Sheet) (turns : List Turn) (runs : List (List (Option Run))) (
         ),
       )
 
-  drained-passes : (ts : List Turn) (n : ℕ) (steps : List Step) (more : List Told) (before : List Turn) (a : Account)
+  drained-passes : (ts : List Turn) (n : ℕ) (steps : List Step) (more : List ToldStep) (before : List Turn) (a : Account)
       (logging : Bool) → turns ≡ before ++ (ts ++ turns_told more) → All (λ turn. IsDelivery turn.event) ts → n < 2 ^ 64
       → NowFor a before → Onward steps more (before ++ ts) → (final : Account)
       × PassAll sheet (state a (Deliveries ∷ steps) logging) (lines_told (Drained ts n ∷ more)) final
@@ -250,13 +251,13 @@ module _ (sheet : Sheet) (turns : List Turn) (runs : List (List (Option Run))) (
             (logs-pass sheet (log_of ts) (state a (Deliveries ∷ steps) logging) go.0 rest.0 (drained_line n ∷ lines_told more) (inr (steps, refl)) go.1 behind),
       )
 
-  shown-behind : (before ts : List Turn) (steps : List Step) (more : List Told)
+  shown-behind : (before ts : List Turn) (steps : List Step) (more : List ToldStep)
       → AreWellShown s runs (log_of before ++ log_of ts) steps more → AreWellShown s runs (log_of (before ++ ts)) steps
       more
   shown-behind before ts steps more shown = subst (λ (es : List Entry). AreWellShown s runs es steps more) (sym (log-append before ts)) shown
 
   -- all lines pass
-  pub steps_pass : (steps : List Step) (told : List Told) (before : List Turn) → turns ≡ before ++ turns_told told
+  pub steps_pass : (steps : List Step) (told : List ToldStep) (before : List Turn) → turns ≡ before ++ turns_told told
       → runs ≡ runs_told told → TellAll steps told → EndsPlacing steps → FitSteps s steps
       → AreWellShown s runs (log_of before) steps told → Onward steps told before
   steps_pass [] told before is runs_are tells ends fits shown a logging now = absurd ends

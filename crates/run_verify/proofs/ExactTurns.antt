@@ -16,7 +16,7 @@ use Rattle.group_calls.specs.declared.event.Answer.{Answer}
 use Rattle.group_calls.specs.declared.event.Answer.TheVariants as answered
 use Rattle.group_calls.specs.declared.event.Event.{Event}
 use Rattle.group_calls.specs.declared.event.Event.TheVariants as happens
-use Rattle.scenario_text.specs.Texts.{entry_text, reply_text}
+use Rattle.scenario_text.specs.Texts.{entry_text, reply_words}
 use Rattle.transcript_text.specs.Forms.{MayAnswer, kind_of_event}
 use Rattle.run_verify.specs.Passing.{Account, IsAnswerRight, IsEntryThere, IsReplyTo, IsToldRun, JudgingState, LogsAhead, MayLog, PassAll}
 use Rattle.run_verify.specs.Passing.{LineTellsEntry, account_after_entry, after_answer, call_named, entry_front, logged_reply, next_call_name}
@@ -150,11 +150,11 @@ module _ (sheet : Sheet) (turns : List Turn) (runs : List (List (Option Run))) (
     -- an entry that this turn logged is found ahead
     found-ahead : (i : ℕ) (name : CallName) (op : Asked) (reply : Reply)
         → slice_get t.logged i ≡ Some (call_entry name op reply) → name.caller < callers → name.call < 2 ^ 64
-        → LogsAhead (entry_front name) (reply_text reply) ahead
+        → LogsAhead (entry_front name) (reply_words reply) ahead
     found-ahead i name op reply is fc fn = logs-ahead t.logged rest i (call_entry name op reply) fit named-apart fc fn is
 
     at-once : (caller : ℕ) (op : Asked) (p : ProcessId) (reply : Reply) → t.event ≡ happens.Ask caller op p
-        → t.answer ≡ answered.Reply reply → LogsAhead (entry_front (next_call_name a caller)) (reply_text reply) ahead
+        → t.answer ≡ answered.Reply reply → LogsAhead (entry_front (next_call_name a caller)) (reply_words reply) ahead
     at-once caller op p reply event answer =
         let name : CallName = next_call_name a caller in
         let front = ap (take (length before)) turns_are ∙ take-front before (t ∷ after) in

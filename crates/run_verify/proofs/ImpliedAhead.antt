@@ -4,7 +4,7 @@ use Rattle.group_types.specs.Dimensions.{callers}
 use Rattle.memc_table.specs.declared.reply.Reply.{Reply}
 use Rattle.group_calls.specs.Turns.{CallName, name_of}
 use Rattle.group_calls.specs.declared.entry.Entry.{Entry}
-use Rattle.scenario_text.specs.Texts.{entry_text, name_text, reply_text}
+use Rattle.scenario_text.specs.Texts.{entry_text, name_text, reply_words}
 use Rattle.transcript_text.specs.Forms.{FitsReply}
 use Rattle.transcript_text.proofs.Entries.{FitsEntry, entry-tells}
 use Rattle.run_verify.specs.Passing.{LogsAhead, entry_front}
@@ -32,12 +32,12 @@ none-ahead (line ∷ rest) front reply plain ahead = cc (sym plain ∙ ahead.0)
 
 pub ahead_is : (es : List Entry) (rest : List (List ℕ)) (name : CallName) (reply : Reply) → AllFit es
     → name.caller < callers → name.call < 2 ^ 64 → FitsReply reply → NoEntry rest
-    → LogsAhead (entry_front name) (reply_text reply) (map entry_text es ++ rest) → IsAmong es name reply
-ahead_is [] rest name reply fit fc fn fr plain ahead = absurd (none-ahead rest (entry_front name) (reply_text reply) plain ahead)
+    → LogsAhead (entry_front name) (reply_words reply) (map entry_text es ++ rest) → IsAmong es name reply
+ahead_is [] rest name reply fit fc fn fr plain ahead = absurd (none-ahead rest (entry_front name) (reply_words reply) plain ahead)
 ahead_is (e ∷ es) rest name reply fit fc fn fr plain (begins, found) = elim found [
   | inl here ↦
-      let line : entry_text e ≡ name_text name.caller name.call 0 ++ (here.0 ++ codes " " ++ reply_text reply) =
-      here.1 ∙ ap (λ (t : List ℕ). name_text name.caller name.call 0 ++ t) (sym (append_assoc here.0 (codes " ") (reply_text reply))) in
+      let line : entry_text e ≡ name_text name.caller name.call 0 ++ (here.0 ++ codes " " ++ reply_words reply) =
+      here.1 ∙ ap (λ (t : List ℕ). name_text name.caller name.call 0 ++ t) (sym (append_assoc here.0 (codes " ") (reply_words reply))) in
       let all = entry-tells e name.caller name.call here.0 reply fit.0 fc fn fr line in
       record {
         i = 0;

@@ -16,7 +16,7 @@ use Rattle.group_calls.specs.declared.event.Event.TheVariants as happens
 use Rattle.group_run.specs.Meaning.{is_update_of, updates_from}
 use Rattle.run_verify.specs.Passing.{Account, account_after_entry, after_answer, with_change}
 use Rattle.run_verify.specs.Sheet.{Sheet}
-use Rattle.run_verify.specs.Told.{Told, turns_told, turns_told_in}
+use Rattle.run_verify.specs.Told.{ToldStep, turns_told, turns_told_in}
 use Rattle.run_verify.specs.Told.{Made, Drained, Shown, Lost, Down, Placed}
 use Rattle.run_verify.specs.declared.change.Change.{Change}
 use Rattle.run_verify.specs.declared.step.Step.{Step}
@@ -104,7 +104,7 @@ table-kept a (happens.Flush p) answer = (refl, refl)
 table-kept a (happens.Trace caller call d p) answer = (refl, refl)
 
 -- so do those of a step
-pub shadow-step : (sheet : Sheet) (a : Account) (step : Step) (told : Told) (next : Account) → StepTold sheet a step told next
+pub shadow-step : (sheet : Sheet) (a : Account) (step : Step) (told : ToldStep) (next : Account) → StepTold sheet a step told next
     → Shadow sheet.script.shape.k a.table a.changes (log_of (turns_told_in told)) next.table next.changes
 shadow-step sheet a (Make event) (Made t) next by =
     let kept = table-kept a event t.answer in
@@ -142,7 +142,7 @@ pub log-append : (xs ys : List Turn) → log_of (xs ++ ys) ≡ log_of xs ++ log_
 log-append [] ys = refl
 log-append (t ∷ xs) ys = ap (λ (es : List Entry). t.logged ++ es) (log-append xs ys) ∙ sym (append_assoc t.logged (log_of xs) (log_of ys))
 
-pub shadow-course : (sheet : Sheet) (a : Account) (steps : List Step) (told : List Told) (final : Account) → Course sheet a steps told final
+pub shadow-course : (sheet : Sheet) (a : Account) (steps : List Step) (told : List ToldStep) (final : Account) → Course sheet a steps told final
     → Shadow sheet.script.shape.k a.table a.changes (log_of (turns_told told)) final.table final.changes
 shadow-course sheet a [] [] final course = (ap (λ (c : Account). c.table) course, ap (λ (c : Account). c.changes) course)
 shadow-course sheet a [] (told ∷ more) final course = absurd course

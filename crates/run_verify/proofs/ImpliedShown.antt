@@ -20,7 +20,7 @@ use Rattle.run_verify.specs.Checked.{ArePlaced, AreWellShown, IsWellShown}
 use Rattle.run_verify.specs.Passing.{Account, changes_at}
 use Rattle.run_verify.specs.Plain.{EndsPlacing, FitSteps, FitsStep}
 use Rattle.run_verify.specs.Sheet.{Sheet}
-use Rattle.run_verify.specs.Told.{Told, runs_told, turns_told, turns_told_in}
+use Rattle.run_verify.specs.Told.{ToldStep, runs_told, turns_told, turns_told_in}
 use Rattle.run_verify.specs.Told.{Made, Drained, Shown, Lost, Down, Placed}
 use Rattle.run_verify.specs.Updates.{IsClearRun, IsStampOf, StandRight, StandsRight, brings_value, item_run_behind, shown_at, space_after_updates, spaces_by}
 use Rattle.run_verify.specs.Updates.{updates_by}
@@ -100,7 +100,7 @@ well-look sheet a next p run stamp bytes runs log within stands by =
           by.can,
     )
 
-well-step : (sheet : Sheet) (a : Account) (step : Step) (told : Told) (next : Account) (runs : List (List (Option Run)))
+well-step : (sheet : Sheet) (a : Account) (step : Step) (told : ToldStep) (next : Account) (runs : List (List (Option Run)))
     (log : List Entry) → FitsStep sheet.script.shape step
     → StandsSoFar sheet.script.shape runs log a → StepTold sheet a step told next → IsWellShown sheet.script.shape runs log step told
 well-step sheet a (Look p run) (Shown stamp bytes) next runs log fits stands by = well-look sheet a next p run stamp bytes runs log fits stands by
@@ -113,7 +113,7 @@ well-step sheet a (Make event) told next runs log fits stands by = tt
 well-step sheet a Deliveries told next runs log fits stands by = tt
 well-step sheet a Placing told next runs log fits stands by = tt
 
-pub well-shown : (sheet : Sheet) (steps : List Step) (told : List Told) (a final : Account) (log : List Entry) → FitSteps sheet.script.shape steps
+pub well-shown : (sheet : Sheet) (steps : List Step) (told : List ToldStep) (a final : Account) (log : List Entry) → FitSteps sheet.script.shape steps
     → Shadow sheet.script.shape.k (empty_table sheet.script.shape.k) (replicate sheet.script.shape.k []) log a.table a.changes → Course sheet a steps told final
     → AreWellShown sheet.script.shape (runs_of final 0 sheet.script.shape.k) log steps told
 well-shown sheet [] [] a final log fits shadow course = tt
@@ -185,11 +185,11 @@ are-placed s final log shadow clear = record {
 
 -- ---- the runs that are told
 
-pub record RunsTold (sheet : Sheet) (told : List Told) (final : Account) : Type 0 where
+pub record RunsTold (sheet : Sheet) (told : List ToldStep) (final : Account) : Type 0 where
   pub runs_are : runs_told told ≡ runs_of final 0 sheet.script.shape.k
   pub clear : (d : ℕ) → d < sheet.script.shape.k → AreClear sheet.script.shape [] (changes_at final d)
 
-pub runs-course : (sheet : Sheet) (a : Account) (steps : List Step) (told : List Told) (final : Account)
+pub runs-course : (sheet : Sheet) (a : Account) (steps : List Step) (told : List ToldStep) (final : Account)
     → EndsPlacing steps → Course sheet a steps told final → RunsTold sheet told final
 runs-course sheet a [] told final ends course = absurd ends
 runs-course sheet a (step ∷ steps) [] final ends course = absurd course

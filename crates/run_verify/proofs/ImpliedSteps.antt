@@ -12,6 +12,7 @@ use Rattle.group_calls.specs.declared.event.Answer.{Answer}
 use Rattle.group_calls.specs.declared.event.Answer.TheVariants as answered
 use Rattle.group_calls.specs.declared.event.Event.{Event}
 use Rattle.group_calls.specs.declared.event.Event.TheVariants as happens
+use Rattle.group_run.specs.Causes.{IsDelivery}
 use Rattle.scenario_text.specs.Texts.{entry_text}
 use Rattle.transcript_text.specs.Forms.{FitsAnswer, MayAnswer, kind_of_event}
 use Rattle.run_verify.specs.Changes.{space_behind}
@@ -19,7 +20,7 @@ use Rattle.run_verify.specs.Passing.{Account, DuePlace, IsAnswerRight, JudgingSt
 use Rattle.run_verify.specs.Passing.{begins_entry, changes_at, dues_from, on_to, with_shown}
 use Rattle.run_verify.specs.Plain.{EndsPlacing}
 use Rattle.run_verify.specs.Sheet.{Sheet}
-use Rattle.run_verify.specs.Told.{IsDelivery, Told, CanBeTold, TellAll, count_placed, drained_line, place_lines, lines_told, placed_line}
+use Rattle.run_verify.specs.Told.{ToldStep, CanBeTold, TellAll, count_placed, drained_line, place_lines, lines_told, placed_line}
 use Rattle.run_verify.specs.Told.{Made, Drained, Shown, Lost, Down, Placed}
 use Rattle.run_verify.specs.Updates.{IsStampOf, shown_at}
 use Rattle.run_verify.specs.declared.step.Step.{Step}
@@ -53,7 +54,7 @@ pub record PlacedBy (sheet : Sheet) (a : Account) (runs : List (List (Option Run
   pub clear : (d : ℕ) → d < sheet.script.shape.k → AreClear sheet.script.shape [] (changes_at a d)
   pub next_is : next ≡ a
 
-abbrev pub StepTold : Sheet → Account → Step → Told → Account → Type 0
+abbrev pub StepTold : Sheet → Account → Step → ToldStep → Account → Type 0
 StepTold sheet a (Make event) (Made turn) next = MadeBy sheet a event turn next
 StepTold sheet a Deliveries (Drained turns n) next = (entries : List Entry) × (turns ≡ delivered entries ∷ []) × (n < 2 ^ 64) × LogsTo sheet a entries next
 StepTold sheet a (Look p run) (Shown stamp bytes) next = ShownBy sheet a p run stamp bytes next
@@ -63,14 +64,14 @@ StepTold sheet a Placing (Placed runs) next = PlacedBy sheet a runs next
 StepTold sheet a _ _ next = ⊥
 
 -- so it is with all steps
-abbrev pub Course : Sheet → Account → List Step → List Told → Account → Type 0
+abbrev pub Course : Sheet → Account → List Step → List ToldStep → Account → Type 0
 Course sheet a [] [] final = a ≡ final
 Course sheet a (step ∷ steps) (told ∷ more) final = (next : Account) × StepTold sheet a step told next × Course sheet next steps more final
 Course sheet a [] (told ∷ more) final = ⊥
 Course sheet a (step ∷ steps) [] final = ⊥
 
 pub record Coursed (sheet : Sheet) (a : Account) (steps : List Step) (lines : List (List ℕ)) : Type 0 where
-  pub told : List Told
+  pub told : List ToldStep
   pub final : Account
   pub text : lines ≡ lines_told told
   pub course : Course sheet a steps told final
@@ -224,7 +225,7 @@ course_of sheet (Look p run ∷ steps) ends = look sheet p run steps (course_of 
 course_of sheet (Placing ∷ steps) ends = placing sheet steps ends
 
 -- what is told can be told for the steps
-tells-step : (sheet : Sheet) (a : Account) (step : Step) (told : Told) (next : Account) → StepTold sheet a step told next → CanBeTold step told
+tells-step : (sheet : Sheet) (a : Account) (step : Step) (told : ToldStep) (next : Account) → StepTold sheet a step told next → CanBeTold step told
 tells-step sheet a (Make event) (Made turn) next by = (by.event_is, by.can, by.fits)
 tells-step sheet a (Make event) (Drained turns n) next by = absurd by
 tells-step sheet a (Make event) (Shown stamp bytes) next by = absurd by
@@ -254,7 +255,8 @@ tells-step sheet a Placing Lost next by = absurd by
 tells-step sheet a Placing Down next by = absurd by
 tells-step sheet a Placing (Placed runs) next by = tt
 
-pub tells_all : (sheet : Sheet) (a : Account) (steps : List Step) (told : List Told) (final : Account) → Course sheet a steps told final → TellAll steps told
+pub tells_all : (sheet : Sheet) (a : Account) (steps : List Step) (told : List ToldStep) (final : Account) → Course sheet a steps told final
+    → TellAll steps told
 tells_all sheet a [] [] final course = tt
 tells_all sheet a [] (told ∷ more) final course = absurd course
 tells_all sheet a (step ∷ steps) [] final course = absurd course

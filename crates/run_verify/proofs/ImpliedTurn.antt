@@ -17,7 +17,7 @@ use Rattle.group_calls.specs.declared.event.Answer.{Answer}
 use Rattle.group_calls.specs.declared.event.Answer.TheVariants as answered
 use Rattle.group_calls.specs.declared.event.Event.{Event}
 use Rattle.group_calls.specs.declared.event.Event.TheVariants as happens
-use Rattle.scenario_text.specs.Texts.{entry_text, reply_text}
+use Rattle.scenario_text.specs.Texts.{entry_text, reply_words}
 use Rattle.transcript_text.specs.Forms.{FitsAnswer, FitsReply}
 use Rattle.run_verify.specs.Passing.{Account, IsAnswerRight, IsEntryThere, IsReplyTo, LogsAhead, account_after_entry, after_answer, call_named, entry_front}
 use Rattle.run_verify.specs.Passing.{logged_reply, next_call_name}
@@ -207,7 +207,7 @@ turn-right sheet a t next before fits few s by = record {
       let next_is : next_call_name a name.caller ≡ name =
       (let eq : record { caller = name.caller; call = length (at [] a.calls name.caller) }
       ≡ record { caller = name.caller; call = name.call } = cc many in eq) in
-      let found = subst (λ (n : CallName). LogsAhead (entry_front n) (reply_text reply) (map entry_text t.logged ++ by.rest)) next_is right in
+      let found = subst (λ (n : CallName). LogsAhead (entry_front n) (reply_words reply) (map entry_text t.logged ++ by.rest)) next_is right in
       let below = asks-le name.caller before in
       let among = ahead_is t.logged by.rest name reply (fits-logs sheet t.logged (after_answer a t.event t.answer) next
       by.logs) (subst IsEventInRange event_is fits) (omega (arith, few, place, below)) (subst FitsAnswer answer_is by.fits)

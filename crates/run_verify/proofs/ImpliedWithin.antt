@@ -16,7 +16,7 @@ use Rattle.run_verify.specs.Checked.{RepliesWithin}
 use Rattle.run_verify.specs.Passing.{Account, account_after_entry, after_answer, call_named, takes_effect, with_shown}
 use Rattle.run_verify.specs.Plain.{FitSteps, IsEventInRange}
 use Rattle.run_verify.specs.Sheet.{Sheet}
-use Rattle.run_verify.specs.Told.{Told, turns_told}
+use Rattle.run_verify.specs.Told.{ToldStep, turns_told}
 use Rattle.run_verify.specs.Told.{Made, Drained, Shown, Lost, Down, Placed}
 use Rattle.run_verify.specs.declared.call.Call.{Call}
 use Rattle.run_verify.specs.declared.step.Step.{Step}
@@ -42,7 +42,7 @@ table-answer a (happens.Fail p keep) answer = refl
 table-answer a (happens.Flush p) answer = refl
 table-answer a (happens.Trace caller call d p) answer = refl
 
-pub legal-course : (sheet : Sheet) (a : Account) (steps : List Step) (told : List Told) (final : Account)
+pub legal-course : (sheet : Sheet) (a : Account) (steps : List Step) (told : List ToldStep) (final : Account)
     → Course sheet a steps told final → IsLegalFrom a.table (log_of (turns_told told))
 legal-course sheet a [] [] final course = tt
 legal-course sheet a [] (told ∷ more) final course = absurd course
@@ -111,7 +111,7 @@ few-more before t n few = omega (arith, few, length-append before (t ∷ []))
 fewer : (before : List Turn) (n : ℕ) → length before + suc n < 2 ^ 64 → length before + n < 2 ^ 64
 fewer before n few = omega (arith, few)
 
-pub right-course : (sheet : Sheet) (a : Account) (steps : List Step) (told : List Told) (final : Account)
+pub right-course : (sheet : Sheet) (a : Account) (steps : List Step) (told : List ToldStep) (final : Account)
     (before : List Turn) → FitSteps sheet.script.shape steps → length before + length steps < 2 ^ 64
     → StandsFor a before → Course sheet a steps told final → AllRight before (turns_told told)
 right-course sheet a [] [] final before fits few s course = record { each = tt; account = a; stands = rw (append-nil before) s }

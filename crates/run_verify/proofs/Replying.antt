@@ -11,7 +11,7 @@ use Rattle.group_calls.specs.declared.event.Answer.TheVariants as answered
 use Rattle.group_calls.specs.declared.event.Cause.TheVariants.{Pending, Block}
 use Rattle.group_calls.specs.declared.event.Event.{Event}
 use Rattle.group_calls.specs.declared.event.Event.TheVariants as happens
-use Rattle.scenario_text.specs.Texts.{answer_text, reply_text}
+use Rattle.scenario_text.specs.Texts.{answer_text, reply_words}
 use Rattle.transcript_text.specs.Forms.{FitsAnswer, FitsReply, MayAnswer, kind_of_event}
 use Rattle.transcript_text.specs.Texts.{IsSaid}
 use Rattle.transcript_text.specs.declared.answer.Said.TheVariants as said
@@ -30,12 +30,12 @@ no_reply line text other is l differs = differs (ap third (sym is ∙ l))
 
 -- the same reply, told by its text
 there-of : (o : Option Reply) (name : CallName) (r : Reply) (text : List ℕ) (ahead : List (List ℕ)) → FitsReply r
-    → reply_text r ≡ text → IsEntryThere o name r ahead → IsTextThere o (entry_front name) text ahead
-there-of (Some logged) name r text ahead fits same is = (subst FitsReply (sym is) fits, ap reply_text is ∙ same)
+    → reply_words r ≡ text → IsEntryThere o name r ahead → IsTextThere o (entry_front name) text ahead
+there-of (Some logged) name r text ahead fits same is = (subst FitsReply (sym is) fits, ap reply_words is ∙ same)
 there-of None name r text ahead fits same is = subst (λ (t : List ℕ). LogsAhead (entry_front name) t ahead) same is
 
 tells-of : (a : Account) (e : Event) (r : Reply) (text : List ℕ) (ahead : List (List ℕ)) → FitsReply r
-    → reply_text r ≡ text → IsReplyTo a e r ahead → TellsReplyTo a e text ahead
+    → reply_words r ≡ text → IsReplyTo a e r ahead → TellsReplyTo a e text ahead
 tells-of a (happens.Ask caller op at) r text ahead fits same is = subst (λ (t : List ℕ). LogsAhead (entry_front (next_call_name a caller)) t ahead) same is
 tells-of a (happens.Collect caller call at) r text ahead fits same is =
     there-of (logged_reply a (record { caller = caller; call = call })) (record { caller = caller; call = call }) r text
@@ -49,16 +49,16 @@ tells-of a (happens.Flush at) r text ahead fits same is = absurd is
 
 -- a reply with this text that is right
 abbrev HasRight : Account → Event → List ℕ → List (List ℕ) → Type 0
-HasRight a e text ahead = (r : Reply) × FitsReply r × (reply_text r ≡ text) × IsReplyTo a e r ahead
+HasRight a e text ahead = (r : Reply) × FitsReply r × (reply_words r ≡ text) × IsReplyTo a e r ahead
 
 right-there : (o : Option Reply) (name : CallName) (r : Reply) (text : List ℕ) (ahead : List (List ℕ)) → FitsReply r
-    → reply_text r ≡ text → IsTextThere o (entry_front name) text ahead
-    → (x : Reply) × FitsReply x × (reply_text x ≡ text) × IsEntryThere o name x ahead
+    → reply_words r ≡ text → IsTextThere o (entry_front name) text ahead
+    → (x : Reply) × FitsReply x × (reply_words x ≡ text) × IsEntryThere o name x ahead
 right-there (Some logged) name r text ahead fits same is = (logged, is.0, is.1, refl)
 right-there None name r text ahead fits same is = (r, fits, same, subst (λ (t : List ℕ). LogsAhead (entry_front name) t ahead) (sym same) is)
 
 has-right : (a : Account) (e : Event) (r : Reply) (text : List ℕ) (ahead : List (List ℕ)) → FitsReply r
-    → reply_text r ≡ text → TellsReplyTo a e text ahead → HasRight a e text ahead
+    → reply_words r ≡ text → TellsReplyTo a e text ahead → HasRight a e text ahead
 has-right a (happens.Ask caller op at) r text ahead fits same is =
     (r, fits, same, subst (λ (t : List ℕ). LogsAhead (entry_front (next_call_name a caller)) t ahead) (sym same) is)
 has-right a (happens.Collect caller call at) r text ahead fits same is =
@@ -80,7 +80,7 @@ none_said a e line ahead none next (answer, is, same) = none answer is.can is.fi
 only_reply : (a : Account) (e : Event) (line text : List ℕ) (ahead : List (List ℕ)) (answer : Answer)
     → line ≡ codes "reply " ++ text → TellsAnswer a e line ahead answer → TellsReplyTo a e text ahead
 only_reply a e line text ahead (answered.Reply r) l is =
-    tells-of a e r text ahead is.fits (append_cancel_left (codes "reply ") (reply_text r) text (sym is.text ∙ l))
+    tells-of a e r text ahead is.fits (append_cancel_left (codes "reply ") (reply_words r) text (sym is.text ∙ l))
     is.right
 only_reply a e line text ahead (answered.Ticket n) l is = absurd (no_reply line text _ is.text l (λ same. omega (arith, same)))
 only_reply a e line text ahead (answered.Retry (Pending d n)) l is = absurd (no_reply line text _ is.text l (λ same. omega (arith, same)))

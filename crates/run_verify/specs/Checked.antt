@@ -14,7 +14,7 @@ use Rattle.group_calls.specs.declared.event.Answer.TheVariants as answered
 use Rattle.run_verify.specs.Steps.{Script}
 use Rattle.run_verify.specs.declared.step.Step.{Step}
 use Rattle.run_verify.specs.declared.step.Step.TheVariants.{Look}
-use Rattle.run_verify.specs.Told.{Shown, Told, TellAll, lines_told, runs_told, turns_told_in, turns_told}
+use Rattle.run_verify.specs.Told.{Shown, ToldStep, TellAll, lines_told, runs_told, turns_told_in, turns_told}
 use Rattle.run_verify.specs.Updates.{IsStampOf, StandRight, shown_at, space_after_updates, updates_by}
 
 -- the replies are given within their time: all that `AnswersWithin` says but of calls that are gone
@@ -41,19 +41,19 @@ pub record ArePlaced (s : Dimensions) (log : List Entry) (runs : List (List (Opt
   pub right : (d : ℕ) → d < s.k → StandRight s [] (updates_by s runs log d)
 
 -- the bytes of a process are those of the updates that were logged before, up to a stamp that it can have
-abbrev pub IsWellShown : Dimensions → List (List (Option Run)) → List Entry → Step → Told → Type 0
+abbrev pub IsWellShown : Dimensions → List (List (Option Run)) → List Entry → Step → ToldStep → Type 0
 IsWellShown s runs log (Look p run) (Shown stamp bytes) = IsStampOf s (λ d. length (updates_by s runs log d)) p stamp
     × (bytes ≡ shown_at s (λ d n. space_after_updates s (updates_by s runs log d) n) p run stamp)
 IsWellShown s runs log _ _ = ⊤
 
 -- so it is with all that is told, where this is the log before
-abbrev pub AreWellShown : Dimensions → List (List (Option Run)) → List Entry → List Step → List Told → Type 0
+abbrev pub AreWellShown : Dimensions → List (List (Option Run)) → List Entry → List Step → List ToldStep → Type 0
 AreWellShown s runs log (step ∷ steps) (told ∷ more) = IsWellShown s runs log step told × AreWellShown s runs (log ++ log_of (turns_told_in told)) steps more
 AreWellShown s runs log _ _ = Unit {0}
 
 -- a transcript of these lines is checked: something is told for each step, whose lines these are
 pub record IsChecked (script : Script) (transcript : List (List ℕ)) : Type 0 where
-  pub told : List Told
+  pub told : List ToldStep
   pub tells : TellAll script.steps told
   pub lines : transcript ≡ lines_told told
   pub legal : IsLegal script.shape.k (log_of (turns_told told))

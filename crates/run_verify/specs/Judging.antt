@@ -10,7 +10,7 @@ use Rattle.memc_table.specs.Contents.{Contents, reply_of, table_after}
 use Rattle.memc_table.specs.declared.reply.Reply.{Reply}
 use Rattle.group_calls.specs.declared.entry.Entry.{Entry}
 use Rattle.group_calls.specs.declared.event.Answer.{Answer}
-use Rattle.scenario_text.specs.Texts.{entry_text, reply_text}
+use Rattle.scenario_text.specs.Texts.{entry_text, reply_words}
 use Rattle.transcript_text.specs.Forms.{FitsReply}
 use Rattle.transcript_text.specs.declared.name.Name.{Name}
 use Rattle.run_verify.specs.Passing.{Account, LineTellsEntry, LogsAhead, TellsAnswer, after_answer, entry_front, next_call_name}
@@ -48,7 +48,7 @@ IsAnswerJudged a event line ahead next = (answer : Answer) × TellsAnswer a even
 
 -- a text is that of the reply of a call's entry: logged before, or else right ahead
 abbrev pub IsTextThere : Option Reply → List ℕ → List ℕ → List (List ℕ) → Type 0
-IsTextThere (Some logged) front text ahead = FitsReply logged × (reply_text logged ≡ text)
+IsTextThere (Some logged) front text ahead = FitsReply logged × (reply_words logged ≡ text)
 IsTextThere None front text ahead = LogsAhead front text ahead
 
 -- so it is of the call of an event

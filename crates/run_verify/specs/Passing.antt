@@ -19,7 +19,7 @@ use Rattle.group_calls.specs.declared.event.Answer.TheVariants as answered
 use Rattle.group_calls.specs.declared.event.Event.{Event}
 use Rattle.group_calls.specs.declared.event.Event.TheVariants as happens
 use Rattle.memc_table.specs.declared.act.Act.TheVariants.{Delete, Touch}
-use Rattle.scenario_text.specs.Texts.{answer_text, entry_text, name_text, place_text, reply_text, shown_text}
+use Rattle.scenario_text.specs.Texts.{answer_text, entry_text, name_text, place_text, reply_words, shown_text}
 use Rattle.transcript_text.specs.Texts.{FitsNumber}
 use Rattle.transcript_text.specs.Forms.{FitsAnswer, FitsReply, MayAnswer, kind_of_event}
 use Rattle.run_verify.specs.Sheet.{Sheet}
@@ -99,11 +99,11 @@ LogsAhead front reply (line ∷ lines) = (begins_entry line ≡ true)
 -- the entry of a call is there with this reply: logged before, or else right ahead
 abbrev pub IsEntryThere : Option Reply → CallName → Reply → List (List ℕ) → Type 0
 IsEntryThere (Some logged) name reply ahead = logged ≡ reply
-IsEntryThere None name reply ahead = LogsAhead (entry_front name) (reply_text reply) ahead
+IsEntryThere None name reply ahead = LogsAhead (entry_front name) (reply_words reply) ahead
 
 -- a reply is the one of its call's entry; that of an ask is logged by its own event
 abbrev pub IsReplyTo : Account → Event → Reply → List (List ℕ) → Type 0
-IsReplyTo a (happens.Ask caller _ _) reply ahead = LogsAhead (entry_front (next_call_name a caller)) (reply_text reply) ahead
+IsReplyTo a (happens.Ask caller _ _) reply ahead = LogsAhead (entry_front (next_call_name a caller)) (reply_words reply) ahead
 IsReplyTo a (happens.Collect caller call _) reply ahead =
     IsEntryThere (logged_reply a (record { caller = caller; call = call })) (record { caller = caller; call = call })
     reply ahead

@@ -5,6 +5,7 @@ use Rattle.group_types.specs.declared.run.Run.{Run}
 use Rattle.group_calls.specs.Turns.{Turn, log_of}
 use Rattle.group_calls.specs.declared.event.Event.{Event}
 use Rattle.group_calls.specs.declared.event.Event.TheVariants as happens
+use Rattle.group_run.specs.Causes.{IsDelivery}
 use Rattle.scenario_text.specs.Texts.{answer_text, entry_text, many_placed, place_text, shown_text}
 use Rattle.transcript_text.specs.Forms.{FitsAnswer, MayAnswer, kind_of_event}
 use Rattle.run_verify.specs.declared.step.Step.{Step}
@@ -13,13 +14,13 @@ use Rattle.run_verify.specs.declared.step.Step.TheVariants.{Make, Deliveries, Lo
 -- what is told for a step: an event with its answer and what it logged; deliveries, and a number of them, which
 -- nobody checks; the stamp and the bytes of a process; that it is dead; that the group is down; and the runs of each
 -- partition's updates, by number
-pub data Told : Type 0 where
-  Made : Turn → Told
-  Drained : List Turn → ℕ → Told
-  Shown : List ℕ → List ℕ → Told
-  Lost : Told
-  Down : Told
-  Placed : List (List (Option Run)) → Told
+pub data ToldStep : Type 0 where
+  Made : Turn → ToldStep
+  Drained : List Turn → ℕ → ToldStep
+  Shown : List ℕ → List ℕ → ToldStep
+  Lost : ToldStep
+  Down : ToldStep
+  Placed : List (List (Option Run)) → ToldStep
 
 -- the lines of the runs of a partition's updates behind this number
 abbrev pub run_lines : ℕ → ℕ → List (Option Run) → List (List ℕ)
@@ -44,7 +45,7 @@ abbrev pub placed_line : ℕ → List ℕ
 placed_line n = codes "placed " ++ decimal n
 
 -- the lines of what is told for a step
-abbrev pub told_lines : Told → List (List ℕ)
+abbrev pub told_lines : ToldStep → List (List ℕ)
 told_lines (Made turn) = answer_text turn.answer ∷ map entry_text turn.logged
 told_lines (Drained turns n) = map entry_text (log_of turns) ++ drained_line n ∷ []
 told_lines (Shown stamp bytes) = shown_text stamp bytes ∷ []
@@ -53,46 +54,37 @@ told_lines Down = codes "down" ∷ []
 told_lines (Placed runs) = place_lines 0 runs ++ placed_line (count_placed runs) ∷ []
 
 -- and of all that is told
-abbrev pub lines_told : List Told → List (List ℕ)
+abbrev pub lines_told : List ToldStep → List (List ℕ)
 lines_told [] = []
 lines_told (told ∷ more) = told_lines told ++ lines_told more
 
 -- the turns that are told
-abbrev pub turns_told_in : Told → List Turn
+abbrev pub turns_told_in : ToldStep → List Turn
 turns_told_in (Made turn) = turn ∷ []
 turns_told_in (Drained turns n) = turns
 turns_told_in _ = []
 
-abbrev pub turns_told : List Told → List Turn
+abbrev pub turns_told : List ToldStep → List Turn
 turns_told [] = []
 turns_told (told ∷ more) = turns_told_in told ++ turns_told more
 
 -- the runs that are told
-abbrev pub runs_told_in : Told → List (List (Option Run))
+abbrev pub runs_told_in : ToldStep → List (List (Option Run))
 runs_told_in (Placed runs) = runs
 runs_told_in _ = []
 
-abbrev pub runs_told : List Told → List (List (Option Run))
+abbrev pub runs_told : List ToldStep → List (List (Option Run))
 runs_told [] = []
 runs_told (told ∷ more) = runs_told_in told ++ runs_told more
 
 -- how many lines show bytes
-abbrev pub count_shown : List Told → ℕ
+abbrev pub count_shown : List ToldStep → ℕ
 count_shown [] = 0
 count_shown (Shown stamp bytes ∷ more) = suc (count_shown more)
 count_shown (told ∷ more) = count_shown more
 
--- a delivery
-abbrev pub IsDelivery : Event → Type 0
-IsDelivery (happens.Deliver _ _) = ⊤
-IsDelivery (happens.Ask _ _ _) = ⊥
-IsDelivery (happens.Collect _ _ _) = ⊥
-IsDelivery (happens.Fail _ _) = ⊥
-IsDelivery (happens.Flush _) = ⊥
-IsDelivery (happens.Trace _ _ _ _) = ⊥
-
 -- this can be told for a step: an answer that its event can have, within the limits of its numbers
-abbrev pub CanBeTold : Step → Told → Type 0
+abbrev pub CanBeTold : Step → ToldStep → Type 0
 CanBeTold (Make event) (Made turn) = (turn.event ≡ event) × MayAnswer (kind_of_event event) turn.answer × FitsAnswer turn.answer
 CanBeTold Deliveries (Drained turns n) = All (λ turn. IsDelivery turn.event) turns × (n < 2 ^ 64)
 CanBeTold (Look p run) (Shown stamp bytes) = ⊤
@@ -102,7 +94,7 @@ CanBeTold Placing (Placed runs) = ⊤
 CanBeTold _ _ = ⊥
 
 -- and for all steps, in order
-abbrev pub TellAll : List Step → List Told → Type 0
+abbrev pub TellAll : List Step → List ToldStep → Type 0
 TellAll [] [] = Unit {0}
 TellAll (step ∷ steps) (told ∷ more) = CanBeTold step told × TellAll steps more
 TellAll [] (told ∷ more) = ⊥

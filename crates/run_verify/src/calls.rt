@@ -1,6 +1,6 @@
 ghost use Rattle.std.specs.Prelude.{◌≡◌, ◌↔◌, ◌<◌, ◌^◌, ◌++◌, ◌∷◌, [], All, None, length, slice_get, option_and_then, IfOk, OnOk, IsTrue, option_copied};
 ghost use Rattle.group_types.specs.Lists.{at, put};
-ghost use Rattle.scenario_text.specs.Texts.{reply_text};
+ghost use Rattle.scenario_text.specs.Texts.{reply_words};
 ghost use Rattle.scenario_run.specs.Lines.{lines_of};
 ghost use Rattle.transcript_text.specs.Forms.{FitsReply};
 ghost use Rattle.run_verify.specs.Accounts.{lists_of};
@@ -50,7 +50,7 @@ pub(crate) fn reply_in(calls: &[Call], call: u64) -> Option<&Reply>
 
 /// Whether a text is that of a reply.
 pub(crate) fn is_text_of(alloc: Global, reply: &Reply, text: &[u8]) -> Result<bool, AllocError>
-    ensures { IfOk result (λ yes. IsTrue yes ↔ (FitsReply reply.now × (reply_text reply.now ≡ text.now))) }
+    ensures { IfOk result (λ yes. IsTrue yes ↔ (FitsReply reply.now × (reply_words reply.now ≡ text.now))) }
 {
     fits(reply);
     Ok(write_reply(alloc, reply)?.as_slice() == text)

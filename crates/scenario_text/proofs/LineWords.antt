@@ -11,7 +11,7 @@ use Rattle.memc_table.specs.Numeral.{number_of}
 use Rattle.scenario_text.proofs.ActWords.{ReadsAct, ReadsNumber, act_of-words}
 use Rattle.scenario_text.proofs.Read.{bound, mapped, passed}
 use Rattle.scenario_text.specs.Acts.{act_of_words}
-use Rattle.scenario_text.specs.Meaning.{delivery, event_line, is_skipped, keyword_of, line_by, line_meaning, look, or_bad_line}
+use Rattle.scenario_text.specs.Meaning.{delivery, event_line, is_skipped, keyword_of, line_by, line_meaning, look_within, or_bad_line}
 use Rattle.scenario_text.specs.Words.{keep_of_word, number_below, partition_of_word, process_of_word, run_of_words, split_words}
 use Rattle.scenario_text.specs.declared.keyword.Keyword.{Keyword}
 use Rattle.scenario_text.specs.declared.keyword.Keyword.TheVariants as keyword
@@ -77,7 +77,7 @@ delivery-words s from to l f t is = by (same_process from to) refl is
     by true e is = cc is
     by false e is = moved s keyword.Deliver (Deliver from to) l is refl (f, t, e)
 
-look-words : (s : Dimensions) (p : ProcessId) (run : Run) (l : Line) → ReadsProcess s p → look s p run ≡ Some l
+look-words : (s : Dimensions) (p : ProcessId) (run : Run) (l : Line) → ReadsProcess s p → look_within s p run ≡ Some l
     → IsReadBy s keyword.Show l
 look-words s p run l at is =
     let shown = passed (nat_le (run.at + run.len) (space_of s)) (Some (Show p run)) l is in

@@ -78,8 +78,8 @@ abbrev pub delivery : ProcessId → ProcessId → Option Line
 delivery from to = if same_process from to then None else Some (Deliver from to)
 
 -- a look at a run that lies in the space
-abbrev pub look : Dimensions → ProcessId → Run → Option Line
-look shape at run = if nat_le (run.at + run.len) (space_of shape) then Some (Show at run) else None
+abbrev pub look_within : Dimensions → ProcessId → Run → Option Line
+look_within shape at run = if nat_le (run.at + run.len) (space_of shape) then Some (Show at run) else None
 
 -- what a keyword means with the words behind it, in a group of this shape
 unfoldable pub line_by : Dimensions → Keyword → List (List ℕ) → Option Line
@@ -112,7 +112,7 @@ line_by shape keyword.Drain [] = Some Drain
 line_by shape keyword.Show (at ∷ from ∷ len ∷ []) = do
   at ← process_of_word shape at
   run ← run_of_words from len
-  look shape at run
+  look_within shape at run
 line_by shape keyword.Places [] = Some Places
 line_by shape keyword.Time (moment ∷ []) = option_map Time (number_below (2 ^ 62 + 1) moment)
 line_by shape keyword.Stop [] = Some Stop

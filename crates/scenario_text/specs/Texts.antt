@@ -18,31 +18,31 @@ value_text [] = codes "-"
 value_text (b ∷ bs) = encode_lower (b ∷ bs)
 
 -- a number word with the space before it
-abbrev pub next_number : ℕ → List ℕ
-next_number n = codes " " ++ decimal n
+abbrev pub spaced_number : ℕ → List ℕ
+spaced_number n = codes " " ++ decimal n
 
 -- a reply
-abbrev pub reply_text : Reply → List ℕ
-reply_text (Value item) = codes "value" ++ next_number item.flags ++ next_number item.cas ++ codes " " ++ value_text item.value
-reply_text (Number n) = codes "number " ++ decimal n
-reply_text Miss = codes "miss"
-reply_text Stored = codes "stored"
-reply_text NotStored = codes "not_stored"
-reply_text Exists = codes "exists"
-reply_text NotFound = codes "not_found"
-reply_text Deleted = codes "deleted"
-reply_text Touched = codes "touched"
-reply_text NotNumber = codes "not_number"
-reply_text TooLarge = codes "too_large"
+abbrev pub reply_words : Reply → List ℕ
+reply_words (Value item) = codes "value" ++ spaced_number item.flags ++ spaced_number item.cas ++ codes " " ++ value_text item.value
+reply_words (Number n) = codes "number " ++ decimal n
+reply_words Miss = codes "miss"
+reply_words Stored = codes "stored"
+reply_words NotStored = codes "not_stored"
+reply_words Exists = codes "exists"
+reply_words NotFound = codes "not_found"
+reply_words Deleted = codes "deleted"
+reply_words Touched = codes "touched"
+reply_words NotNumber = codes "not_number"
+reply_words TooLarge = codes "too_large"
 
 -- why a call has to be asked again
 abbrev pub cause_text : Cause → List ℕ
-cause_text (Pending partition number) = codes "retry pending" ++ next_number partition.0 ++ next_number number
+cause_text (Pending partition number) = codes "retry pending" ++ spaced_number partition.0 ++ spaced_number number
 cause_text (Block block) = codes "retry block " ++ decimal block
 
 -- an answer
 abbrev pub answer_text : Answer → List ℕ
-answer_text (answered.Reply reply) = codes "reply " ++ reply_text reply
+answer_text (answered.Reply reply) = codes "reply " ++ reply_words reply
 answer_text (answered.Ticket number) = codes "ticket " ++ decimal number
 answer_text (answered.Retry cause) = cause_text cause
 answer_text (answered.Stale call) = codes "stale " ++ decimal call
@@ -64,7 +64,7 @@ expiry_text (negsuc e) = codes " " ++ signed_decimal (negsuc e)
 
 -- an op's name and its key, and then its flags
 abbrev pub flagged_text : List ℕ → List ℕ → ℕ → List ℕ
-flagged_text name key flags = name ++ key ++ next_number flags
+flagged_text name key flags = name ++ key ++ spaced_number flags
 
 -- words, and then a value and its exptime
 abbrev pub stored_text : List ℕ → ℤ → List ℕ → List ℕ
@@ -76,13 +76,13 @@ act_text (Get key) = codes "get " ++ key
 act_text (Set key flags expiry value) = stored_text (flagged_text (codes "set ") key flags) expiry value
 act_text (Add key flags expiry value) = stored_text (flagged_text (codes "add ") key flags) expiry value
 act_text (Replace key flags expiry value) = stored_text (flagged_text (codes "replace ") key flags) expiry value
-act_text (Cas key flags expiry cas value) = stored_text (flagged_text (codes "cas ") key flags ++ next_number cas) expiry value
+act_text (Cas key flags expiry cas value) = stored_text (flagged_text (codes "cas ") key flags ++ spaced_number cas) expiry value
 act_text (Delete key) = codes "delete " ++ key
 act_text (Touch key expiry) = codes "touch " ++ key ++ (codes " " ++ signed_decimal expiry)
 act_text (Append key value) = stored_text (codes "append " ++ key) (pos 0) value
 act_text (Prepend key value) = stored_text (codes "prepend " ++ key) (pos 0) value
-act_text (Incr key by) = codes "incr " ++ key ++ next_number by
-act_text (Decr key by) = codes "decr " ++ key ++ next_number by
+act_text (Incr key by) = codes "incr " ++ key ++ spaced_number by
+act_text (Decr key by) = codes "decr " ++ key ++ spaced_number by
 
 -- the moment of a call, where it is not 0
 abbrev pub moment_text : ℕ → List ℕ
@@ -94,7 +94,7 @@ name_text caller call moment = codes "= " ++ decimal caller ++ (codes "." ++ dec
 
 -- an entry of the log
 abbrev pub entry_text : Entry → List ℕ
-entry_text entry = name_text entry.caller entry.call entry.op.moment ++ act_text entry.op.act ++ codes " " ++ reply_text entry.reply
+entry_text entry = name_text entry.caller entry.call entry.op.moment ++ act_text entry.op.act ++ codes " " ++ reply_words entry.reply
 
 -- entries of the log, each on a line
 abbrev pub entries_text : List Entry → List ℕ
@@ -108,7 +108,7 @@ behind_commas (n ∷ ns) = codes "," ++ decimal n ++ behind_commas ns
 
 -- the run of an update of a partition, by its number
 abbrev pub place_text : ℕ → ℕ → Run → List ℕ
-place_text partition number run = codes "place" ++ next_number partition ++ next_number number ++ next_number run.at ++ next_number run.len
+place_text partition number run = codes "place" ++ spaced_number partition ++ spaced_number number ++ spaced_number run.at ++ spaced_number run.len
 
 -- the runs of a partition's updates behind this number, each on a line; an update that has none has no line
 abbrev pub places_text : ℕ → ℕ → List (Option Run) → List ℕ

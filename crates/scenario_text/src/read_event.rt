@@ -1,7 +1,7 @@
 ghost use Rattle.std.specs.Prelude.{◌≡◌, ◌<◌, map, IfOk};
 ghost use Rattle.group_types.specs.Dimensions.{Dimensions, callers};
 ghost use Rattle.group_types.specs.Names.{IsProcess};
-ghost use Rattle.scenario_text.specs.Meaning.{event_line, line_by, delivery, look, IsWithin};
+ghost use Rattle.scenario_text.specs.Meaning.{event_line, line_by, delivery, look_within, IsWithin};
 ghost use Rattle.scenario_text.specs.Reads.{IsReadAs};
 ghost use Rattle.scenario_text.specs.Words.{number_below, partition_of_word, run_of_words};
 
@@ -229,7 +229,7 @@ fn delivery(from: ProcessId, to: ProcessId) -> Result<Line, LineFault>
 }
 
 fn look(shape: Shape, at: ProcessId, run: Run) -> Result<Line, LineFault>
-    ensures meaning { IsReadAs result (look shape at run) }
+    ensures meaning { IsReadAs result (look_within shape at run) }
     ensures within { IsProcess shape at → IfOk result (IsWithin shape) }
 {
     if u64::from(shape.space()) < u64::from(run.at) + u64::from(run.len) {

@@ -1,6 +1,6 @@
 ghost use Rattle.std.specs.Prelude.{◌≡◌, ◌++◌, IfOk};
 ghost use Rattle.std.specs.Fmt.{decimal};
-ghost use Rattle.scenario_text.specs.Texts.{value_text, reply_text};
+ghost use Rattle.scenario_text.specs.Texts.{reply_words, value_text};
 
 use memc_table::Reply;
 use std::alloc::{AllocError, Global};
@@ -17,7 +17,7 @@ pub fn write_value(alloc: Global, value: &[u8]) -> Result<Vec<u8>, AllocError>
 
 /// A reply.
 pub fn write_reply(alloc: Global, reply: &Reply) -> Result<Vec<u8>, AllocError>
-    ensures { IfOk result (λ text. text.items ≡ reply_text reply.now) }
+    ensures { IfOk result (λ text. text.items ≡ reply_words reply.now) }
 {
     match reply {
         Reply::Value(item) => {

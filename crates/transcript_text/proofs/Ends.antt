@@ -12,7 +12,7 @@ use Rattle.std.specs.Str.{all_ascii_digits, bytes_eq}
 use Rattle.memc_table.specs.declared.reply.Item.{Item}
 use Rattle.memc_table.specs.declared.reply.Reply.{Reply}
 use Rattle.memc_table.specs.declared.reply.Reply.TheVariants.{Value, Miss, Stored, NotStored, Exists, NotFound, Deleted, Touched, Number, NotNumber, TooLarge}
-use Rattle.scenario_text.specs.Texts.{reply_text, value_text}
+use Rattle.scenario_text.specs.Texts.{reply_words, value_text}
 use Rattle.transcript_text.specs.Forms.{AreBytes, FitsReply, is_word}
 use Rattle.transcript_text.specs.Parts.{IsLowerDigit}
 use Rattle.transcript_text.specs.Reading.{Lacks}
@@ -59,11 +59,11 @@ lacks-space (b ∷ bs) is =
 
 -- a word is read back, has no space, and begins with a letter; its third one is no digit
 record IsWordText (reply : Reply) : Type 0 where
-  back : read_word (reply_text reply) ≡ reply
-  lacks : lacks_space (reply_text reply) ≡ true
-  letter : 97 ≤ slice_index (reply_text reply) 0
-  third : 102 < slice_index (reply_text reply) 2
-  long : 3 < length (reply_text reply)
+  back : read_word (reply_words reply) ≡ reply
+  lacks : lacks_space (reply_words reply) ≡ true
+  letter : 97 ≤ slice_index (reply_words reply) 0
+  third : 102 < slice_index (reply_words reply) 2
+  long : 3 < length (reply_words reply)
 
 word-text : (reply : Reply) → is_word reply ≡ true → IsWordText reply
 word-text (Value item) is = cc is
@@ -89,7 +89,7 @@ digit-first (d ∷ ds) some digits =
 pub first-decimal : (n : ℕ) → n < 2 ^ 64 → slice_index (decimal n) 0 ≤ 57
 first-decimal n fits = digit-first (decimal n) (decimal_nonempty n fits) (digits_decimal own n fits)
 
-word-no_number : (reply : Reply) (n : ℕ) → IsWordText reply → n < 2 ^ 64 → reply_text reply ≢ decimal n
+word-no_number : (reply : Reply) (n : ℕ) → IsWordText reply → n < 2 ^ 64 → reply_words reply ≢ decimal n
 word-no_number reply n is fits same =
     let letter = is.letter in
     omega (arith, rw same at letter, first-decimal n fits)
@@ -101,10 +101,10 @@ third-digit word value long = elim (value-form word value) [
   | inr are ↦ elim (are.digits 2 0 (omega (arith, long))) [ inl digit ↦ let high = digit.1 in omega (arith, high) | inr letter ↦ letter.1 ]
 ]
 
-word-no_value : (reply : Reply) (bytes : List ℕ) → IsWordText reply → AreBytes bytes → reply_text reply ≢ value_text bytes
+word-no_value : (reply : Reply) (bytes : List ℕ) → IsWordText reply → AreBytes bytes → reply_words reply ≢ value_text bytes
 word-no_value reply bytes is fits same =
     let third = is.third in
-    let digit = third-digit (reply_text reply) (bytes, fits, sym same) is.long in
+    let digit = third-digit (reply_words reply) (bytes, fits, sym same) is.long in
     omega (arith, third, digit)
 
 -- ---- what a line tells at its end
@@ -131,14 +131,14 @@ view NotNumber = inl refl
 view TooLarge = inl refl
 
 -- a number's word is the last
-number-end : (p : List ℕ) (n : ℕ) → p ++ 32 ∷ reply_text (Number n) ≡ (p ++ 32 ∷ codes "number") ++ 32 ∷ decimal n
+number-end : (p : List ℕ) (n : ℕ) → p ++ 32 ∷ reply_words (Number n) ≡ (p ++ 32 ∷ codes "number") ++ 32 ∷ decimal n
 number-end p n = sym (append_assoc p (32 ∷ codes "number") (32 ∷ decimal n))
 
 abbrev item_front : List ℕ → Item → List ℕ
 item_front p item = p ++ 32 ∷ (codes "value" ++ 32 ∷ decimal item.flags)
 
 -- so is the word of an item's value, behind its cas number
-item-end : (p : List ℕ) (item : Item) → p ++ 32 ∷ reply_text (Value item) ≡ (item_front p item ++ 32 ∷ decimal item.cas) ++ 32 ∷ value_text item.value
+item-end : (p : List ℕ) (item : Item) → p ++ 32 ∷ reply_words (Value item) ≡ (item_front p item ++ 32 ∷ decimal item.cas) ++ 32 ∷ value_text item.value
 item-end p item =
     ap (λ (t : List ℕ). p ++ 32 ∷ t) (append_assoc (codes "value" ++ 32 ∷ decimal item.flags ++ 32 ∷ decimal item.cas) (32 ∷ []) (value_text item.value))
     ∙ sym (append_assoc p (32 ∷ (codes "value" ++ 32 ∷ decimal item.flags ++ 32 ∷ decimal item.cas)) (32 ∷ value_text item.value))
@@ -149,23 +149,23 @@ Lacks-value bytes fits = lacks 32 (value_text bytes) (omega arith) (plain-value 
 
 -- one reply at the end of a line
 abbrev Once : Reply → Reply → Type 0
-Once a b = (p q : List ℕ) → FitsReply a → FitsReply b → p ++ 32 ∷ reply_text a ≡ q ++ 32 ∷ reply_text b → a ≡ b
+Once a b = (p q : List ℕ) → FitsReply a → FitsReply b → p ++ 32 ∷ reply_words a ≡ q ++ 32 ∷ reply_words b → a ≡ b
 
 word-word : (a b : Reply) → IsWordText a → IsWordText b → Once a b
 word-word a b wa wb p q fa fb same =
-    let texts = (end_same 32 p q (reply_text a) (reply_text b) (lacks-space (reply_text a) wa.lacks) (lacks-space (reply_text b) wb.lacks) same).1 in
+    let texts = (end_same 32 p q (reply_words a) (reply_words b) (lacks-space (reply_words a) wa.lacks) (lacks-space (reply_words b) wb.lacks) same).1 in
     sym wa.back ∙ ap read_word texts ∙ wb.back
 
 word-number : (a : Reply) (n : ℕ) → IsWordText a → Once a (Number n)
 word-number a n wa p q fa fb same =
-    absurd (word-no_number a n wa fb (end_same 32 p (q ++ 32 ∷ codes "number") (reply_text a) (decimal n)
-    (lacks-space (reply_text a) wa.lacks) (Lacks-decimal 32 n (omega arith) fb) (same ∙ number-end q n)).1)
+    absurd (word-no_number a n wa fb (end_same 32 p (q ++ 32 ∷ codes "number") (reply_words a) (decimal n)
+    (lacks-space (reply_words a) wa.lacks) (Lacks-decimal 32 n (omega arith) fb) (same ∙ number-end q n)).1)
 
 word-item : (a : Reply) (item : Item) → IsWordText a → Once a (Value item)
 word-item a item wa p q fa fb same =
     absurd (word-no_value a item.value wa fb.2
-    (end_same 32 p (item_front q item ++ 32 ∷ decimal item.cas) (reply_text a) (value_text item.value)
-    (lacks-space (reply_text a) wa.lacks) (Lacks-value item.value fb.2) (same ∙ item-end q item)).1)
+    (end_same 32 p (item_front q item ++ 32 ∷ decimal item.cas) (reply_words a) (value_text item.value)
+    (lacks-space (reply_words a) wa.lacks) (Lacks-value item.value fb.2) (same ∙ item-end q item)).1)
 
 number-number : (m n : ℕ) → Once (Number m) (Number n)
 number-number m n p q fa fb same =
@@ -233,5 +233,5 @@ tells_once a b = elim (view a) [
 ]
 
 -- a reply has one text
-pub reply_same : (a b : Reply) → FitsReply a → FitsReply b → reply_text a ≡ reply_text b → a ≡ b
+pub reply_same : (a b : Reply) → FitsReply a → FitsReply b → reply_words a ≡ reply_words b → a ≡ b
 reply_same a b fa fb same = tells_once a b [] [] fa fb (ap (λ (t : List ℕ). 32 ∷ t) same)

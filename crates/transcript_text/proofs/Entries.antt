@@ -6,7 +6,7 @@ use Rattle.std.specs.Fmt.{decimal}
 use Rattle.group_types.specs.Dimensions.{callers}
 use Rattle.memc_table.specs.declared.reply.Reply.{Reply}
 use Rattle.group_calls.specs.declared.entry.Entry.{Entry}
-use Rattle.scenario_text.specs.Texts.{act_text, entry_text, moment_text, name_text, reply_text}
+use Rattle.scenario_text.specs.Texts.{act_text, entry_text, moment_text, name_text, reply_words}
 use Rattle.transcript_text.specs.Forms.{FitsReply}
 use Rattle.transcript_text.specs.Texts.{FitsName}
 use Rattle.transcript_text.proofs.Ends.{tells_once}
@@ -41,11 +41,11 @@ name-behind c n moment act = by (moment == 0) refl
         ∙ append_assoc head (32 ∷ []) (64 ∷ (decimal moment ++ 32 ∷ [] ++ act))
         ∙ ap (λ (t : List ℕ). head ++ 32 ∷ 64 ∷ t) (append_assoc (decimal moment) (32 ∷ []) act))))
 
-pub entry-line : (e : Entry) → entry_text e ≡ name_text e.caller e.call 0 ++ (op_behind e.op.moment (act_text e.op.act) ++ codes " " ++ reply_text e.reply)
+pub entry-line : (e : Entry) → entry_text e ≡ name_text e.caller e.call 0 ++ (op_behind e.op.moment (act_text e.op.act) ++ codes " " ++ reply_words e.reply)
 entry-line e =
-    ap (λ (t : List ℕ). t ++ codes " " ++ reply_text e.reply) (name-behind e.caller e.call e.op.moment (act_text e.op.act))
-    ∙ ap (λ (t : List ℕ). t ++ reply_text e.reply) (append_assoc (name_text e.caller e.call 0) (op_behind e.op.moment (act_text e.op.act)) (codes " "))
-    ∙ append_assoc (name_text e.caller e.call 0) (op_behind e.op.moment (act_text e.op.act) ++ codes " ") (reply_text e.reply)
+    ap (λ (t : List ℕ). t ++ codes " " ++ reply_words e.reply) (name-behind e.caller e.call e.op.moment (act_text e.op.act))
+    ∙ ap (λ (t : List ℕ). t ++ reply_words e.reply) (append_assoc (name_text e.caller e.call 0) (op_behind e.op.moment (act_text e.op.act)) (codes " "))
+    ∙ append_assoc (name_text e.caller e.call 0) (op_behind e.op.moment (act_text e.op.act) ++ codes " ") (reply_words e.reply)
 
 -- an entry within its limits
 pub record FitsEntry (e : Entry) : Type 0 where
@@ -58,16 +58,16 @@ pub entry-names : (e : Entry) (c n : ℕ) (rest : List ℕ) → FitsEntry e → 
     → entry_text e ≡ name_text c n 0 ++ rest → (e.caller ≡ c) × (e.call ≡ n)
 entry-names e c n rest fits fc fn same =
     let names = name_same e.caller e.call c n (op_behind e.op.moment (act_text e.op.act) ++ codes " "
-    ++ reply_text e.reply) rest fits.caller fits.call fc fn (sym (entry-line e) ∙ same) in
+    ++ reply_words e.reply) rest fits.caller fits.call fc fn (sym (entry-line e) ∙ same) in
     (names.0, names.1)
 
 -- and it ends with no other reply
 pub entry-tells : (e : Entry) (c n : ℕ) (op : List ℕ) (reply : Reply) → FitsEntry e → c < callers → n < 2 ^ 64 → FitsReply reply
-    → entry_text e ≡ name_text c n 0 ++ (op ++ codes " " ++ reply_text reply) → (e.caller ≡ c) × (e.call ≡ n) × (e.reply ≡ reply)
+    → entry_text e ≡ name_text c n 0 ++ (op ++ codes " " ++ reply_words reply) → (e.caller ≡ c) × (e.call ≡ n) × (e.reply ≡ reply)
 entry-tells e c n op reply fits fc fn fr same =
     let act = op_behind e.op.moment (act_text e.op.act) in
-    let names = name_same e.caller e.call c n (act ++ codes " " ++ reply_text e.reply)
-    (op ++ codes " " ++ reply_text reply) fits.caller fits.call fc fn (sym (entry-line e) ∙ same) in
-    let ends : act ++ 32 ∷ reply_text e.reply ≡ op ++ 32 ∷ reply_text reply =
-    sym (append_assoc act (32 ∷ []) (reply_text e.reply)) ∙ names.2 ∙ append_assoc op (32 ∷ []) (reply_text reply) in
+    let names = name_same e.caller e.call c n (act ++ codes " " ++ reply_words e.reply)
+    (op ++ codes " " ++ reply_words reply) fits.caller fits.call fc fn (sym (entry-line e) ∙ same) in
+    let ends : act ++ 32 ∷ reply_words e.reply ≡ op ++ 32 ∷ reply_words reply =
+    sym (append_assoc act (32 ∷ []) (reply_words e.reply)) ∙ names.2 ∙ append_assoc op (32 ∷ []) (reply_words reply) in
     (names.0, names.1, tells_once e.reply reply act op fits.reply fr ends)

@@ -6,7 +6,7 @@ use Rattle.memc_table.specs.declared.reply.Reply.TheVariants as replied
 use Rattle.group_calls.specs.declared.event.Answer.{Answer}
 use Rattle.group_calls.specs.declared.event.Answer.TheVariants as answered
 use Rattle.group_calls.specs.declared.event.Cause.TheVariants.{Pending, Block}
-use Rattle.scenario_text.specs.Texts.{answer_text, reply_text}
+use Rattle.scenario_text.specs.Texts.{answer_text, reply_words}
 use Rattle.transcript_text.specs.Forms.{FitsAnswer, form_of, is_bare, is_word}
 use Rattle.transcript_text.specs.Parts.{HasForm, IsBareForm, IsForm, IsWordReply}
 use Rattle.transcript_text.specs.Texts.{FitsNumber, IsReplyText}
@@ -17,7 +17,7 @@ use Rattle.transcript_text.proofs.Tests.{TellsNumber, TellsPending}
 pub bare : (answer : Answer) → FitsAnswer answer → (line : List ℕ) → answer_text answer ≡ line → HasForm line (form_of answer)
 bare answer fits line same = (answer, fits, same, refl)
 
-pub word_reply : (reply : Reply) → is_word reply ≡ true → (text : List ℕ) → reply_text reply ≡ text → IsTrue true ↔ IsWordReply text
+pub word_reply : (reply : Reply) → is_word reply ≡ true → (text : List ℕ) → reply_words reply ≡ text → IsTrue true ↔ IsWordReply text
 word_reply reply is text same = (λ told. (reply, is, same), λ told. refl)
 
 -- a line that is none of these texts is no such answer
@@ -48,7 +48,7 @@ pub no_word : (text : List ℕ) → (text ≢ codes "miss") → (text ≢ codes 
     → (text ≢ codes "not_number") → (text ≢ codes "too_large") → IsTrue false ↔ IsWordReply text
 no_word text n0 n1 n2 n3 n4 n5 n6 n7 n8 = (λ told. absurd (cc told), λ (reply, is, same). absurd (by reply is same))
   where
-    by : (reply : Reply) → is_word reply ≡ true → reply_text reply ≢ text
+    by : (reply : Reply) → is_word reply ≡ true → reply_words reply ≢ text
     by replied.Miss is same = n0 (sym same)
     by replied.Stored is same = n1 (sym same)
     by replied.NotStored is same = n2 (sym same)
@@ -88,7 +88,7 @@ last_form line (Some f) replied ticket stale pending blocked has = has
 last_form line None replied ticket stale pending blocked none = by
   where
     by : (answer : Answer) → FitsAnswer answer → answer_text answer ≢ line
-    by (answered.Reply reply) fits same = replied (reply_text reply, same, (reply, fits, refl))
+    by (answered.Reply reply) fits same = replied (reply_words reply, same, (reply, fits, refl))
     by (answered.Ticket n) fits same = ticket (n, fits, same)
     by (answered.Stale n) fits same = stale (n, fits, same)
     by (answered.Retry (Pending partition number)) fits same = pending (partition, number, fits, same)

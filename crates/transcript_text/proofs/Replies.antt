@@ -3,7 +3,7 @@ use Rattle.std.specs.Prelude.{IsTrue, ◌↔◌}
 use Rattle.std.proofs.Common.{◌≡◌, ◌≢◌, ◌⊎◌, inl, inr, ◌<◌, ◌%◌, ℕ, Bool, true, false, List, [], ◌∷◌, ◌++◌, ◌∙◌, All, length, codes, refl, sym, ap, subst}
 use Rattle.memc_table.specs.declared.reply.Reply.{Reply}
 use Rattle.memc_table.specs.declared.reply.Reply.TheVariants.{Value, Miss, Stored, NotStored, Exists, NotFound, Deleted, Touched, Number, NotNumber, TooLarge}
-use Rattle.scenario_text.specs.Texts.{reply_text, value_text}
+use Rattle.scenario_text.specs.Texts.{reply_words, value_text}
 use Rattle.transcript_text.specs.Forms.{FitsReply, is_word}
 use Rattle.transcript_text.specs.Parts.{FitsFront, IsItemReply, IsLowerDigit, IsNumberReply, IsWordReply, item_words}
 use Rattle.transcript_text.specs.Texts.{IsReplyText, IsValueText}

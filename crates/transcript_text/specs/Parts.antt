@@ -7,7 +7,7 @@ use Rattle.memc_table.specs.declared.reply.Reply.{Reply}
 use Rattle.memc_table.specs.declared.reply.Reply.TheVariants.{Value, Number}
 use Rattle.group_calls.specs.declared.event.Answer.{Answer}
 use Rattle.group_calls.specs.declared.event.Cause.{Cause}
-use Rattle.scenario_text.specs.Texts.{answer_text, cause_text, next_number, reply_text, stamp_text}
+use Rattle.scenario_text.specs.Texts.{answer_text, cause_text, reply_words, spaced_number, stamp_text}
 use Rattle.transcript_text.specs.Forms.{FitsReply, FitsAnswer, FitsCause, form_of, is_bare, is_word}
 use Rattle.transcript_text.specs.Texts.{FitsNumber, IsReplyText, IsValueText}
 use Rattle.transcript_text.specs.declared.form.Form.{Form}
@@ -18,15 +18,15 @@ IsLowerDigit b = ((48 ≤ b) × (b ≤ 57)) ⊎ ((97 ≤ b) × (b ≤ 102))
 
 -- a text is that of a reply that is a word
 abbrev pub IsWordReply : List ℕ → Type 0
-IsWordReply text = (reply : Reply) × (is_word reply ≡ true) × (reply_text reply ≡ text)
+IsWordReply text = (reply : Reply) × (is_word reply ≡ true) × (reply_words reply ≡ text)
 
 -- a text is that of a number
 abbrev pub IsNumberReply : List ℕ → Type 0
-IsNumberReply text = (n : ℕ) × FitsNumber n × (reply_text (Number n) ≡ text)
+IsNumberReply text = (n : ℕ) × FitsNumber n × (reply_words (Number n) ≡ text)
 
 -- a text is that of an item
 abbrev pub IsItemReply : List ℕ → Type 0
-IsItemReply text = (item : Item) × FitsReply (Value item) × (reply_text (Value item) ≡ text)
+IsItemReply text = (item : Item) × FitsReply (Value item) × (reply_words (Value item) ≡ text)
 
 -- the flags and the cas number of an item within their limits
 abbrev pub FitsFront : ℕ → ℕ → Type 0
@@ -34,7 +34,7 @@ FitsFront flags cas = (flags < 2 ^ 32) × (cas < 2 ^ 64)
 
 -- the text of an item whose value has this word
 abbrev pub item_words : ℕ → ℕ → List ℕ → List ℕ
-item_words flags cas word = codes "value" ++ next_number flags ++ next_number cas ++ codes " " ++ word
+item_words flags cas word = codes "value" ++ spaced_number flags ++ spaced_number cas ++ codes " " ++ word
 
 -- a text is read as that of an item, with the word of its value
 abbrev pub IsItemFront : List ℕ → Option (Bor (List ℕ)) → Type 0

@@ -8,7 +8,7 @@ use Rattle.memc_table.specs.declared.reply.Reply.{Reply}
 use Rattle.group_calls.specs.Within.{IsTaken}
 use Rattle.group_calls.specs.declared.event.Answer.{Answer}
 use Rattle.group_calls.specs.declared.event.Answer.TheVariants as answered
-use Rattle.scenario_text.specs.Texts.{answer_text, name_text, place_text, reply_text, stamp_text, value_text}
+use Rattle.scenario_text.specs.Texts.{answer_text, name_text, place_text, reply_words, stamp_text, value_text}
 use Rattle.transcript_text.specs.Forms.{AreBytes, FitsReply, FitsAnswer, MayAnswer}
 use Rattle.transcript_text.specs.declared.answer.Said.{Said}
 use Rattle.transcript_text.specs.declared.answer.Said.TheVariants as said
@@ -26,11 +26,11 @@ IsValueText word = (bytes : List ℕ) × AreBytes bytes × (value_text bytes ≡
 
 -- a text is that of a reply
 abbrev pub IsReplyText : List ℕ → Type 0
-IsReplyText text = (reply : Reply) × FitsReply reply × (reply_text reply ≡ text)
+IsReplyText text = (reply : Reply) × FitsReply reply × (reply_words reply ≡ text)
 
 -- what is told of an answer
 abbrev pub Tells : Said → Answer → Type 0
-Tells (said.Reply text) answer = (reply : Reply) × (answer ≡ answered.Reply reply) × (reply_text reply ≡ text.now)
+Tells (said.Reply text) answer = (reply : Reply) × (answer ≡ answered.Reply reply) × (reply_words reply ≡ text.now)
 Tells said.Ticket answer = (number : ℕ) × (answer ≡ answered.Ticket number)
 Tells said.Other answer = ¬ (IsTaken answer)
 

@@ -8,7 +8,7 @@ use Rattle.group_calls.specs.declared.event.Event.{Event}
 use Rattle.group_calls.specs.declared.event.Event.TheVariants.{Fail}
 use Rattle.group_run.specs.Headline.{IsRunFrom}
 use Rattle.group_run.specs.World.{World, all_change, process_node, step, world_after}
-use Rattle.world_caller.specs.Callers.{failed_to}
+use Rattle.world_caller.specs.Callers.{end_of_failure}
 use Rattle.world_caller.specs.Calling.{EventsBring, HasMovedGroup, IsCallCutShort, IsFirstOrOwn, most_events}
 use Rattle.world_caller.specs.Laws.{CanGoOnFrom, Delivers}
 use Rattle.world_caller.specs.Making.{AreDelivered, IsFirstDelivered, IsStepMade}
@@ -84,8 +84,8 @@ delivered-more w v u are counted is delivers = record {
 }
 
 -- a failure is answered done, or that the process is dead
-pub fails : (w : World) (p : ProcessId) (keep : ℕ) → (end : FailEnd) × (failed_to (step w (Fail p keep)).turn.answer ≡ Some end)
+pub fails : (w : World) (p : ProcessId) (keep : ℕ) → (end : FailEnd) × (end_of_failure (step w (Fail p keep)).turn.answer ≡ Some end)
 fails w p keep = by (process_node w p).dead where
-  by : (dead : Bool) → (end : FailEnd) × (failed_to (all_change dead w.shape w.nodes p keep).answer ≡ Some end)
+  by : (dead : Bool) → (end : FailEnd) × (end_of_failure (all_change dead w.shape w.nodes p keep).answer ≡ Some end)
   by true = (ends.AlreadyDead, refl)
   by false = (ends.Made, refl)

@@ -39,17 +39,17 @@ pub record MayOrder (c : GroupCaller) (p : ProcessId) : Type 0 where
   pub process : IsProcess c.world.shape p
 
 -- how an order ends that made its event, by the answer
-abbrev pub failed_to : Answer → Option FailEnd
-failed_to says.Done = Some ends.Made
-failed_to says.AlreadyDead = Some ends.AlreadyDead
-failed_to _ = None
+abbrev pub end_of_failure : Answer → Option FailEnd
+end_of_failure says.Done = Some ends.Made
+end_of_failure says.AlreadyDead = Some ends.AlreadyDead
+end_of_failure _ = None
 
 -- the process is ordered to fail, which is one event
 pub record HasFailedProcess (before : GroupCaller) (p : ProcessId) (keep : ℕ) (end : FailEnd) (after : GroupCaller) : Type 0 where
   pub taken : MayOrder before p
   pub same : IsSameCaller before after
   pub world : after.world ≡ (step before.world (Fail p keep)).world
-  pub ends : failed_to (step before.world (Fail p keep)).turn.answer ≡ Some end
+  pub ends : end_of_failure (step before.world (Fail p keep)).turn.answer ≡ Some end
 
 -- an order that a process fail, by its end
 abbrev pub IsFailureOrdered : GroupCaller → ProcessId → ℕ → FailEnd → GroupCaller → Type 0

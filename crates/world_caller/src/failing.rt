@@ -2,7 +2,7 @@ ghost use Rattle.std.specs.Prelude.{◌≡◌, ◌<◌, ◌^◌, Some, IfOk, OnE
 ghost use Rattle.group_types.specs.Names.{IsProcess};
 ghost use Rattle.group_calls.specs.declared.event.Event.TheVariants as happens;
 ghost use Rattle.group_run.specs.World.{step};
-ghost use Rattle.world_caller.specs.Callers.{failed_to};
+ghost use Rattle.world_caller.specs.Callers.{end_of_failure};
 ghost use Rattle.world_caller.specs.Calling.{most_events};
 
 use crate::event::make;
@@ -14,7 +14,7 @@ use std::alloc::AllocError;
 
 /// How an order ends that made its event, by the answer.
 fn after_fail(answer: Answer) -> Option<FailEnd>
-    ensures { result ≡ failed_to answer }
+    ensures { result ≡ end_of_failure answer }
 {
     match answer {
         Answer::Done => Some(FailEnd::Made),
@@ -28,7 +28,7 @@ pub(crate) fn fail_one(world: &mut World, at: ProcessId, keep: u32) -> Result<Fa
     requires counted { world.old.events < most_events }
     requires process { IsProcess world.old.shape at }
     ensures world { IfOk result (λ _. world.new ≡ (step world.old (happens.Fail at keep)).world) }
-    ensures end { IfOk result (λ end. failed_to (step world.old (happens.Fail at keep)).turn.answer ≡ Some end) }
+    ensures end { IfOk result (λ end. end_of_failure (step world.old (happens.Fail at keep)).turn.answer ≡ Some end) }
     ensures err { OnErr result (world.new ≡ world.old) }
 {
     match after_fail(make(world, &Event::Fail { at, keep })?) {
