@@ -66,7 +66,7 @@ impl Regroup {
         base_of(&self.bases, partition.0)
     }
 
-    /// Deeds led to the eras: so their log is legal, and the current era is a run of its own, with the whole headline.
+    /// Moves led to the eras: so their log is legal, and the current era is a run of its own, with the whole headline.
     pub fn run(&self)
         ensures led { IsLed self.now }
         ensures promise { HasPromise self.now }
