@@ -3,27 +3,23 @@ use Rattle.std.proofs.Common.{ℕ, ◌≡◌, List, sym, ap, subst, ◌∙◌}
 use Rattle.group_message.specs.declared.message.Message.{Message}
 use Rattle.head_service.specs.Paging.{MakesNoneOf}
 use Rattle.head_service.proofs.Paging.{makes-none}
-use Rattle.process_service.specs.Paging.{MessageMisses}
+use Rattle.process_service.specs.Paging.{MakesPagesFor, MessageMisses}
 use Rattle.process_service.specs.Standing.{Standing}
 use Rattle.group_node.specs.Roles.{standing_in}
 use Rattle.group_node.specs.declared.process.Role.{Role}
 use Rattle.group_node.specs.declared.process.Role.TheVariants.{Data, Parity}
 
--- a message makes no page of a process but for the updates that it brings
-abbrev Brings : Message → Standing → Standing → Type 0
-Brings m old new = MakesNoneOf (MessageMisses old.shape.block m) old.made new.made
-
 pub data-pages : (m : Message) (now inside : Role) (new old seen : Standing) → now ≡ Data new → inside ≡ Data old
     → standing_in inside ≡ seen → new.made ≡ old.made
-    → MakesNoneOf (MessageMisses seen.shape.block m) seen.made (standing_in now).made
+    → MakesPagesFor m seen (standing_in now)
 data-pages m now inside new old seen is was view same =
-    let none : Brings m old new = subst (λ (made : List ℕ). MakesNoneOf (MessageMisses old.shape.block m) old.made made)
+    let none : MakesPagesFor m old new = subst (λ (made : List ℕ). MakesNoneOf (MessageMisses old.shape.block m) old.made made)
     (sym same) (makes-none (MessageMisses old.shape.block m) old.made) in
-    subst (λ (p : Standing). Brings m p (standing_in now)) (sym (ap standing_in was) ∙ view)
-    (subst (λ (p : Standing). Brings m old p) (sym (ap standing_in is)) none)
+    subst (λ (p : Standing). MakesPagesFor m p (standing_in now)) (sym (ap standing_in was) ∙ view)
+    (subst (λ (p : Standing). MakesPagesFor m old p) (sym (ap standing_in is)) none)
 
 pub parity-pages : (m : Message) (now inside : Role) (new old seen : Standing) → now ≡ Parity new → inside ≡ Parity old → standing_in inside ≡ seen
-    → MakesNoneOf (MessageMisses old.shape.block m) old.made new.made → MakesNoneOf (MessageMisses seen.shape.block m) seen.made (standing_in now).made
+    → MakesPagesFor m old new → MakesPagesFor m seen (standing_in now)
 parity-pages m now inside new old seen is was view made =
-    subst (λ (p : Standing). Brings m p (standing_in now)) (sym (ap standing_in was) ∙ view)
-    (subst (λ (p : Standing). Brings m old p) (sym (ap standing_in is)) made)
+    subst (λ (p : Standing). MakesPagesFor m p (standing_in now)) (sym (ap standing_in was) ∙ view)
+    (subst (λ (p : Standing). MakesPagesFor m old p) (sym (ap standing_in is)) made)

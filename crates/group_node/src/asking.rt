@@ -13,6 +13,7 @@ use group_types::{Key, Partition};
 use head_service::Call;
 use law_answers::sends_few;
 use memc_table::Op;
+use process_service::GroupProcess;
 use std::alloc::AllocError;
 
 impl Node {

@@ -14,6 +14,7 @@ use group_calls::Answer;
 use group_message::Message;
 use group_types::ProcessId;
 use law_answers::sends_few;
+use process_service::GroupProcess;
 use std::alloc::AllocError;
 
 /// The first message from one node to another is received, where the group isn't down, the receiver lives,

@@ -6,6 +6,7 @@ use crate::node::Node;
 use group_message::Message;
 use group_types::{ProcessId, Shape};
 use link_core::Links;
+use process_service::GroupProcess;
 
 impl Node {
     /// The process dies: each link keeps its first messages, and the notice of the death stands behind them.

@@ -12,6 +12,7 @@ use group_message::Message;
 use group_types::{ProcessId, Shape};
 use head_service::Settlement;
 use link_core::Links;
+use process_service::GroupProcess;
 use std::alloc::{AllocError, Global};
 use std::marker::Model;
 

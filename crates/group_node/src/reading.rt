@@ -8,6 +8,7 @@ ghost use Rattle.group_run.specs.Shown.{process_stamp};
 use crate::node::Node;
 use group_types::{Partition, Payload, Run};
 use partition_replica::Replica;
+use process_service::GroupProcess;
 use std::alloc::{AllocError, Global};
 use vector_stamp::Stamp;
 

@@ -1,4 +1,5 @@
 pub mod Followed
+pub mod Names
 mod Oldest
 mod Whole
 mod Asked

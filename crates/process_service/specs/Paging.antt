@@ -10,7 +10,8 @@ use Rattle.group_run.specs.Applying.{head_at, replica_of}
 use Rattle.group_run.specs.Asking.{found_at}
 use Rattle.group_run.specs.Deciding.{decide}
 use Rattle.group_run.specs.Process.{Head, Process}
-use Rattle.head_service.specs.Paging.{AllMiss, DecisionMisses, Misses}
+use Rattle.head_service.specs.Paging.{AllMiss, DecisionMisses, MakesNoneOf, Misses}
+use Rattle.process_service.specs.Standing.{Standing}
 
 -- the update that a head of partition d decides to issue, if it does, writes no byte of block b
 abbrev pub HeadMisses : Dimensions → Asked → ℕ → Process → ℕ → Head → Type 0
@@ -25,3 +26,7 @@ abbrev pub MessageMisses : ℕ → Message → ℕ → Type 0
 MessageMisses block (Update rank d update stable) b = Misses block update.body b
 MessageMisses block (Adopt rank d base list) b = AllMiss block list b
 MessageMisses block _ b = ⊤
+
+-- a message makes no page of a process but for the updates that it brings
+abbrev pub MakesPagesFor : Message → Standing → Standing → Type 0
+MakesPagesFor m old new = MakesNoneOf (MessageMisses old.shape.block m) old.made new.made

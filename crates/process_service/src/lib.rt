@@ -12,6 +12,7 @@ mod collecting;
 mod coming;
 mod current;
 mod following;
+mod group_process;
 pub mod inherited;
 mod judging;
 pub mod notice;
@@ -21,6 +22,7 @@ mod succession;
 mod taking_over;
 mod telling;
 
+pub use group_process::GroupProcess;
 pub use inherited::Inherited;
 pub use notice::Notice;
 pub use service::Service;

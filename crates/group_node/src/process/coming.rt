@@ -2,12 +2,11 @@ ghost use Rattle.std.specs.Prelude.{◌≡◌, ◌↔◌, ℕ, IsTrue};
 ghost use Rattle.group_types.specs.declared.process.ProcessId.TheVariants.{DataNode, ParityNode};
 ghost use Rattle.law_answers.specs.Deliveries.{IsFor};
 ghost use Rattle.process_service.specs.Current.{is_current};
-ghost use Rattle.group_node.specs.Asking.{HasNumbers};
 ghost use Rattle.group_node.specs.Delivering.{Comes};
 
 use super::{Process, Role};
 use group_message::Message;
-use group_types::{Key, ProcessId};
+use group_types::ProcessId;
 
 impl Process {
     /// Whether a message can be received from a process of the group. It takes no memory.
@@ -29,16 +28,6 @@ impl Process {
         match &self.role {
             Role::Data(process) => process.acts_on(message),
             Role::Parity(process) => process.acts_on(message),
-        }
-    }
-
-    /// Whether a call on a key can be asked: numbers are left.
-    pub fn may_ask(&self, key: &Key) -> bool
-        ensures { IsTrue result ↔ HasNumbers self.now.shape key.now self.now.process }
-    {
-        match &self.role {
-            Role::Data(process) => process.may_ask(key),
-            Role::Parity(process) => process.may_ask(key),
         }
     }
 

@@ -10,7 +10,7 @@ use Rattle.process_service.specs.Standing.{Standing}
 use Rattle.process_service.specs.Wanting.{AskWants}
 use Rattle.parity_process.specs.Opening.{CallOpens, Opens}
 use Rattle.parity_process.proofs.Standing.{asked-ready, retried-ready}
-use Rattle.parity_process.proofs.process.ParityProcess.ask.Goals as goal
+use Rattle.parity_process.proofs.process.ParityProcessGroupProcess.ask.Goals as goal
 
 pub invariant_of-self-in-Done : goal.invariant_of-self-in-Done
 invariant_of-self-in-Done c =

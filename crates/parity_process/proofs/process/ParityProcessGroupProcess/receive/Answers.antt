@@ -3,7 +3,7 @@ use Rattle.group_run.specs.Fitting.{Fits}
 use Rattle.process_service.specs.Standing.{Standing}
 use Rattle.leader_role.specs.Sound.{IsOfGroup}
 use Rattle.parity_process.proofs.Standing.{received-ready}
-use Rattle.parity_process.proofs.process.ParityProcess.receive.Goals as goal
+use Rattle.parity_process.proofs.process.ParityProcessGroupProcess.receive.Goals as goal
 
 pub invariant_of-self : goal.invariant_of-self
 invariant_of-self c = received-ready c.self.inside.service c.receive.new.service c.self.inside.bytes c.receive.new.bytes

@@ -1,6 +1,6 @@
 use Rattle.data_process.specs.Values.{data_process_of}
 use Rattle.data_process.proofs.Standing.{same-replicas}
-use Rattle.data_process.proofs.process.DataProcess.collect.Goals as goal
+use Rattle.data_process.proofs.process.DataProcessGroupProcess.collect.Goals as goal
 
 pub invariant_of-self : goal.invariant_of-self
 invariant_of-self c = same-replicas c.self.inside.service c.collect.new.self c.self.inside.values

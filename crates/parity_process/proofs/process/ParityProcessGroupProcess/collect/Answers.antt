@@ -1,5 +1,5 @@
 use Rattle.parity_process.proofs.Standing.{collected-ready}
-use Rattle.parity_process.proofs.process.ParityProcess.collect.Goals as goal
+use Rattle.parity_process.proofs.process.ParityProcessGroupProcess.collect.Goals as goal
 
 pub invariant_of-self : goal.invariant_of-self
 invariant_of-self c = collected-ready c.self.inside.service c.collect.new.self c.self.inside.bytes c.args.caller c.args.call c.collect.result

@@ -1,7 +1,9 @@
 -- No step changes the name of a process.
-use Rattle.std.proofs.Common.{ℕ, suc, ◌≡◌, ◌+◌, ◌==◌, nat_le, Bool, true, false, not, List, [], ◌∷◌, length, find, Option, Some, None, refl, ◌∙◌}
+use Rattle.std.proofs.Common.{ℕ, suc, ◌≡◌, ◌+◌, ◌==◌, nat_le, Bool, true, false, not, List, [], ◌∷◌, length, find, Option, Some, None, refl, sym, ap, ◌∙◌}
+use Rattle.std.proofs.Common.{Result, Ok, Err, IfOk, OnErr}
 use Rattle.std.specs.Prelude.{is_some}
 use Rattle.std.specs.List.{list_any, range_with_len}
+use Rattle.std.specs.declared.alloc.AllocError.{AllocError}
 use Rattle.group_types.specs.Dimensions.{Dimensions, space_of}
 use Rattle.group_types.specs.Hash.{home_of}
 use Rattle.group_types.specs.Lists.{at}
@@ -17,9 +19,11 @@ use Rattle.group_message.specs.declared.update.Update.{Update}
 use Rattle.group_calls.specs.Turns.{CallName}
 use Rattle.group_calls.specs.declared.decision.Decision.{Decision}
 use Rattle.group_calls.specs.declared.decision.Decision.TheVariants as decides
+use Rattle.group_calls.specs.declared.event.Answer.{Answer}
 use Rattle.group_run.specs.Applying.{ProcessStep, apply_to, for_each, head_at, held_at, quiet, replica_of, when, with_head, with_replica}
+use Rattle.group_run.specs.Asking as machine
 use Rattle.group_run.specs.Asking.{Oldest, act_on, ask_head, ask_process, collect_from, collect_held, found_at}
-use Rattle.group_run.specs.Asking.{handed_out, is_call, issued, oldest_inherited, retry_block, ticketed, update_of}
+use Rattle.group_run.specs.Asking.{handed_out, is_call, issued, oldest_inherited, only, retry_block, ticketed, update_of}
 use Rattle.group_run.specs.Deciding.{decide}
 use Rattle.group_run.specs.Heading.{acknowledge, acknowledged, judge, judge_head}
 use Rattle.group_run.specs.Leaders.{close_sessions, copy_kept, copy_marked, lost_of, mark_comes, mark_taken, own_mark}
@@ -29,6 +33,9 @@ use Rattle.group_run.specs.Receiving.{ack_to, death_known, enthroned, log_adopte
 use Rattle.group_run.specs.Receiving.{take_over_if, taken_over, takes_over, update_taken}
 use Rattle.group_run.specs.Replica.{with_update}
 use Rattle.group_run.specs.Rows.{accepts_mark, begin_copy, copy_begun, copy_in, is_marked, marked, parity_number, with_copies, without_copy}
+use Rattle.head_service.specs.declared.step.CallStep.{CallStep}
+use Rattle.process_service.specs.Steps.{called, machine_step}
+use Rattle.process_service.specs.declared.step.Step.{Step}
 
 named-each : (xs : List ℕ) (f : ℕ → Process → ProcessStep) (p : Process) → ((x : ℕ) (q : Process) → (f x q).process.name ≡ q.name)
     → (for_each xs f p).process.name ≡ p.name
@@ -102,7 +109,7 @@ module _ (s : Dimensions) where
       ∙ named-death dead p
 
   -- whatever comes
-  pub named-received : (from : ProcessId) (m : Message) (p : Process) → (receive s from m p).process.name ≡ p.name
+  named-received : (from : ProcessId) (m : Message) (p : Process) → (receive s from m p).process.name ≡ p.name
   named-received from (tells.Update r d u stable) p = named-when (nat_le (at 0 p.ranks d.0) r.0) p
       (ack_to from r.0 d.0 u.number (update_taken s d.0 u stable p)) refl
   named-received from (tells.Stable r d n) p = named-when (nat_le (at 0 p.ranks d.0) r.0) p (quiet (apply_to s d.0 n p)) refl
@@ -147,7 +154,7 @@ module _ (s : Dimensions) where
       let t : ProcessStep = issued s d h u p in
       named-ticketed (nat_le u.number (replica_of t.process d).applied) d u t ∙ named-judge d (with_replica d (with_update u (replica_of p d)) p)
 
-  pub named-asked : (name : CallName) (op : Asked) (p : Process) → (ask_process s name op p).step.process.name ≡ p.name
+  named-asked : (name : CallName) (op : Asked) (p : Process) → (ask_process s name op p).step.process.name ≡ p.name
   named-asked name op p = by (head_at p (home_of (key_of op.act) s.k)) where
     d : ℕ
     d = home_of (key_of op.act) s.k
@@ -157,7 +164,7 @@ module _ (s : Dimensions) where
     by (Some h) = named-act name op d h p (decide (space_of s) h.inherited (replica_of p d) op (found_at s d p p.name))
 
 -- whatever is collected
-pub named-collected : (caller call : ℕ) (p : Process) (ds : List ℕ) → (collect_from caller call p ds).step.process.name ≡ p.name
+named-collected : (caller call : ℕ) (p : Process) (ds : List ℕ) → (collect_from caller call p ds).step.process.name ≡ p.name
 named-collected caller call p [] = refl
 named-collected caller call p (d ∷ ds) = by (find (is_call caller call) (held_at p d)) (named-collected caller call p ds) where
   handed : (b : Bool) (h : Held) → (handed_out b d h p).step.process.name ≡ p.name
@@ -168,3 +175,18 @@ named-collected caller call p (d ∷ ds) = by (find (is_call caller call) (held_
       → (collect_held d o p (collect_from caller call p ds)).step.process.name ≡ p.name
   by None rest = rest
   by (Some h) rest = handed (nat_le h.number (replica_of p d).applied) h
+
+-- so the name stays where a call makes the machine's step, or wants memory
+pub asked-name : (s : Dimensions) (name : CallName) (op : Asked) (old new : Process) (r : Result CallStep AllocError)
+    → IfOk r (λ step. ask_process s name op old ≡ called new step) → OnErr r (new ≡ old) → new.name ≡ old.name
+asked-name s name op old new (Ok step) is same = sym (ap (λ (t : machine.CallStep). t.step.process.name) is) ∙ named-asked s name op old
+asked-name s name op old new (Err e) is same = ap (λ (p : Process). p.name) same
+
+pub received-name : (s : Dimensions) (from : ProcessId) (m : Message) (old new : Process) (r : Result Step AllocError)
+    → IfOk r (λ step. receive s from m old ≡ machine_step new step) → OnErr r (new ≡ old) → new.name ≡ old.name
+received-name s from m old new (Ok step) is same = sym (ap (λ (t : ProcessStep). t.process.name) is) ∙ named-received s from m old
+received-name s from m old new (Err e) is same = ap (λ (p : Process). p.name) same
+
+pub collected-name : (caller call : ℕ) (ds : List ℕ) (answer : Answer) (old new : Process)
+    → collect_from caller call old ds ≡ only answer new → new.name ≡ old.name
+collected-name caller call ds answer old new is = sym (ap (λ (t : machine.CallStep). t.step.process.name) is) ∙ named-collected caller call old ds

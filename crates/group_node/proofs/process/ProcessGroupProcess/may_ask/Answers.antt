@@ -1,5 +1,5 @@
 use Rattle.group_node.proofs.Numbers.{numbers-data, numbers-parity}
-use Rattle.group_node.proofs.process.Process.may_ask.Goals as goal
+use Rattle.group_node.proofs.process.ProcessGroupProcess.may_ask.Goals as goal
 
 pub returns-in-Data : goal.returns-in-Data
 returns-in-Data c =

@@ -1,38 +1,27 @@
 use Rattle.std.proofs.Common.{ap}
 use Rattle.group_node.proofs.Paging.{data-pages, parity-pages}
-use Rattle.group_node.proofs.Standing.{received-name, data-name, data-named, parity-name, parity-named}
-use Rattle.group_node.proofs.process.Process.receive.Goals as goal
-use Rattle.group_node.proofs.process.Process.receive.Goals.{in-Data, in-Parity}
+use Rattle.group_node.proofs.Standing.{data-name, data-named, parity-name, parity-named}
+use Rattle.group_node.proofs.process.ProcessGroupProcess.receive.Goals as goal
+use Rattle.group_node.proofs.process.ProcessGroupProcess.receive.Goals.{in-Data, in-Parity}
 
 pub invariant_of-self : goal.invariant_of-self
 invariant_of-self c = elim c.match-self.branch [
   | in-Data w ↦
       data-named c.match-self.self-inside.role c.self.inside.role w.receive.new.self w.in-Data.process (ap (λ (p : _). p.role) w.self-inside-is) w.in-Data.is
-      (received-name w.in-Data.process.shape c.args.from c.args.message.now w.in-Data.process.process
-      w.receive.new.self.process w.receive.result w.receive.ensures.step
-      w.receive.ensures.err)
-      c.self.invariant
+      w.receive.ensures.name c.self.invariant
   | in-Parity w ↦
       parity-named c.match-self.self-inside.role c.self.inside.role w.receive-in-Parity.new.self w.in-Parity.process
-      (ap (λ (p : _). p.role) w.self-inside-is) w.in-Parity.is
-      (received-name w.in-Parity.process.shape c.args.from c.args.message.now w.in-Parity.process.process w.receive-in-Parity.new.self.process
-      w.receive-in-Parity.result w.receive-in-Parity.ensures.step w.receive-in-Parity.ensures.err)
-      c.self.invariant
+      (ap (λ (p : _). p.role) w.self-inside-is) w.in-Parity.is w.receive-in-Parity.ensures.name c.self.invariant
 ]
 
 pub returns-clause-name : goal.returns-clause-name
 returns-clause-name c = elim c.match-self.branch [
   | in-Data w ↦
       data-name c.match-self.self-inside.role c.self.inside.role w.receive.new.self w.in-Data.process c.args.self.now
-      (ap (λ (p : _). p.role) w.self-inside-is) w.in-Data.is c.self.view_is
-      (received-name w.in-Data.process.shape c.args.from c.args.message.now w.in-Data.process.process
-      w.receive.new.self.process w.receive.result w.receive.ensures.step
-      w.receive.ensures.err)
+      (ap (λ (p : _). p.role) w.self-inside-is) w.in-Data.is c.self.view_is w.receive.ensures.name
   | in-Parity w ↦
       parity-name c.match-self.self-inside.role c.self.inside.role w.receive-in-Parity.new.self w.in-Parity.process c.args.self.now
-      (ap (λ (p : _). p.role) w.self-inside-is) w.in-Parity.is c.self.view_is
-      (received-name w.in-Parity.process.shape c.args.from c.args.message.now w.in-Parity.process.process w.receive-in-Parity.new.self.process
-      w.receive-in-Parity.result w.receive-in-Parity.ensures.step w.receive-in-Parity.ensures.err)
+      (ap (λ (p : _). p.role) w.self-inside-is) w.in-Parity.is c.self.view_is w.receive-in-Parity.ensures.name
 ]
 
 pub returns-clause-pages : goal.returns-clause-pages

@@ -1,5 +1,5 @@
 use Rattle.data_process.specs.Values.{data_process_of}
-use Rattle.data_process.proofs.process.DataProcess.fate.Goals as goal
+use Rattle.data_process.proofs.process.DataProcessGroupProcess.fate.Goals as goal
 
 pub returns : goal.returns
 returns c = rw (← c.self.view_is) (c.fate.ensures (data_process_of c.self.inside.values) c.self.invariant.beneath.name)

@@ -5,7 +5,7 @@ use Rattle.group_run.specs.Applying.{replica_of}
 use Rattle.group_run.specs.Replica.{Replica, empty_replica}
 use Rattle.partition_replica.specs.State.{ReplicaState}
 use Rattle.process_service.specs.Standing.{Standing}
-use Rattle.data_process.proofs.process.DataProcess.replica.Goals as goal
+use Rattle.parity_process.proofs.process.ParityProcessGroupProcess.replica.Goals as goal
 
 pub returns : goal.returns
 returns c =
