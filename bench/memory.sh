@@ -1,8 +1,8 @@
 #!/bin/sh
 # Memory that a group holds, in all its processes, links drained and its log left out: bytes for each byte of values of 4 KiB at 4 2, and bytes for an
-# item of 100 bytes with a key of 20 at 1 0 and at 4 2; and what memcached, and redis with two replicas, hold for such an item, where they are installed.
-# By hand: sh bench/memory.sh [PROGRAM]. A group's is the difference of two scripts that log as much: sets on so many keys, and as many on half of them.
-# Resident bytes at their most, as /usr/bin/time tells them; a server's as /proc does, before and behind 500,000 items.
+# item of 100 bytes with a key of 20 at 1 0 and at 4 2; and what a `serve` 4 2, six members, and memcached and redis with two replicas, where they are
+# installed, hold for such an item. By hand: sh bench/memory.sh [PROGRAM]. A group's is the difference of two scripts that log as much: sets on so many
+# keys, and as many on half of them. Resident bytes at their most, as /usr/bin/time tells them; a server's as /proc does, before and behind 500,000 items.
 set -eu
 top=$(cd "$(dirname "$0")/.." && pwd)
 program=${1:-$top/crates/cocytus_main/out/cocytus_main}
@@ -51,6 +51,13 @@ filled() {
     pids=
 }
 
+printf 'k = 4\nm = 2\nblocks = 16384\nblock = 4096\naddress = "127.0.0.1:21315"\nworkers = 4\n' > "$work/settings.toml"
+"$program" serve < "$work/settings.toml" > "$work/served" 2> "$work/notice" & pids=$!
+filled "serve 4 2" 21315 memcached
+sed 's/^blocks = .*/blocks = 16384/' "$top/examples/machines/member.toml" > "$work/members.toml"
+for name in d0 d1 d2 d3 p0 p1; do "$program" member $name < "$work/members.toml" > /dev/null 2> "$work/notice.$name" & pids="$pids $!"; done
+sleep 2
+filled "six members 4 2" 21200 memcached
 if command -v memcached > /dev/null; then
     memcached -u nobody -l 127.0.0.1 -p 21311 -m 1024 & pids=$!
     filled memcached 21311 memcached

@@ -2,7 +2,6 @@ ghost use Rattle.std.specs.Prelude.{◌≡◌, ◌≤◌, ◌<◌, ◌+◌, IfSo
 ghost use Rattle.group_layout.specs.Layout.{group_of, node_of, process_on};
 
 use group_types::Key;
-use group_types::hash::fnv1a_of;
 
 /// The node of a process of a group, by its number in the order of processes: groups begin at nodes that follow one
 /// another.
@@ -23,7 +22,7 @@ pub fn group_of(key: &Key, k: u32, groups: u32) -> u32
     ensures group { result ≡ group_of key.now k groups }
     ensures within { result < groups }
 {
-    fnv1a_of(key.bytes()) / k % groups
+    key.fnv1a() / k % groups
 }
 
 /// The process of a group that stands on a node, if one does, by its number.

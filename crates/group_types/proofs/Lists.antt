@@ -1,4 +1,4 @@
-use Rattle.std.proofs.Common.{ℕ, zero, suc, ◌≡◌, ◌≢◌, ◌<◌, ◌≤◌, ◌+◌, List, [], ◌∷◌, length, replicate, map, take, refl, ap, ◌∙◌, arith}
+use Rattle.std.proofs.Common.{ℕ, zero, suc, ◌≡◌, ◌≢◌, ◌<◌, ◌≤◌, ◌+◌, List, [], ◌∷◌, length, replicate, map, refl, ap, ◌∙◌, arith}
 use Rattle.std.specs.Prelude.{set, slice_index_or}
 use Rattle.std.specs.List.{range_with_len}
 use Rattle.group_types.specs.Lists.{at, put}

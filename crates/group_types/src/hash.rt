@@ -21,5 +21,5 @@ pub fn home(key: &Key, k: u32) -> Partition
     ensures value { result.0 ≡ home_of key.now k }
     ensures within { result.0 < k }
 {
-    Partition(fnv1a_of(key.bytes()) % k)
+    Partition(key.fnv1a() % k)
 }

@@ -46,6 +46,7 @@ impl Model for Key {
 }
 
 impl Key {
+    ghost use Rattle.group_types.specs.Hash.{fnv1a};
     ghost use Rattle.group_types.specs.Key.{IsKey};
 
     pub fn read(alloc: Global, bytes: &[u8]) -> Result<Key, KeyFault>
@@ -69,6 +70,13 @@ impl Key {
         ensures within { IsKey self.now }
     {
         self.bytes.as_slice()
+    }
+
+    /// FNV-1a of its bytes, which was made with the key.
+    pub fn fnv1a(&self) -> u32
+        ensures { result ≡ fnv1a self.now }
+    {
+        self.bytes.fnv1a()
     }
 }
 

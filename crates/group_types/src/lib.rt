@@ -7,6 +7,7 @@
 pub mod byte_list;
 pub mod config_key;
 pub mod hash;
+mod hashed;
 pub mod key;
 pub mod key_limits;
 pub mod payload;

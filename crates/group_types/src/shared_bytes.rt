@@ -5,7 +5,9 @@ ghost use Rattle.std.specs.Cmp.Lexicographic.{pointwise, slice_cmp, nat_list_eq_
 ghost use Rattle.std.specs.Cmp.{partial_equiv_from_equiv};
 ghost use Rattle.std.specs.Cmp.Rules.{hashing};
 ghost use Rattle.std.proofs.Common.{rules};
+ghost use Rattle.group_types.specs.Hash.{fnv1a};
 
+use crate::hashed::Hashed;
 use std::alloc::{AllocError, Global};
 use std::cmp::Ordering;
 use std::fmt;
@@ -13,10 +15,10 @@ use std::hash::{Hash, Hasher};
 use std::marker::Model;
 use std::sync::Arc;
 
-/// Bytes that are shared and never changed, behind a handle of one word.
+/// Bytes that are shared and never changed, with their hash, behind a handle of one word.
 #[derive(Drop)]
 pub struct SharedBytes {
-    bytes: Arc<Vec<u8>>,
+    bytes: Arc<Hashed>,
 }
 
 impl Model for SharedBytes {
@@ -25,7 +27,7 @@ impl Model for SharedBytes {
 
     ghost Value = { List ℕ };
 
-    ghost view = { λ shared. (arc_value shared.bytes).items };
+    ghost view = { λ shared. arc_value shared.bytes };
 }
 
 impl SharedBytes {
@@ -33,8 +35,15 @@ impl SharedBytes {
     pub fn of(alloc: Global, bytes: &[u8]) -> Result<SharedBytes, AllocError>
         ensures { IfOk result (λ shared. shared ≡ bytes.now) }
     {
-        let bytes = Arc::new(alloc, Vec::from_slice(alloc, bytes)?)?;
+        let bytes = Arc::new(alloc, Hashed::of(alloc, bytes)?)?;
         Ok(SharedBytes { bytes })
+    }
+
+    /// FNV-1a of the bytes, which was made with them.
+    pub fn fnv1a(&self) -> u32
+        ensures { result ≡ fnv1a self.now }
+    {
+        self.bytes.hash()
     }
 
     /// The bytes, in order.
@@ -59,8 +68,10 @@ impl PartialEq for SharedBytes {
 
     ghost laws = { partial_equiv_from_equiv nat_list_eq_equiv };
 
+    // (most keys that differ are told apart by their hashes)
+    #[tactic(auto, using(crate::proofs::Hashes::by_hash))]
     fn eq(&self, other: &Self) -> bool {
-        self.as_slice() == other.as_slice()
+        self.fnv1a() == other.fnv1a() && self.as_slice() == other.as_slice()
     }
 }
 

@@ -13,7 +13,6 @@ use crate::work::MemberWork;
 use front_end::Gateway;
 use group_member::callers_each;
 use group_node::index_of;
-use group_types::hash::fnv1a_of;
 use group_types::{ProcessId, Shape};
 use memc_proto::{CallEnd, FailEnd};
 use memc_table::Op;
@@ -82,7 +81,7 @@ impl Gateway for MemberGateway {
             return Ok(None);
         }
         let turn = self.waiting.turn();
-        let hash = fnv1a_of(op.act().key().bytes());
+        let hash = op.act().key().fnv1a();
         self.work.begin(caller, op, turn, hash);
         Ok(Some(self.slots.lend(caller, hash)))
     }

@@ -1,6 +1,6 @@
 -- The order in which a call goes to its answer: the links that it helps between two moves of its own, and the processes at which it
 -- makes those.
-use Rattle.std.specs.Prelude.{ℕ, ◌≡◌, ◌+◌, ◌*◌, ◌/◌, ◌%◌, ◌≤◌, ⊤, true, false}
+use Rattle.std.specs.Prelude.{ℕ, ◌≡◌, ◌+◌, ◌*◌, ◌/◌, ◌%◌, ◌≤◌, ◌==◌, ◌||◌, ◌&&◌, Bool, ⊤, true, false}
 use Rattle.group_types.specs.Dimensions.{Dimensions}
 use Rattle.group_types.specs.Names.{of_rank, process_at}
 use Rattle.group_types.specs.declared.process.ProcessId.{ProcessId}
@@ -43,11 +43,20 @@ IsHelped s Over = ⊤
 IsHelped s (Near place) = 2 * s.m ≤ place
 IsHelped s (All place) = links_of s ≤ place
 
--- the next move: at the next link of the round, a delivery where a message was found to wait; and where no link is left the
--- call's own, at the process of the route
+-- whether a message is taken to wait in the next link: a look found it, or the link is one of the call's own update, in a round
+-- before which something moved
+abbrev pub is_near : Round → Bool
+is_near (Near place) = true
+is_near _ = false
+
+abbrev pub expects : Progress → Bool
+expects p = p.waits || (is_near p.round && p.idle == 0)
+
+-- the next move: at the next link of the round, a delivery where a message is taken to wait, and else a look; and where no link is
+-- left the call's own, at the process of the route
 abbrev pub IsNextMove : Progress → Move → Type 0
-IsNextMove p (Look one other) = (p.waits ≡ false) × IsNextLink p one other
-IsNextMove p (Deliver one other) = (p.waits ≡ true) × IsNextLink p one other
+IsNextMove p (Look one other) = (expects p ≡ false) × IsNextLink p one other
+IsNextMove p (Deliver one other) = (expects p ≡ true) × IsNextLink p one other
 IsNextMove p (Ask at) = IsHelped p.route.shape p.round × (at ≡ server_of p.route)
 IsNextMove p (Collect _ at) = IsHelped p.route.shape p.round × (at ≡ server_of p.route) × (p.traces ≡ false)
 IsNextMove p (Trace _ at) = IsHelped p.route.shape p.round × (at ≡ server_of p.route) × (p.traces ≡ true)

@@ -3,7 +3,7 @@ ghost use Rattle.group_types.specs.Names.{IsProcess};
 ghost use Rattle.group_types.specs.declared.process.ProcessId.{ProcessId};
 ghost use Rattle.stage_caller.specs.Going.{BeginsRound, GoesTo, Helps, IsNextRank, PassesLink, Rests, Turns};
 ghost use Rattle.stage_caller.specs.Moving.{CanMake, IsLink};
-ghost use Rattle.stage_caller.specs.Rounds.{IsHelped, IsNextLink, IsNextMove, server_of};
+ghost use Rattle.stage_caller.specs.Rounds.{IsHelped, IsNextLink, IsNextMove, expects, server_of};
 ghost use Rattle.stage_caller.specs.declared.phase.Phase.{Phase};
 ghost use Rattle.stage_caller.specs.declared.step.Move.TheVariants as makes;
 
@@ -67,16 +67,24 @@ impl Progress {
         }
     }
 
-    /// The next move: a look at a link of the round, a delivery where a message waits there, or else the call's own.
+    /// The next move: at a link of the round a delivery where a message is taken to wait, and else a look; where no link is
+    /// left the call's own.
     pub(crate) fn next(&self, phase: Phase) -> Move
         ensures can { CanMake self.now.route.shape phase result }
         ensures next { IsNextMove self.now result }
     {
         match self.link() {
-            Some(link) if self.waits => Move::Deliver(link.from, link.to),
+            Some(link) if self.expects() => Move::Deliver(link.from, link.to),
             Some(link) => Move::Look(link.from, link.to),
             None => self.own(phase, self.route.server()),
         }
+    }
+
+    // (a look at a link of the call's own update would take the node that the delivery takes again)
+    fn expects(&self) -> bool
+        ensures { result ≡ expects self.now }
+    {
+        self.waits || matches!(self.round, Round::Near(_)) && self.idle == 0
     }
 
     fn link(&self) -> Option<Link>
