@@ -1,9 +1,11 @@
 ghost use Rattle.std.specs.Prelude.{◌≡◌, ◌+◌, ◌-◌, ◌<◌, ◌≤◌, ◌^◌, ◌↔◌, ℕ, List, true, IfOk, IsTrue, OnErr, min};
 ghost use Rattle.std.specs.List.{range_with_len};
 ghost use Rattle.group_types.specs.Dimensions.{space_of};
+ghost use Rattle.group_types.specs.declared.process.ProcessId.{ProcessId};
 ghost use Rattle.memc_table.specs.Act.{key_of};
 ghost use Rattle.memc_table.specs.Asked.{Asked};
 ghost use Rattle.erasure_code.specs.Spaces.{bytes_at};
+ghost use Rattle.group_message.specs.declared.message.Message.{Message};
 ghost use Rattle.group_calls.specs.Turns.{CallName};
 ghost use Rattle.group_run.specs.Applying.{head_at, replica_of, sending};
 ghost use Rattle.group_run.specs.Asking.{ask_process, collect_from, fate_of, only};
