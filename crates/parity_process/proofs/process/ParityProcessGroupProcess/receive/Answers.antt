@@ -9,8 +9,8 @@ pub invariant_of-self : goal.invariant_of-self
 invariant_of-self c = received-ready c.self.inside.service c.receive.new.service c.self.inside.bytes c.receive.new.bytes
     c.args.from c.args.message.now c.receive.result
     c.self.invariant
-    (subst (λ (p : Standing). Fits p.shape c.args.from c.args.message.now p.process) (sym c.self.view_is) c.requires.fits)
-    (subst (λ (p : Standing). IsOfGroup p.shape c.args.message.now p.process) (sym c.self.view_is) c.requires.group)
+    (subst (λ (p : Standing). Fits p.shape c.args.from c.args.message.now p.process) (sym c.self.view_is) c.requires.0)
+    (subst (λ (p : Standing). IsOfGroup p.shape c.args.message.now p.process) (sym c.self.view_is) c.requires.1)
     c.receive.ensures.shape c.receive.ensures.over c.receive.ensures.step c.receive.ensures.service_err c.receive.ensures.bytes_err
 
 pub returns-clause-pages : goal.returns-clause-pages
