@@ -3,6 +3,7 @@ ghost use Rattle.mio.specs.Events.{capacity as events_capacity, items};
 
 use mio::event::Event;
 use mio::{Events, Token};
+use ready_worker::Notice;
 
 /// The first token that is no key of a client.
 pub(crate) const FIRST_OTHER: usize = 1 << 32;
@@ -14,29 +15,29 @@ pub(crate) struct Noted {
     pub(crate) ends: bool,
 }
 
-/// Notes the key of each client that is ready.
-pub(crate) fn note_keys(events: &Events, keys: &mut Vec<usize>)
-    requires room { events_capacity events.now ≤ vec_capacity keys.old }
+/// Notes which clients are ready.
+pub(crate) fn note_clients(events: &Events, notices: &mut Vec<Notice>)
+    requires room { events_capacity events.now ≤ vec_capacity notices.old }
     requires few { length (items events.now) ≤ events_capacity events.now }
-    ensures { vec_capacity keys.old ≤ vec_capacity keys.new }
+    ensures { vec_capacity notices.old ≤ vec_capacity notices.new }
 {
-    keys.clear();
+    notices.clear();
     'events: for event in events.iter() {
-        let Token(token) = event.token();
-        note_key(token, keys);
+        note_client(noted_of(event), notices);
     }
 }
 
-/// Notes a token, if it is the key of a client.
-fn note_key(token: usize, keys: &mut Vec<usize>)
-    requires { vec_len keys.old < vec_capacity keys.old }
-    ensures few { vec_len keys.new ≤ vec_len keys.old + 1 }
-    ensures room { vec_capacity keys.old ≤ vec_capacity keys.new }
+/// Notes what an event says, if it is one of a client.
+fn note_client(noted: Noted, notices: &mut Vec<Notice>)
+    requires { vec_len notices.old < vec_capacity notices.old }
+    ensures few { vec_len notices.new ≤ vec_len notices.old + 1 }
+    ensures room { vec_capacity notices.old ≤ vec_capacity notices.new }
 {
-    if token >= FIRST_OTHER {
+    let Noted { token: key, ends } = noted;
+    if key >= FIRST_OTHER {
         return;
     }
-    match keys.push(token) {
+    match notices.push(Notice { key, ends }) {
         Ok(()) => {}
         Err(_) => unreachable!(),
     }

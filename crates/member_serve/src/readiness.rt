@@ -2,10 +2,10 @@ ghost use Rattle.std.specs.Prelude.{◌≤◌, vec_capacity};
 ghost use Rattle.mio.specs.Events.{capacity as events_capacity};
 
 use crate::client_stream::{ClientStream, Shutter};
-use crate::noting::{FIRST_OTHER, Noted, note_keys, note_others};
+use crate::noting::{FIRST_OTHER, Noted, note_clients, note_others};
 use mio::unix::SourceFd;
 use mio::{Events, Interest, Poll, Registry, Token, Waker};
-use ready_worker::Readiness;
+use ready_worker::{Notice, Readiness};
 use std::alloc::{AllocError, Global};
 use std::io;
 use std::os::fd::AsRawFd;
@@ -22,11 +22,11 @@ const WAKER: Token = Token(usize::MAX);
 pub(crate) struct MemberReadiness {
     poll: Poll,
     events: Events,
-    keys: Vec<usize>,
+    notices: Vec<Notice>,
     others: Vec<Noted>,
     shutters: Vec<Shutter>,
     limit: Option<Duration>,
-    ghost keys_room: { events_capacity events ≤ vec_capacity keys },
+    ghost notices_room: { events_capacity events ≤ vec_capacity notices },
     ghost others_room: { events_capacity events ≤ vec_capacity others },
 }
 
@@ -36,7 +36,7 @@ impl MemberReadiness {
         Ok(MemberReadiness {
             poll,
             events: Events::with_capacity(alloc, EVENTS)?,
-            keys: Vec::with_capacity(alloc, EVENTS)?,
+            notices: Vec::with_capacity(alloc, EVENTS)?,
             others: Vec::with_capacity(alloc, EVENTS)?,
             shutters: Vec::new(alloc),
             limit: None,
@@ -107,11 +107,11 @@ impl Readiness for MemberReadiness {
     fn wait(&mut self, limit: Option<Duration>) {
         self.limit = limit;
         let _ = self.poll.poll(&mut self.events, limit);
-        note_keys(&self.events, &mut self.keys);
+        note_clients(&self.events, &mut self.notices);
         note_others(&self.events, &mut self.others);
     }
 
-    fn ready(&self) -> &[usize] {
-        &self.keys
+    fn ready(&self) -> &[Notice] {
+        &self.notices
     }
 }

@@ -1,5 +1,6 @@
 ghost use Rattle.std.specs.Prelude.{◌≡◌, ◌≤◌, length, IfOk};
 
+use ready_worker::Notice;
 use std::alloc::{AllocError, Global};
 use std::io;
 use std::io::ErrorKind;
@@ -63,10 +64,11 @@ impl Line {
         self.key = Some(key);
     }
 
-    /// Tells its key where it is ready, and no more until something comes.
-    pub(crate) fn tell(&mut self, keys: &mut Vec<usize>) {
+    /// Tells that it is ready, and no more until something comes.
+    pub(crate) fn tell(&mut self, notices: &mut Vec<Notice>) {
         if let (true, Some(key)) = (self.is_ready, self.key) {
-            self.is_ready = keys.push(key).is_err();
+            let ends = matches!(self.presence, Presence::Ends | Presence::Breaks);
+            self.is_ready = notices.push(Notice { key, ends }).is_err();
         }
     }
 

@@ -1,6 +1,6 @@
 // The connections of a member in memory, as streams that its worker watches.
 use crate::line::{Line, Presence};
-use ready_worker::{Readiness, Wake};
+use ready_worker::{Notice, Readiness, Wake};
 use std::alloc::{AllocError, Global};
 use std::io;
 use std::io::{ErrorKind, Read, Write};
@@ -73,10 +73,10 @@ impl Lines {
         }
     }
 
-    fn tell(&self, keys: &mut Vec<usize>) {
+    fn tell(&self, notices: &mut Vec<Notice>) {
         if let Some(mut lines) = self.lines.try_lock() {
             for line in lines.iter_mut() {
-                line.tell(keys);
+                line.tell(notices);
             }
         }
     }
@@ -121,7 +121,7 @@ impl Write for LineStream<'_> {
 #[derive(Drop)]
 pub(crate) struct LineReadiness<'t> {
     lines: &'t Lines,
-    keys: Vec<usize>,
+    notices: Vec<Notice>,
     limit: Option<Duration>,
 }
 
@@ -129,7 +129,7 @@ impl<'t> LineReadiness<'t> {
     pub(crate) fn new(lines: &'t Lines) -> LineReadiness<'t> {
         LineReadiness {
             lines,
-            keys: Vec::new(lines.alloc),
+            notices: Vec::new(lines.alloc),
             limit: None,
         }
     }
@@ -156,12 +156,12 @@ impl<'t> Readiness for LineReadiness<'t> {
 
     fn wait(&mut self, limit: Option<Duration>) {
         self.limit = limit;
-        self.keys.clear();
-        self.lines.tell(&mut self.keys);
+        self.notices.clear();
+        self.lines.tell(&mut self.notices);
     }
 
-    fn ready(&self) -> &[usize] {
-        &self.keys
+    fn ready(&self) -> &[Notice] {
+        &self.notices
     }
 }
 

@@ -7,6 +7,7 @@ mod front;
 mod outbox;
 mod reading;
 mod sending;
+mod supply;
 mod try_edge;
 mod try_stream;
 

@@ -1,18 +1,23 @@
 ghost use Rattle.std.specs.Prelude.{◌≡◌, ◌<◌, [], false};
 
 use crate::reading::Reading;
+use crate::supply::Supply;
 use crate::try_stream::TryStream;
 use edge_io::{Failed, Past};
+use std::cell::Cell;
 use std::io::{ErrorKind, Read, Write};
 
 /// How many times in a row an interrupted call is tried again.
 const RETRIES: u32 = 1_000_000;
 
 /// A stream of std that does not wait, as a source and a sink: `WouldBlock` says that it would have to, each other error
-/// counts as a fault, and so does an interruption of the last try. It keeps the bytes that it moved.
+/// counts as a fault, and so does an interruption of the last try. It keeps the bytes that it moved. One whose owner tells
+/// when it is ready is not read again behind a read that came short, until it is told.
 #[derive(Drop)]
 pub struct TryEdge<X> {
     inner: X,
+    // (a cell: to be told changes nothing that a contract sees)
+    supply: Cell<Supply>,
     faults: u64,
     ended: bool,
     incoming: Past,
@@ -27,8 +32,29 @@ impl<X: Read + Write> TryEdge<X> {
         ensures fresh { result.outgoing.bytes ≡ [] }
         ensures faults { result.faults ≡ 0 }
     {
+        TryEdge::supplied(inner, Supply::Unknown)
+    }
+
+    /// The same, whose owner tells each time that it is ready: when bytes come behind those that were there, and when its
+    /// peer closes it.
+    pub fn told(inner: X) -> TryEdge<X>
+        ensures inner { result.inner ≡ inner }
+        ensures unread { (result.incoming.bytes ≡ []) × (result.ended ≡ false) }
+        ensures fresh { result.outgoing.bytes ≡ [] }
+        ensures faults { result.faults ≡ 0 }
+    {
+        TryEdge::supplied(inner, Supply::Open)
+    }
+
+    fn supplied(inner: X, supply: Supply) -> TryEdge<X>
+        ensures inner { result.inner ≡ inner }
+        ensures unread { (result.incoming.bytes ≡ []) × (result.ended ≡ false) }
+        ensures fresh { result.outgoing.bytes ≡ [] }
+        ensures faults { result.faults ≡ 0 }
+    {
         TryEdge {
             inner,
+            supply: Cell::new(supply),
             faults: 0,
             ended: false,
             incoming: Past::new(),
@@ -59,11 +85,15 @@ impl<X: Read + Write> TryStream for TryEdge<X> {
         ensures held { self.new.outgoing.bytes ≡ self.old.outgoing.bytes }
         ensures cause { HasCause self.old.faults self.new.faults result }
     {
+        if self.supply.get() == Supply::Drained {
+            return Ok(Reading::Waits);
+        }
         'tries: for _ in 0..=RETRIES {
             match self.inner.read(into) {
                 Ok(n) => {
                     self.incoming.add(&into[..n]);
                     self.ended = n == 0;
+                    self.supply.set(self.supply.get().behind(n, into.len()));
                     return Ok(reading_of(n));
                 }
                 Err(error) => match error.kind() {
@@ -99,6 +129,10 @@ impl<X: Read + Write> TryStream for TryEdge<X> {
         }
         self.faults = self.faults.saturating_add(1);
         Err(Failed)
+    }
+
+    fn woken(&self, ends: bool) {
+        self.supply.set(self.supply.get().woken(ends));
     }
 }
 

@@ -33,4 +33,7 @@ pub trait TryStream {
         ensures bytes { WriteMoves (held self.old) (held self.new) result piece.now }
         ensures input { input self.new ≡ input self.old }
         ensures cause { HasCause (faults self.old) (faults self.new) result };
+
+    /// It became ready, and its peer may have closed it: the next read is tried. Nothing that was moved or counted changes.
+    fn woken(&self, ends: bool);
 }

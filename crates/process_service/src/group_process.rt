@@ -6,6 +6,7 @@ ghost use Rattle.memc_table.specs.Act.{key_of};
 ghost use Rattle.memc_table.specs.Asked.{Asked};
 ghost use Rattle.group_message.specs.declared.message.Message.{Message};
 ghost use Rattle.erasure_code.specs.Spaces.{bytes_at};
+ghost use Rattle.group_message.specs.declared.message.Message.{Message};
 ghost use Rattle.group_calls.specs.Turns.{CallName};
 ghost use Rattle.group_run.specs.Applying.{head_at, replica_of, sending};
 ghost use Rattle.group_run.specs.Asking.{ask_process, collect_from, fate_of, only};

@@ -13,8 +13,9 @@ use crate::call_list::CallList;
 use crate::calls::Calls;
 use crate::ending::finish;
 use crate::step::{Step, go_on};
+use crate::turning::Turning;
 use edge_io::Clock;
-use front_end::{Connection, ConnectionFault, Due, Gateway, Need, Overlap};
+use front_end::{Connection, ConnectionFault, Due, Gateway, Need};
 use group_types::ProcessId;
 use memc_table::Op;
 use outbox::Outbox;
@@ -22,10 +23,8 @@ use std::alloc::Global;
 
 /// Answers the first request that waits, or its first key, as far as that goes without waiting.
 pub(crate) fn answer<G: Gateway, T: Clock>(
-    alloc: Global,
-    overlap: Overlap,
+    turning: &Turning<'_, T>,
     gateway: &mut G,
-    clock: &T,
     connection: &mut Connection,
     calls: &mut Calls<G::Call>,
     outbox: &mut Outbox,
@@ -34,11 +33,12 @@ pub(crate) fn answer<G: Gateway, T: Clock>(
     requires wanted { calls.old.unwanted ≡ 0 }
     requires short { length outbox.old ≤ most_unsent }
     ensures comes { (input input_now : Input) (first : G) (before sent : List ℕ)
-        → ComesAtGateway G.rules overlap (T.moment clock.now) input input_now first before
+        → ComesAtGateway G.rules turning.now.overlap (T.moment turning.now.clock.now) input input_now first before
         gateway.old (sent ++ outbox.old) connection.old calls.old.list 0 None
-        → ComesAtGateway G.rules overlap (T.moment clock.now) input input_now first before
+        → ComesAtGateway G.rules turning.now.overlap (T.moment turning.now.clock.now) input input_now first before
         gateway.new (sent ++ outbox.new) connection.new calls.new.list calls.new.unwanted (end_by result) }
-    ensures asks { (input : Input) (sent : List ℕ) → AsksFrom G.rules (T.moment clock.now) sent overlap input
+    ensures asks { (input : Input) (sent : List ℕ)
+        → AsksFrom G.rules (T.moment turning.now.clock.now) sent turning.now.overlap input
         (connection_at gateway.old connection.old calls.old.list 0 None (sent ++ outbox.old))
         (connection_at gateway.new connection.new calls.new.list calls.new.unwanted (end_by result) (sent ++ outbox.new)) }
     ensures apart { KeepsApart G.rules calls.old.list calls.new.list gateway.old gateway.new }
@@ -47,14 +47,12 @@ pub(crate) fn answer<G: Gateway, T: Clock>(
     ensures count { connection.new.count ≡ connection.old.count }
 {
     if awaits_end(connection, &calls.list) {
-        return finish(alloc, overlap, gateway, clock, connection, calls, outbox);
+        return finish(turning, gateway, connection, calls, outbox);
     }
-    match connection.due(clock) {
-        Ok(Due::Call(op)) => begin(
-            alloc, overlap, gateway, clock, connection, calls, outbox, op,
-        ),
-        Ok(Due::Fail { at, keep }) => order(alloc, gateway, connection, outbox, at, keep),
-        Ok(Due::Text) => tell::<G>(alloc, connection, outbox),
+    match connection.due(turning.clock) {
+        Ok(Due::Call(op)) => begin(turning, gateway, connection, calls, outbox, op),
+        Ok(Due::Fail { at, keep }) => order(turning.alloc, gateway, connection, outbox, at, keep),
+        Ok(Due::Text) => tell::<G>(turning.alloc, connection, outbox),
         Err(_) => Err(ConnectionFault::Want),
     }
 }
@@ -77,25 +75,24 @@ pub(crate) fn awaits_end<K: Drop>(connection: &Connection, calls: &CallList<K>) 
 
 /// Begins the call that is due, and takes its end at once if it has come.
 fn begin<G: Gateway, T: Clock>(
-    alloc: Global,
-    overlap: Overlap,
+    turning: &Turning<'_, T>,
     gateway: &mut G,
-    clock: &T,
     connection: &mut Connection,
     calls: &mut Calls<G::Call>,
     outbox: &mut Outbox,
     op: Op,
 ) -> Result<Step, ConnectionFault>
-    requires due { IsDue (T.moment clock.now) connection.old.waiting (due.Call op) }
+    requires due { IsDue (T.moment turning.now.clock.now) connection.old.waiting (due.Call op) }
     requires none { calls.old.list ≡ [] }
     requires wanted { calls.old.unwanted ≡ 0 }
     requires short { length outbox.old ≤ most_unsent }
     ensures comes { (input input_now : Input) (first : G) (before sent : List ℕ)
-        → ComesAtGateway G.rules overlap (T.moment clock.now) input input_now first before
+        → ComesAtGateway G.rules turning.now.overlap (T.moment turning.now.clock.now) input input_now first before
         gateway.old (sent ++ outbox.old) connection.old calls.old.list 0 None
-        → ComesAtGateway G.rules overlap (T.moment clock.now) input input_now first before
+        → ComesAtGateway G.rules turning.now.overlap (T.moment turning.now.clock.now) input input_now first before
         gateway.new (sent ++ outbox.new) connection.new calls.new.list calls.new.unwanted (end_by result) }
-    ensures asks { (input : Input) (sent : List ℕ) → AsksFrom G.rules (T.moment clock.now) sent overlap input
+    ensures asks { (input : Input) (sent : List ℕ)
+        → AsksFrom G.rules (T.moment turning.now.clock.now) sent turning.now.overlap input
         (connection_at gateway.old connection.old calls.old.list 0 None (sent ++ outbox.old))
         (connection_at gateway.new connection.new calls.new.list calls.new.unwanted (end_by result) (sent ++ outbox.new)) }
     ensures apart { KeepsApart G.rules calls.old.list calls.new.list gateway.old gateway.new }
@@ -106,7 +103,7 @@ fn begin<G: Gateway, T: Clock>(
     match gateway.begin(op) {
         Ok(Some(call)) => {
             calls.list.put_only(call);
-            finish(alloc, overlap, gateway, clock, connection, calls, outbox)
+            finish(turning, gateway, connection, calls, outbox)
         }
         Ok(None) => Ok(Step::Waits),
         Err(_) => Err(ConnectionFault::Want),

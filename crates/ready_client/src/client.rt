@@ -8,6 +8,7 @@ ghost use Rattle.ready_client.specs.Coming.{end_by, ComesAtGateway, HasTakenLess
 
 use crate::calls::Calls;
 use crate::step::{MOST_UNSENT, Step, advance};
+use crate::turning::Turning;
 use edge_io::{Clock, Failed};
 use front_end::{Connection, ConnectionFault, End, Gateway, Overlap};
 use outbox::{Outbox, Sending, TryStream};
@@ -109,6 +110,11 @@ impl<S: TryStream, K: Drop> Client<S, K> {
         let came = self.run(alloc, overlap, gateway, clock, room);
         self.last = came;
         came
+    }
+
+    /// Its stream became ready, and its peer may have closed it.
+    pub fn woken(&self, ends: bool) {
+        self.stream.woken(ends);
     }
 
     // A turn, of which it isn't noted what it came to.
@@ -227,11 +233,14 @@ impl<S: TryStream, K: Drop> Client<S, K> {
         if self.end.is_some() || self.calls.has_unwanted() {
             return !self.calls.let_go(gateway);
         }
-        let result = advance(
+        let turning = Turning {
             alloc,
             overlap,
-            gateway,
             clock,
+        };
+        let result = advance(
+            &turning,
+            gateway,
             &mut self.stream,
             &mut self.connection,
             &mut self.calls,

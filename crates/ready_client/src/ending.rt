@@ -11,18 +11,17 @@ use crate::ahead::go_ahead;
 use crate::answer::awaits_end;
 use crate::calls::Calls;
 use crate::step::{Step, go_on};
+use crate::turning::Turning;
 use edge_io::Clock;
-use front_end::{Connection, ConnectionFault, Gateway, Overlap};
+use front_end::{Connection, ConnectionFault, Gateway};
 use memc_proto::CallEnd;
 use outbox::Outbox;
 use std::alloc::Global;
 
 /// Takes the end of the first call, if it has come, and writes its text. Else a further call is begun, if one may be.
 pub(crate) fn finish<G: Gateway, T: Clock>(
-    alloc: Global,
-    overlap: Overlap,
+    turning: &Turning<'_, T>,
     gateway: &mut G,
-    clock: &T,
     connection: &mut Connection,
     calls: &mut Calls<G::Call>,
     outbox: &mut Outbox,
@@ -32,11 +31,12 @@ pub(crate) fn finish<G: Gateway, T: Clock>(
     requires wanted { calls.old.unwanted ≡ 0 }
     requires short { length outbox.old ≤ most_unsent }
     ensures comes { (input input_now : Input) (first : G) (before sent : List ℕ)
-        → ComesAtGateway G.rules overlap (T.moment clock.now) input input_now first before
+        → ComesAtGateway G.rules turning.now.overlap (T.moment turning.now.clock.now) input input_now first before
         gateway.old (sent ++ outbox.old) connection.old calls.old.list 0 None
-        → ComesAtGateway G.rules overlap (T.moment clock.now) input input_now first before
+        → ComesAtGateway G.rules turning.now.overlap (T.moment turning.now.clock.now) input input_now first before
         gateway.new (sent ++ outbox.new) connection.new calls.new.list calls.new.unwanted (end_by result) }
-    ensures asks { (input : Input) (sent : List ℕ) → AsksFrom G.rules (T.moment clock.now) sent overlap input
+    ensures asks { (input : Input) (sent : List ℕ)
+        → AsksFrom G.rules (T.moment turning.now.clock.now) sent turning.now.overlap input
         (connection_at gateway.old connection.old calls.old.list 0 None (sent ++ outbox.old))
         (connection_at gateway.new connection.new calls.new.list calls.new.unwanted (end_by result) (sent ++ outbox.new)) }
     ensures apart { KeepsApart G.rules calls.old.list calls.new.list gateway.old gateway.new }
@@ -45,8 +45,14 @@ pub(crate) fn finish<G: Gateway, T: Clock>(
     ensures count { connection.new.count ≡ connection.old.count }
 {
     match calls.list.take_end(gateway) {
-        Some(end) => settle::<G>(alloc, connection, calls, outbox, end),
-        None => go_ahead(overlap, gateway, clock, connection, &mut calls.list),
+        Some(end) => settle::<G>(turning.alloc, connection, calls, outbox, end),
+        None => go_ahead(
+            turning.overlap,
+            gateway,
+            turning.clock,
+            connection,
+            &mut calls.list,
+        ),
     }
 }
 

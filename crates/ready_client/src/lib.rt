@@ -16,5 +16,6 @@ mod ending;
 pub mod laws;
 mod open_call;
 mod step;
+mod turning;
 
 pub use client::{Client, Turn};

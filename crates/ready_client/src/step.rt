@@ -10,10 +10,10 @@ ghost use Rattle.ready_client.specs.Coming.{by_close, end_by, ways_of, ComesAtGa
 use crate::answer::answer;
 use crate::calls::Calls;
 use crate::ending::take_begun;
+use crate::turning::Turning;
 use edge_io::{Clock, Failed};
-use front_end::{Connection, ConnectionFault, End, Gateway, Overlap};
+use front_end::{Connection, ConnectionFault, End, Gateway};
 use outbox::{Outbox, Reading, TryStream};
-use std::alloc::Global;
 
 /// The most bytes that one step reads: a value of 4 KiB with its line, and no more requests than hold up another
 /// connection shortly.
@@ -39,10 +39,8 @@ pub enum Step {
 /// answered into its outbox as far as that goes without waiting, or else a piece is read. Where much waits to be sent the end of
 /// its first call is taken, and else nothing.
 pub(crate) fn advance<G: Gateway, S: TryStream, T: Clock>(
-    alloc: Global,
-    overlap: Overlap,
+    turning: &Turning<'_, T>,
     gateway: &mut G,
-    clock: &T,
     stream: &mut S,
     connection: &mut Connection,
     calls: &mut Calls<G::Call>,
@@ -53,11 +51,13 @@ pub(crate) fn advance<G: Gateway, S: TryStream, T: Clock>(
     requires within { connection.old.count ≤ 2 ^ 62 }
     requires wanted { calls.old.unwanted ≡ 0 }
     ensures comes { (input : Input) (first : G) (before : List ℕ)
-        → ComesAtGateway G.rules overlap (T.moment clock.now) input (S.input stream.old) first before gateway.old
-        (S.held stream.old ++ outbox.old) connection.old calls.old.list 0 None
-        → ComesAtGateway G.rules overlap (T.moment clock.now) input (S.input stream.new) first before gateway.new
-        (S.held stream.new ++ outbox.new) connection.new calls.new.list calls.new.unwanted (end_by result) }
-    ensures asks { AsksFrom G.rules (T.moment clock.now) (S.held stream.old) overlap (S.input stream.old)
+        → ComesAtGateway G.rules turning.now.overlap (T.moment turning.now.clock.now) input (S.input stream.old) first
+        before gateway.old (S.held stream.old ++ outbox.old) connection.old calls.old.list 0 None
+        → ComesAtGateway G.rules turning.now.overlap (T.moment turning.now.clock.now) input (S.input stream.new) first
+        before gateway.new (S.held stream.new ++ outbox.new) connection.new calls.new.list calls.new.unwanted
+        (end_by result) }
+    ensures asks { AsksFrom G.rules (T.moment turning.now.clock.now) (S.held stream.old) turning.now.overlap
+        (S.input stream.old)
         (connection_at gateway.old connection.old calls.old.list 0 None (S.held stream.old ++ outbox.old))
         (connection_at gateway.new connection.new calls.new.list calls.new.unwanted (end_by result) (S.held stream.new ++ outbox.new)) }
     ensures apart { KeepsApart G.rules calls.old.list calls.new.list gateway.old gateway.new }
@@ -69,10 +69,10 @@ pub(crate) fn advance<G: Gateway, S: TryStream, T: Clock>(
     ensures room { length room.new ≡ 65536 }
 {
     if outbox.len() > MOST_UNSENT {
-        return take_begun(alloc, gateway, connection, calls, outbox);
+        return take_begun(turning.alloc, gateway, connection, calls, outbox);
     }
     if connection.has_waiting() {
-        answer(alloc, overlap, gateway, clock, connection, calls, outbox)
+        answer(turning, gateway, connection, calls, outbox)
     } else {
         read::<G, S>(stream, connection, outbox, room)
     }

@@ -28,7 +28,7 @@ impl<T> Model for Places<T> {
 impl<T: Drop> Places<T> {
     ghost use Rattle.std.specs.Prelude.{ℕ, ◌≡◌, ◌+◌, ◌==◌, [], ◌∷◌, length, not, Some, None, true, false, IfNone, IfSome, OnSome};
     ghost use Rattle.std.specs.Borrow.{sem};
-    ghost use Rattle.std.specs.Option.{option_copied_mut};
+    ghost use Rattle.std.specs.Option.{option_copied, option_copied_mut};
     ghost use Rattle.slab.specs.Slab.{slab_len, Updates};
     ghost use Rattle.ready_places.specs.Lends.{LendsPlace, LendsValue};
     ghost use Rattle.ready_places.specs.Placed.{placed_at, HasPlace};
@@ -91,6 +91,13 @@ impl<T: Drop> Places<T> {
     }
 
     /// The value of a key.
+    pub fn get(&self, key: usize) -> Option<&T>
+        ensures { option_copied result ≡ placed_at self.now key }
+    {
+        self.slab.get(key)
+    }
+
+    /// The value of a key, to be changed.
     pub fn get_mut(&mut self, key: usize) -> Option<&mut T>
         ensures* writes_back { sem 𝓛 (LendsPlace T.row self.entry key result) }
         ensures value { option_copied_mut result ≡ placed_at self.old key }

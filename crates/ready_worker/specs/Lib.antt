@@ -1,2 +1,3 @@
 pub mod Come
+pub mod Noticed
 pub mod Queued

@@ -4,10 +4,11 @@ use Rattle.ready_client.specs.declared.client.Client.{Client}
 use Rattle.ready_client.specs.declared.client.Turn.TheVariants.{More}
 use Rattle.ready_places.specs.Placed.{Placed, HasPlace, placed_at}
 use Rattle.ready_places.specs.Queue.{is_queued}
+use Rattle.ready_worker.specs.declared.notice.Notice.{Notice}
 
--- each of these keys that has a place stands in the queue
-abbrev pub AreQueued : {T : Type 0} → Placed T → List ℕ → Type 0
-AreQueued placed keys = All (λ key. HasPlace placed key → is_queued placed.queue key ≡ true) keys
+-- each key of these that has a place stands in the queue
+abbrev pub AreQueued : {T : Type 0} → Placed T → List Notice → Type 0
+AreQueued placed notices = All (λ notice. HasPlace placed notice.key → is_queued placed.queue notice.key ≡ true) notices
 
 -- those that stood in it do so still
 abbrev pub StayQueued : List ℕ → List ℕ → Type 0

@@ -1,8 +1,10 @@
 ghost use Rattle.std.specs.Prelude.{◌≡◌, ◌≤◌, length, map, vec_capacity};
 ghost use Rattle.mio.specs.Events.{capacity as events_capacity, items};
-ghost use Rattle.mio.specs.Event.{event_token};
+ghost use Rattle.ready_worker.specs.Noticed.{notice_of};
 
+use crate::notice::Notice;
 use crate::readiness::{Readiness, Wake};
+use mio::event::Event;
 use mio::net::TcpStream;
 use mio::{Events, Interest, Poll, Token, Waker};
 use std::alloc::{AllocError, Global};
@@ -20,9 +22,9 @@ const WAKER: Token = Token(usize::MAX);
 pub(crate) struct PollReadiness {
     poll: Poll,
     events: Events,
-    keys: Vec<usize>,
+    notices: Vec<Notice>,
     limit: Option<Duration>,
-    ghost room: { events_capacity events ≤ vec_capacity keys },
+    ghost room: { events_capacity events ≤ vec_capacity notices },
 }
 
 impl PollReadiness {
@@ -31,7 +33,7 @@ impl PollReadiness {
         Ok(PollReadiness {
             poll,
             events: Events::with_capacity(alloc, EVENTS)?,
-            keys: Vec::with_capacity(alloc, EVENTS)?,
+            notices: Vec::with_capacity(alloc, EVENTS)?,
             limit: None,
         })
     }
@@ -62,11 +64,11 @@ impl Readiness for PollReadiness {
     fn wait(&mut self, limit: Option<Duration>) {
         self.limit = limit;
         let _ = self.poll.poll(&mut self.events, limit);
-        note(&self.events, &mut self.keys);
+        note(&self.events, &mut self.notices);
     }
 
-    fn ready(&self) -> &[usize] {
-        &self.keys
+    fn ready(&self) -> &[Notice] {
+        &self.notices
     }
 }
 
@@ -76,19 +78,29 @@ impl Wake for Waker {
     }
 }
 
-/// Notes the key of each event.
-fn note(events: &Events, keys: &mut Vec<usize>)
-    requires room { events_capacity events.now ≤ vec_capacity keys.old }
+/// Notes what each event tells.
+fn note(events: &Events, notices: &mut Vec<Notice>)
+    requires room { events_capacity events.now ≤ vec_capacity notices.old }
     requires few { length (items events.now) ≤ events_capacity events.now }
-    ensures keys { keys.new.items ≡ map (λ event. (event_token event).0) (items events.now) }
-    ensures room { vec_capacity keys.old ≤ vec_capacity keys.new }
+    ensures notices { notices.new.items ≡ map notice_of (items events.now) }
+    ensures room { vec_capacity notices.old ≤ vec_capacity notices.new }
 {
-    keys.clear();
+    notices.clear();
     'events: for event in events.iter() {
-        let Token(key) = event.token();
-        match keys.push(key) {
+        match notices.push(notice_of(event)) {
             Ok(()) => {}
             Err(_) => unreachable!(),
         }
+    }
+}
+
+/// What an event tells.
+fn notice_of(event: &Event) -> Notice
+    ensures { result ≡ notice_of event.now }
+{
+    let Token(key) = event.token();
+    Notice {
+        key,
+        ends: event.is_read_closed() || event.is_error(),
     }
 }

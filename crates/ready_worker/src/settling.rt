@@ -4,18 +4,19 @@ ghost use Rattle.ready_places.specs.Placed.{HasPlace, placed_at};
 ghost use Rattle.ready_places.specs.Queue.{first_of};
 ghost use Rattle.ready_worker.specs.Queued.{AreQueued, StayQueued};
 
+use crate::notice::Notice;
 use ready_client::Turn;
 use ready_places::Places;
 
-/// Puts the values of all keys that have a place at the head of the queue, and says how many didn't stand in it.
-pub(crate) fn queue_all<T: Drop>(places: &mut Places<T>, keys: &[usize]) -> usize
+/// Puts the values of all that is told of and has a place at the head of the queue, and says how many didn't stand in it.
+pub(crate) fn queue_all<T: Drop>(places: &mut Places<T>, notices: &[Notice]) -> usize
     ensures values { places.new.values ≡ places.old.values }
-    ensures queued { AreQueued places.new keys.now }
+    ensures queued { AreQueued places.new notices.now }
     ensures stay { StayQueued places.old.queue places.new.queue }
 {
     let mut count: usize = 0;
-    'keys: for key in keys {
-        if places.put_first(*key) {
+    'notices: for notice in notices {
+        if places.put_first(notice.key) {
             count = count.saturating_add(1);
         }
     }

@@ -130,7 +130,7 @@ impl<'t, Y: Readiness, G: Gateway, T: Clock> Worker<'t, Y, G, T> {
         let watched = self
             .readiness
             .register(&mut stream, self.places.vacant_key());
-        let client = Client::new(self.alloc, TryEdge::new(stream));
+        let client = Client::new(self.alloc, TryEdge::told(stream));
         begins::<G>();
         watched && self.places.insert(client)
     }
@@ -190,7 +190,17 @@ impl<'t, Y: Readiness, G: Gateway, T: Clock> Worker<'t, Y, G, T> {
         } else {
             self.readiness.wait(limit);
         }
+        self.tell_ready();
         queue_all(&mut self.places, self.readiness.ready())
+    }
+
+    // Tells the connections whose streams are ready, so that these are read again.
+    fn tell_ready(&self) {
+        'notices: for notice in self.readiness.ready() {
+            if let Some(client) = self.places.get(notice.key) {
+                client.woken(notice.ends);
+            }
+        }
     }
 
     /// Gives so many of the connections that are to be served one turn, and one more. It says how many were over and let go.

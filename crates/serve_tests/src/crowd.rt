@@ -8,7 +8,7 @@ use node_worker::{OpenGate, ServeFault, Serving};
 use ready_worker::{ReadyListener, serve_either};
 use std::alloc::{AllocError, Global};
 use std::io::{ErrorKind, Read, Write};
-use std::net::{Net, SocketAddr, TcpStream};
+use std::net::{Net, OpenStream, Shutdown, SocketAddr, TcpStream};
 use std::sync::{Mutex, Wait};
 use std::thread::Threads;
 use std::{io, thread};
@@ -106,6 +106,11 @@ fn tells_an_accept_that_failed_first(rt: HostRuntime) {
 fn comes_and_goes<R: Net>(net: &R, server: SocketAddr) -> io::Result<()> {
     let mut stream = TcpStream::connect(net, server)?;
     stream.write_all(b"version\r\nquit\r\n")?;
+    lets_go(&mut stream)
+}
+
+/// Waits until the version was told, and the connection let go.
+fn lets_go<S: Read>(stream: &mut S) -> io::Result<()> {
     stream.read_exact(&mut [0; 19])?;
     match stream.read(&mut [0])? {
         0 => Ok(()),
@@ -133,4 +138,38 @@ fn goes_on_where_accepting_fails_and_nobody_is_connected(rt: HostRuntime) {
     );
     same(&rt, served, Ok(2));
     heard.expect(&rt, "both are answered");
+}
+
+/// How many clients end as they ask, one behind the other.
+const ENDING: u64 = 200;
+
+/// A client that asks for the version, says nothing more, and waits until it was let go.
+fn asks_and_ends<R: Net>(net: &R, server: SocketAddr) -> io::Result<()> {
+    let mut stream = TcpStream::connect(net, server)?;
+    stream.write_all(b"version\r\n")?;
+    stream.shutdown(Shutdown::Write)?;
+    lets_go(&mut stream)
+}
+
+fn all_ask_and_end<R: Net>(net: &R, server: SocketAddr) -> io::Result<()> {
+    for _ in 0..ENDING {
+        asks_and_ends(net, server)?;
+    }
+    Ok(())
+}
+
+// The end comes with what is said, or shortly behind it: either way it is met.
+#[test]
+fn lets_those_go_that_end_as_they_ask(rt: HostRuntime) {
+    let mut port = TcpEdge::new(rt);
+    same(&rt, port.listen("127.0.0.1:0"), Ok(()));
+    let server = port.local_addr().expect(&rt, "an address");
+    let alloc = rt.alloc();
+    let (heard, served) = thread::join(
+        &rt,
+        move || all_ask_and_end(&rt, server),
+        move || served_as_ready(rt, alloc, &mut port, 2, ENDING),
+    );
+    same(&rt, served, Ok(ENDING));
+    heard.expect(&rt, "all are answered");
 }

@@ -2,7 +2,7 @@
 // takes nothing is read no further.
 use crate::bench::{MemoryWorker, admit, hears, rounds, tells, worker};
 use crate::shop::Till;
-use crate::wires::Change::{Cuts, Says, Takes};
+use crate::wires::Change::{Cuts, Ends, Says, Takes};
 use crate::wires::{Change, Nobody, Teller, Wires};
 use edge_io::{Clock, FixedClock};
 use front_end::AtOnce;
@@ -169,6 +169,43 @@ fn a_key_is_used_again(rt: HostRuntime) {
     for number in 0..3 {
         hears(&rt, alloc, &wires, number, b"VERSION cocytus-1\r\nEND\r\n");
     }
+}
+
+// Each time something comes it is read once, as long as it comes short.
+#[test]
+fn one_that_asks_again_and_again_is_read_once_each_time(rt: HostRuntime) {
+    let alloc = rt.alloc();
+    let table = Mutex::new(Table::new(alloc, 1).expect(&rt, "a table"));
+    let wires = Wires::new(alloc, 1).expect(&rt, "a connection");
+    let clock = FixedClock::new(0);
+    let mut worker = said(&rt, alloc, &wires, &table, &clock, ASKS);
+    tells(&rt, &wires, 0, ALL);
+    rounds(&mut worker, 2);
+    for reads in 1..100 {
+        assert_eq!(rt; wires.reads(0), reads);
+        tells(&rt, &wires, 0, Says(ASKS));
+        rounds(&mut worker, 2);
+    }
+    let heard = many(alloc, VERSION, 100).expect(&rt, "answers");
+    hears(&rt, alloc, &wires, 0, &heard);
+}
+
+// What it says and its end are told at once: it is read to its end, and let go.
+#[test]
+fn one_that_ends_as_it_asks_is_let_go(rt: HostRuntime) {
+    let alloc = rt.alloc();
+    let table = Mutex::new(Table::new(alloc, 1).expect(&rt, "a table"));
+    let wires = Wires::new(alloc, 1).expect(&rt, "a connection");
+    let clock = FixedClock::new(0);
+    let mut worker = worker(&rt, alloc, &wires, &table, &clock);
+    admit(&rt, &mut worker, &wires, 0);
+    tells(&rt, &wires, 0, ALL);
+    rounds(&mut worker, 1);
+    wires.change(0, Says(ASKS)).expect(&rt, "memory");
+    tells(&rt, &wires, 0, Ends);
+    rounds(&mut worker, 2);
+    hears(&rt, alloc, &wires, 0, VERSION);
+    assert_eq!(rt; worker.len(), 0);
 }
 
 /// A clock that a test sets.

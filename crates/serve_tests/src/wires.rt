@@ -1,7 +1,7 @@
 ghost use Rattle.std.specs.Prelude.{◌≡◌, ◌≤◌, length, IfOk};
 
 // Connections in memory, whose bytes come and go as a test lets them.
-use ready_worker::{Readiness, Wake};
+use ready_worker::{Notice, Readiness, Wake};
 use std::alloc::{AllocError, Global};
 use std::io::{ErrorKind, Read, Write};
 use std::sync::Mutex;
@@ -38,6 +38,7 @@ enum Beyond {
 struct Line {
     came: Vec<u8>,
     read: usize,
+    reads: usize,
     piece: usize,
     beyond: Beyond,
     room: usize,
@@ -51,6 +52,7 @@ impl Line {
         Line {
             came: Vec::new(alloc),
             read: 0,
+            reads: 0,
             piece: usize::MAX,
             beyond: Beyond::Nothing,
             room: 0,
@@ -72,10 +74,16 @@ impl Line {
         Ok(())
     }
 
+    // Whether what a read leaves is told no more: its client says nothing more, or a read that is cut leaves some.
+    fn ends(&self) -> bool {
+        !matches!(self.beyond, Beyond::Nothing) || self.piece != usize::MAX
+    }
+
     fn read(&mut self, into: &mut [u8]) -> io::Result<usize>
         ensures same { length into.new ≡ length into.old }
         ensures bound { IfOk result (λ n. n ≤ length into.new) }
     {
+        self.reads = self.reads.saturating_add(1);
         let rest = self.came.get(self.read..).unwrap_or_default();
         let most = rest.len().min(into.len()).min(self.piece);
         if most == 0 {
@@ -109,11 +117,11 @@ impl Line {
     }
 }
 
-/// Connections, and the keys of those that are to be told as ready.
+/// Connections, and what is to be told of those that are ready.
 #[derive(Drop)]
 pub(crate) struct Wires {
     lines: Mutex<Vec<Line>>,
-    told: Mutex<Vec<usize>>,
+    told: Mutex<Vec<Notice>>,
 }
 
 impl Wires {
@@ -141,9 +149,9 @@ impl Wires {
 
     /// The next wait tells that this connection is ready.
     pub(crate) fn tell(&self, number: usize) -> Result<(), AllocError> {
-        if let Some(key) = self.key(number) {
+        if let Some(notice) = self.notice(number) {
             if let Some(mut told) = self.told.try_lock() {
-                told.push(key)?;
+                told.push(notice)?;
             }
         }
         Ok(())
@@ -176,8 +184,22 @@ impl Wires {
         }
     }
 
-    fn key(&self, number: usize) -> Option<usize> {
-        self.lines.try_lock()?.get(number)?.key
+    /// How often a connection was read.
+    pub(crate) fn reads(&self, number: usize) -> usize {
+        match self.lines.try_lock() {
+            Some(lines) => lines.get(number).map_or(0, |line| line.reads),
+            None => 0,
+        }
+    }
+
+    // What is told of a connection that has a key, as it is.
+    fn notice(&self, number: usize) -> Option<Notice> {
+        let lines = self.lines.try_lock()?;
+        let line = lines.get(number)?;
+        line.key.map(|key| Notice {
+            key,
+            ends: line.ends(),
+        })
     }
 
     fn note_key(&self, number: usize, key: usize) {
@@ -188,7 +210,7 @@ impl Wires {
         }
     }
 
-    fn take_told(&self, alloc: Global) -> Vec<usize> {
+    fn take_told(&self, alloc: Global) -> Vec<Notice> {
         match self.told.try_lock() {
             Some(mut told) => mem::replace(&mut *told, Vec::new(alloc)),
             None => Vec::new(alloc),
@@ -236,7 +258,7 @@ impl Write for Wire<'_> {
 pub(crate) struct Teller<'t> {
     alloc: Global,
     wires: &'t Wires,
-    keys: Vec<usize>,
+    notices: Vec<Notice>,
     limit: Option<Duration>,
 }
 
@@ -245,7 +267,7 @@ impl<'t> Teller<'t> {
         Teller {
             alloc,
             wires,
-            keys: Vec::new(alloc),
+            notices: Vec::new(alloc),
             limit: None,
         }
     }
@@ -272,11 +294,11 @@ impl<'t> Readiness for Teller<'t> {
 
     fn wait(&mut self, limit: Option<Duration>) {
         self.limit = limit;
-        self.keys = self.wires.take_told(self.alloc);
+        self.notices = self.wires.take_told(self.alloc);
     }
 
-    fn ready(&self) -> &[usize] {
-        &self.keys
+    fn ready(&self) -> &[Notice] {
+        &self.notices
     }
 }
 

@@ -19,8 +19,8 @@ invariant_of-self g c = record {
   where
     new_client : ClientComes g.G.Gateway.rules c.args.self.now.overlap (g.T.Clock.moment c.args.self.now.clock.now) c.args.self.now.gateway c.new-client.result
     new_client = fresh g.G.Gateway.rules c.args.self.now.overlap (g.T.Clock.moment c.args.self.now.clock.now)
-        c.args.self.now.gateway c.new-client.result c.new.result c.new-client.ensures.stream c.new.ensures.unread.0
-        c.new.ensures.unread.1 c.new.ensures.fresh
+        c.args.self.now.gateway c.new-client.result c.told.result c.new-client.ensures.stream c.told.ensures.unread.0
+        c.told.ensures.unread.1 c.told.ensures.fresh
         c.new-client.ensures.outbox c.new-client.ensures.calls c.new-client.ensures.unwanted c.new-client.ensures.end
         (c.begins.ensures c.args.self.now.overlap (g.T.Clock.moment c.args.self.now.clock.now) unread
         c.args.self.now.gateway [] c.new-client.result.connection c.new-client.ensures.kept

@@ -1,8 +1,0 @@
-use Rattle.std.proofs.Common.{arith, ap, length}
-use Rattle.member_serve.proofs.noting.note_keys.Goals as goal
-
-pub events-preserved : goal.events-preserved
-events-preserved c = record {
-  room = omega (arith, c.events.invariant.room, ap length c.in-Some.ensures.steps, c.note_key.ensures.few, c.note_key.ensures.room);
-  more = omega (arith, c.events.invariant.more, c.note_key.ensures.room);
-}

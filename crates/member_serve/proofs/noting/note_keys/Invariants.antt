@@ -1,9 +1,0 @@
-use Rattle.std.proofs.Common.{◌+◌, ◌≤◌, length, vec_len, vec_capacity}
-use Rattle.std.specs.Slice.Iter.{iter_rest}
-use Rattle.member_serve.proofs.noting.note_keys.Given as goal
-
-abbrev pub invariant-events : goal.invariant-events
-invariant-events l = record {
-  room : vec_len l.keys + length (iter_rest l.event-iterator) ≤ vec_capacity l.keys;
-  more : vec_capacity l.initial.keys ≤ vec_capacity l.keys;
-}
