@@ -1,5 +1,5 @@
 -- What is beneath a process's partitions, after a step for one of them.
-use Rattle.std.proofs.Common.{ℕ, Result, Ok, Err, IfOk, OnErr, ◌≡◌, ◌≢◌, ◌<◌, ◌==◌, true, false, ◌⊎◌, inl, inr}
+use Rattle.std.proofs.Common.{ℕ, Result, Ok, Err, IfOk, OnErr, OnOk, ◌≡◌, ◌≢◌, ◌<◌, ◌==◌, true, false, ◌⊎◌, inl, inr}
 use Rattle.std.proofs.Common.{[], List, length, refl, sym, ap, subst, ◌∙◌}
 use Rattle.std.proofs.lemmas.Bool.Decides.{eqb_tells}
 use Rattle.std.specs.Prelude.{All}

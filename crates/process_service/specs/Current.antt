@@ -1,6 +1,6 @@
 -- Which messages a process acts on: those of a head it doesn't follow, or under another rank, it drops, and marks that its row
 -- doesn't take.
-use Rattle.std.specs.Prelude.{nat_le, Bool, true, None, ⊤}
+use Rattle.std.specs.Prelude.{ℕ, nat_le, Bool, true, None, ⊤}
 use Rattle.group_types.specs.Lists.{at}
 use Rattle.group_message.specs.declared.message.Message.{Message}
 use Rattle.group_message.specs.declared.message.Message.TheVariants.{Ack, Adopt, Mark, Stable, Update}

@@ -4,7 +4,6 @@ ghost use Rattle.group_types.specs.Dimensions.{space_of};
 ghost use Rattle.group_types.specs.declared.process.ProcessId.{ProcessId};
 ghost use Rattle.memc_table.specs.Act.{key_of};
 ghost use Rattle.memc_table.specs.Asked.{Asked};
-ghost use Rattle.group_message.specs.declared.message.Message.{Message};
 ghost use Rattle.erasure_code.specs.Spaces.{bytes_at};
 ghost use Rattle.group_message.specs.declared.message.Message.{Message};
 ghost use Rattle.group_calls.specs.Turns.{CallName};

@@ -1,4 +1,4 @@
-use Rattle.std.proofs.Common.{ℕ, ◌≡◌, nat_le, true, List, map, sym, ap, subst, ◌∙◌}
+use Rattle.std.proofs.Common.{ℕ, ◌≡◌, ◌<◌, nat_le, true, List, map, sym, ap, subst, ◌∙◌}
 use Rattle.std.specs.Prelude.{set}
 use Rattle.std.proofs.lemmas.Bool.{leb-true}
 use Rattle.group_types.specs.Dimensions.{Dimensions}
