@@ -25,6 +25,7 @@ use Rattle.group_run.specs.Process.{Head, Process, opening_process}
 use Rattle.group_run.specs.Replica.{Replica, empty_replica}
 use Rattle.head_service.specs.Serving.{Serving, serving}
 use Rattle.process_service.specs.Standing.{at_start}
+use Rattle.process_service.proofs.Names.{asked-name, received-name}
 use Rattle.head_service.specs.declared.ask.Asking.TheVariants.{Need}
 use Rattle.head_service.specs.declared.step.CallStep as answered
 use Rattle.process_service.specs.Steps.{IsCallAsked, called, machine_step}
@@ -130,3 +131,23 @@ retried-ready v v2 w g g2 h name op block (Ok step) ready shape asked shape2 ove
     ∙ ap₂ (λ (s : Dimensions) (x : Process). retry_block s block (oldest_inherited x (range_with_len 0 s.k)) x) (sym shape) (sym asked.1) ∙ is))
 retried-ready v v2 w g g2 h name op block (Err e) ready shape asked shape2 over is same_service same_bytes =
     became v w g h (serving v g.process) (shape2 ∙ shape) over (sym (ap₂ serving same_service same_bytes ∙ asked.1)) ready.sound
+
+-- neither changes the name
+pub received-named : (v w : Serving) (g h : ParityHolding) (from : ProcessId) (m : Message) (result : Result Step AllocError)
+    → IfOk result (λ step. receive v.shape from m (serving v g.process) ≡ machine_step (serving w h.process) step)
+    → OnErr result (w ≡ v) → OnErr result (h.process ≡ g.process) → (serving w h.process).name ≡ (serving v g.process).name
+received-named v w g h from m (Ok step) is same_service same_bytes =
+    received-name v.shape from m (serving v g.process) (serving w h.process) (Ok step) is tt
+received-named v w g h from m (Err e) is same_service same_bytes = ap (λ (p : Process). p.name) (ap₂ serving same_service same_bytes)
+
+pub retried-named : (v v2 w : Serving) (g g2 h : ParityHolding) (name : CallName) (op : Asked) (block : ℕ)
+    (result : Result answered.CallStep AllocError) → v2.shape ≡ v.shape
+    → IsCallAsked v.shape name op (serving v g.process) (Need block) (serving v2 g2.process)
+    → IfOk result (λ step. retry_block v2.shape block (oldest_inherited (serving v2 g2.process) (range_with_len 0 v2.shape.k)) (serving v2 g2.process)
+    ≡ called (serving w h.process) step)
+    → OnErr result (w ≡ v2) → OnErr result (h.process ≡ g2.process) → (serving w h.process).name ≡ (serving v g.process).name
+retried-named v v2 w g g2 h name op block (Ok step) shape asked is same_service same_bytes =
+    asked-name v.shape name op (serving v g.process) (serving w h.process) (Ok step) (asked.0
+    ∙ ap₂ (λ (s : Dimensions) (x : Process). retry_block s block (oldest_inherited x (range_with_len 0 s.k)) x) (sym shape) (sym asked.1) ∙ is) tt
+retried-named v v2 w g g2 h name op block (Err e) shape asked is same_service same_bytes =
+    ap (λ (p : Process). p.name) (ap₂ serving same_service same_bytes ∙ asked.1)

@@ -1,4 +1,4 @@
-use Rattle.std.proofs.Common.{◌⊎◌, inr, Result, Ok, Err, OnErr, ap, subst}
+use Rattle.std.proofs.Common.{◌∙◌, ◌⊎◌, inr, Result, Ok, Err, OnErr, ap, subst}
 use Rattle.group_types.specs.Dimensions.{Dimensions}
 use Rattle.group_run.specs.Asking.{CallStep}
 use Rattle.group_run.specs.Process.{Process}
@@ -9,7 +9,7 @@ use Rattle.process_service.specs.Steps.{IsCallAsked}
 use Rattle.process_service.specs.Standing.{Standing}
 use Rattle.process_service.specs.Wanting.{AskWants}
 use Rattle.parity_process.specs.Opening.{CallOpens, Opens}
-use Rattle.parity_process.proofs.Standing.{asked-ready, retried-ready}
+use Rattle.parity_process.proofs.Standing.{asked-ready, retried-named, retried-ready}
 use Rattle.parity_process.proofs.process.ParityProcessGroupProcess.ask.Goals as goal
 
 pub invariant_of-self-in-Done : goal.invariant_of-self-in-Done
@@ -51,3 +51,14 @@ returns-in-Need-clause-wanted c =
       subst (λ (x : Dimensions). Opens x c.in-Need.block p) c.ask.ensures.grows.shape
           (subst (λ (x : Process). Opens c.ask.new.self.shape c.in-Need.block x) asked.1 opens),
     ))) c.retry.ensures.wanted
+
+pub returns-in-Need-clause-name : goal.returns-in-Need-clause-name
+returns-in-Need-clause-name c =
+    retried-named c.self.inside.service c.ask.new.self c.retry.new.service c.self.inside.bytes c.ask.new.below
+    c.retry.new.bytes (name_of_call c.args.call) c.args.op.now
+    c.in-Need.block c.retry.result c.ask.ensures.grows.shape
+    (subst (λ (asked : Asking). IsCallAsked c.self.inside.service.shape (name_of_call c.args.call) c.args.op.now
+    (serving c.self.inside.service c.self.inside.bytes.process) asked
+    (serving c.ask.new.self c.ask.new.below.process)) c.in-Need.is c.in_ok-step.ensures.asked)
+    c.retry.ensures.step c.retry.ensures.service_err c.retry.ensures.bytes_err
+    ∙ ap (λ (p : Standing). p.process.name) c.self.view_is
