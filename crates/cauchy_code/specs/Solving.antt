@@ -52,7 +52,7 @@ start_sum w rows known at = bit_xor (pieces_sum 2 (slice_index w.rows) rows at) 
 abbrev pub IsAdded : (ℕ → ℕ) → List Piece → ℕ → ℕ → List ℕ → List ℕ → Type 0
 IsAdded weights pieces from at old new =
     (k x : ℕ) → k < length old → slice_index old k ≡ bit_xor x (pieces_sum from weights pieces (at + k))
-      → slice_index new k ≡ bit_xor x (pieces_sum (length pieces) weights pieces (at + k))
+    → slice_index new k ≡ bit_xor x (pieces_sum (length pieces) weights pieces (at + k))
 
 -- n bytes that are these sums
 pub record IsSum (n : ℕ) (w : Weights) (rows known : List Piece) (bytes : List ℕ) : Type 0 where

@@ -22,7 +22,7 @@ put_text key value = codes "{\"request_put\":{\"key\":\"" ++ (base64_text key ++
 abbrev pub leased_put_text : List ℕ → List ℕ → ℕ → List ℕ
 leased_put_text key value lease =
     codes "{\"request_put\":{\"key\":\"" ++ (base64_text key ++ (codes "\",\"value\":\"" ++ (base64_text value ++ (codes "\",\"lease\":"
-      ++ (decimal lease ++ codes "}}")))))
+    ++ (decimal lease ++ codes "}}")))))
 
 -- that a key changed last at a revision, and that one isn't there, as comparisons of a transaction
 abbrev pub unchanged_text : List ℕ → ℕ → List ℕ
@@ -36,15 +36,15 @@ absent_text key = codes "{\"key\":\"" ++ (base64_text key ++ codes "\",\"target\
 abbrev pub register_text : ℕ → List ℕ → List ℕ → List ℕ → List ℕ
 register_text lease alive seen value =
     codes "{\"compare\":["
-      ++ (absent_text alive
-      ++ (codes "],\"success\":["
-      ++ (leased_put_text alive value lease ++ (codes "," ++ (put_text seen value ++ codes "]}")))))
+    ++ (absent_text alive
+    ++ (codes "],\"success\":["
+    ++ (leased_put_text alive value lease ++ (codes "," ++ (put_text seen value ++ codes "]}")))))
 
 abbrev pub condemn_text : List ℕ → ℕ → List ℕ → List ℕ → List ℕ
 condemn_text dead revision value alive =
     codes "{\"compare\":["
-      ++ (unchanged_text dead revision
-      ++ (codes "," ++ (absent_text alive ++ (codes "],\"success\":[" ++ (put_text dead value ++ codes "]}")))))
+    ++ (unchanged_text dead revision
+    ++ (codes "," ++ (absent_text alive ++ (codes "],\"success\":[" ++ (put_text dead value ++ codes "]}")))))
 
 -- what is asked, as JSON
 abbrev pub body_text : Ask → List ℕ
@@ -70,9 +70,9 @@ path_of (Watch from to) = codes "/v3/watch"
 abbrev pub post_text : List ℕ → List ℕ → ℕ → List ℕ → List ℕ
 post_text path host n body =
     codes "POST "
-      ++ (path ++ (codes " HTTP/1.0\r\nHost: "
-      ++ (host ++ (codes "\r\nContent-Type: application/json\r\nContent-Length: "
-      ++ (decimal n ++ (codes "\r\n\r\n" ++ body))))))
+    ++ (path ++ (codes " HTTP/1.0\r\nHost: "
+    ++ (host ++ (codes "\r\nContent-Type: application/json\r\nContent-Length: "
+    ++ (decimal n ++ (codes "\r\n\r\n" ++ body))))))
 
 abbrev pub request_text : List ℕ → Ask → List ℕ
 request_text host ask = post_text (path_of ask) host (length (body_text ask)) (body_text ask)

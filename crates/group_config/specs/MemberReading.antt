@@ -30,8 +30,17 @@ behind_members word ms group shape members =
     check key.Groups (groups_in ms) (λ groups.
     check key.Base (bases_in groups shape ms) (λ base.
     if all_among settings_keys ms
-    then Ok (record { group = group; shape = shape; members = members; own = own; order = order; patience = patience;
-        one_word = one_word; groups = groups; base = base })
+    then Ok (record {
+      group = group;
+      shape = shape;
+      members = members;
+      own = own;
+      order = order;
+      patience = patience;
+      one_word = one_word;
+      groups = groups;
+      base = base;
+    })
     else Err key.Unknown))))))
 
 -- what a document gives: the first key whose check fails, or settings

@@ -43,7 +43,7 @@ module _ {M : Type 0} (watched : M → MemberSettings → WatchSettings → Memb
   abbrev pub HasWatched : Option (List ℕ) → Input → Input → Result MemberRun MemberStop → Type 0
   HasWatched name before now (Ok run) =
       (settings : MemberSettings) × (watch : WatchSettings) × HasGivenWatch name before now settings watch
-        × (run.own ≡ settings.own) × watched m settings watch run.end m_now
+      × (run.own ≡ settings.own) × watched m settings watch run.end m_now
   HasWatched name before now (Err stop) = IsGivenWatchOr name before now (Err stop) × (m_now ≡ m)
 
   -- a member was watched by the settings that were read, or none was, and how that ended was told

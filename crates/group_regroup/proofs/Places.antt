@@ -29,7 +29,7 @@ told-get bases k era l p [] zero d is = absurd (none-some d is)
 told-get bases k era l p [] (suc i) d is = absurd (none-some d is)
 told-get bases k era l p (x ∷ xs) zero d is =
     let here : p ≡ p + 0 =
-        omega arith in ap (option_map (λ y. (era, entry_of_era bases k l p y))) is ∙ ap (λ (n : ℕ). Some (era, entry_of_era bases k l n d)) here
+    omega arith in ap (option_map (λ y. (era, entry_of_era bases k l p y))) is ∙ ap (λ (n : ℕ). Some (era, entry_of_era bases k l n d)) here
 told-get bases k era l p (x ∷ xs) (suc i) d is =
     let there : suc p + i ≡ p + suc i = omega arith in told-get bases k era l (suc p) xs i d is ∙ ap (λ (n : ℕ). Some (era, entry_of_era bases k l n d)) there
 

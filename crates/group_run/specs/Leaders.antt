@@ -98,8 +98,11 @@ row_comes s number i bytes p = with_leader (row_gathered s i bytes (open_session
 abbrev pub row_finished : Bool → Dimensions → Copy → Process → ProcessStep
 row_finished true s copy p = quiet (row_comes s copy.number copy.leader copy.bytes p)
 row_finished false s copy p =
-    sending (record { to = ParityNode copy.leader; message = tells.Row (session_of copy.leader copy.number) copy.bytes
-    (marks_of s copy) } ∷ []) p
+    sending (record {
+      to = ParityNode copy.leader;
+      message = tells.Row (session_of copy.leader copy.number) copy.bytes
+          (marks_of s copy);
+    } ∷ []) p
 
 -- a copy that was marked is finished, or waits for its other marks
 abbrev pub copy_kept : Bool → Dimensions → Copy → Process → ProcessStep
@@ -160,8 +163,11 @@ new_session s number block p = record {
 -- the leader with a session more
 abbrev pub session_opened : Dimensions → ℕ → ℕ → Process → Process
 session_opened s number block p =
-    with_leader (record p.as_leader { last_session = number; sessions = p.as_leader.sessions
-    ++ new_session s number block p ∷ [] }) p
+    with_leader (record p.as_leader {
+      last_session = number;
+      sessions = p.as_leader.sessions
+          ++ new_session s number block p ∷ [];
+    }) p
 
 -- a leader marks a lost partition in its own row
 abbrev pub own_mark : Dimensions → ℕ → ℕ → ℕ → ℕ → Process → ProcessStep

@@ -49,7 +49,7 @@ updates_from k d t runs [] = []
 updates_from k d t runs (e ∷ es) =
     let u : Contents = table_after t e.op in
     front_if (is_update_of k d e) (record { entry = e; run = next_run runs; item = u.items (key_of e.op.act) })
-        (updates_from k d u (runs_left (is_update_of k d e) runs) es)
+    (updates_from k d u (runs_left (is_update_of k d e) runs) es)
 
 -- the updates of a partition: the n-th has the number n
 abbrev pub updates_of : World → ℕ → List Logged

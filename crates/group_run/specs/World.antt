@@ -352,7 +352,7 @@ step w e =
     let t : GroupStep = group_step w e in
     let tickets : List Ticket = tickets_after (length w.log) (call_of w e) t.answer w.tickets in
     let ledger : Ledger = ledger_after tickets t.settled (range_with_len 0 w.shape.k)
-      (record { logged = logged_at_once (call_of w e) t.answer; places = w.places }) in
+    (record { logged = logged_at_once (call_of w e) t.answer; places = w.places }) in
     record {
       world = record {
         shape = w.shape;

@@ -83,8 +83,10 @@ call_given_up events caller (Some opened) = given_up events caller opened opened
 abbrev pub made_by : Composed → Action → List Made
 made_by c (Treat p place) = stands_if (c.failed p) (request_made c.group p (parked_at c.group p place))
 made_by c (Collect caller call p) = stands_if (c.failed p)
-    (record { event = event.Collect caller call p;
-      answer = (collect_from caller call (c.group.works.process p) (range_with_len 0 c.group.shape.k)).answer } ∷ [])
+    (record {
+      event = event.Collect caller call p;
+      answer = (collect_from caller call (c.group.works.process p) (range_with_len 0 c.group.shape.k)).answer;
+    } ∷ [])
 made_by c (Flush p) = stands_if (c.failed p) (record { event = event.Flush p; answer = says.Done } ∷ [])
 made_by c (Receive x p) = stands_if (c.failed p) (message_made x p (c.group.works.messages x p))
 made_by c (Take x p) = stands_if (c.failed p) (record { event = event.Deliver x p; answer = says.Done } ∷ [])

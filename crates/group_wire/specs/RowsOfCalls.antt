@@ -15,11 +15,11 @@ abbrev pub nobody_fails_actions : List Action
 nobody_fails_actions =
     Begin 1 (op (act.Append (113 ∷ 49 ∷ []) (50 ∷ []))) ∷ Send 1 d1 ∷ Begin 170 (op (act.Get (113 ∷ 48 ∷ []))) ∷ Send 170 d0 ∷ Read p0 d0 ∷ Treat d0 0 ∷
     Read d0 d1 ∷ Treat d1 0 ∷ Learn d1 d0 ∷ Ping everybody d0 ∷ Learn d0 p0 ∷ Ping everybody p0 ∷ Pong d0 d1
-      ∷ Pong p0 d1 ∷ Count d1 p0 ∷ Show 170 0 ∷ Count d1 d0 ∷
+    ∷ Pong p0 d1 ∷ Count d1 p0 ∷ Show 170 0 ∷ Count d1 d0 ∷
     Show 1 0 ∷ Pong d0 p0 ∷ Pong p0 d0 ∷ Begin 170 (op (act.Delete (113 ∷ 49 ∷ []))) ∷ Send 170 d1 ∷ Count d0 p0 ∷ Read p0 d1 ∷ Treat d1 0 ∷
     Begin 1 (op (act.Get (113 ∷ 48 ∷ []))) ∷ Send 1 d0 ∷ Read d0 d0 ∷ Treat d0 0 ∷ Learn d0 d0 ∷ Ping everybody d0 ∷ Begin 85 (op (act.Get (113 ∷ 49 ∷ []))) ∷
     Send 85 d1 ∷ Read d1 d1 ∷ Treat d1 0 ∷ Learn d1 d1 ∷ Ping everybody d1 ∷ Count p0 d0 ∷ Learn d1 p0
-      ∷ Ping everybody p0 ∷ Pong d1 p0 ∷ Pong p0 d0 ∷ Pong d0 p0 ∷
+    ∷ Ping everybody p0 ∷ Pong d1 p0 ∷ Pong p0 d0 ∷ Pong d0 p0 ∷
     Count d0 p0 ∷ Show 170 1 ∷ Pong p0 d1 ∷ Count d1 p0 ∷ Pong d1 d0 ∷ Count p0 d1 ∷ Show 85 0 ∷ Count p0 d0 ∷ Show 1 1 ∷ Pong d0 d1 ∷ Count d0 d1 ∷ []
 
 abbrev pub NobodyFails : Type 0
@@ -48,7 +48,7 @@ TwoParitiesNobodyFails = ScheduleRow (small 1 2) two_parities_nobody_fails_actio
 abbrev pub a_head_fails_actions : List Action
 a_head_fails_actions =
     Begin 0 (op (act.Incr (113 ∷ 48 ∷ []) 1)) ∷ Send 0 d0 ∷ Read d0 d0 ∷ Treat d0 0 ∷ Learn d0 d0 ∷ Ping everybody d0
-      ∷ Begin 129 (op (act.Get (113 ∷ 50 ∷ []))) ∷
+    ∷ Begin 129 (op (act.Get (113 ∷ 50 ∷ []))) ∷
     Send 129 d0 ∷ Pong d0 p0 ∷ Flush p0 ∷ Read p0 d0 ∷ Treat d0 0 ∷ Count p0 d0 ∷ Show 0 0 ∷ Learn d0 p0 ∷ Ping everybody p0 ∷
     Begin 1 (op (act.Get (113 ∷ 49 ∷ []))) ∷ Send 1 d0 ∷ Read d0 d0 ∷ Treat d0 0 ∷ Learn d0 d0 ∷ Ping everybody d0 ∷ Pong d0 p0 ∷ Pong p0 d0 ∷ Count p0 d0 ∷
     Show 1 1 ∷ Count d0 p0 ∷ Show 129 0 ∷ Begin 129 (op (act.Incr (113 ∷ 48 ∷ []) 1)) ∷ Send 129 d0 ∷ Read p0 d0 ∷ Cut d0 p0 ∷ Say p0 ∷
@@ -70,7 +70,7 @@ a_parity_fails_actions =
     Begin 0 (op (act.Delete (113 ∷ 49 ∷ []))) ∷ Send 0 d0 ∷ Read d0 d0 ∷ Treat d0 0 ∷ Learn d0 d0 ∷ Ping everybody d0 ∷
     Begin 1 (op (act.Set (113 ∷ 48 ∷ []) 0 (pos 0) (50 ∷ 49 ∷ []))) ∷ Send 1 d0 ∷ Read d0 d0 ∷ Treat d0 0 ∷ Pong d0 p0 ∷ Receive d0 p0 ∷ Count p0 d0 ∷
     Show 0 0 ∷ Begin 129 (op (act.Set (113 ∷ 48 ∷ []) 5 (pos 0) (48 ∷ 50 ∷ []))) ∷ Send 129 d0 ∷ Receive p0 d0
-      ∷ Collect 1 0 d0 ∷ Learn d0 d0 ∷ Ping everybody d0 ∷
+    ∷ Collect 1 0 d0 ∷ Learn d0 d0 ∷ Ping everybody d0 ∷
     Pong d0 p0 ∷ Begin 0 (op (act.Set (113 ∷ 49 ∷ []) 5 (pos 0) (49 ∷ 48 ∷ []))) ∷ Send 0 d0 ∷ Read d0 d0 ∷ Treat d0 0 ∷ Receive d0 p0 ∷ Read p0 d0 ∷
     Treat d0 0 ∷ Receive d0 p0 ∷ Begin 128 (op (act.Set (113 ∷ 48 ∷ []) 5 (pos 0) (51 ∷ 50 ∷ []))) ∷ Send 128 d0 ∷ Count p0 d0 ∷ Show 1 1 ∷
     Receive p0 d0 ∷ Collect 0 1 d0 ∷ Learn d0 d0 ∷ Ping everybody d0 ∷ Receive p0 d0 ∷ Collect 129 0 d0 ∷ Read p0 d0 ∷ Treat d0 0 ∷
@@ -80,7 +80,7 @@ a_parity_fails_actions =
     Read d0 d0 ∷ Treat d0 0 ∷ Learn d0 d0 ∷ Ping everybody d0 ∷ Show 0 4 ∷ Begin 0 (op (act.Set (113 ∷ 48 ∷ []) 0 (pos 0) (50 ∷ 50 ∷ 51 ∷ []))) ∷ Send 0 d0 ∷
     Read d0 d0 ∷ Treat d0 0 ∷ Learn d0 d0 ∷ Ping everybody d0 ∷ Show 0 5 ∷ Begin 0 (op (act.Get (113 ∷ 48 ∷ []))) ∷ Send 0 d0 ∷ Read d0 d0 ∷ Treat d0 0 ∷
     Learn d0 d0 ∷ Ping everybody d0 ∷ Show 0 6 ∷ Begin 0 (op (act.Delete (113 ∷ 49 ∷ []))) ∷ Send 0 d0 ∷ Read d0 d0
-      ∷ Treat d0 0 ∷ Learn d0 d0 ∷ Ping everybody d0 ∷
+    ∷ Treat d0 0 ∷ Learn d0 d0 ∷ Ping everybody d0 ∷
     Show 0 7 ∷ Send 1 d0 ∷ Read d0 d0 ∷ Treat d0 0 ∷ Learn d0 d0 ∷ Ping everybody d0 ∷ Show 1 8 ∷ []
 
 abbrev pub AParityFails : Type 0

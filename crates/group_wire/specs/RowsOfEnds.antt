@@ -42,7 +42,7 @@ programs_end_actions =
     Begin 1 (op (act.Set (113 ∷ 48 ∷ []) 0 (pos 0) (50 ∷ 51 ∷ 50 ∷ []))) ∷ Send 1 d0 ∷ Read d0 d0 ∷ Treat d0 0 ∷ Read p0 d0 ∷ Treat d0 0 ∷ Read p0 d0 ∷
     Treat d0 0 ∷ Receive p0 d0 ∷ Collect 0 0 d0 ∷ Learn d0 d0 ∷ Ping everybody d0 ∷ Flush d0 ∷ Cut p0 d0 ∷ Say d0 ∷ Permit d0 ∷ Take p0 d0 ∷ Collect 1 0 d0 ∷
     Learn d0 d0 ∷ Ping everybody d0 ∷ Show 0 0 ∷ Show 1 1 ∷ Begin 0 (op (act.Get (113 ∷ 49 ∷ []))) ∷ Send 0 d0
-      ∷ Read d0 d0 ∷ Treat d0 0 ∷ Learn d0 d0 ∷ Ping everybody d0 ∷
+    ∷ Read d0 d0 ∷ Treat d0 0 ∷ Learn d0 d0 ∷ Ping everybody d0 ∷
     Show 0 2 ∷ Begin 1 (op (act.Incr (113 ∷ 48 ∷ []) 7)) ∷ Send 1 d0 ∷ Read d0 d0 ∷ Treat d0 0 ∷ Learn d0 d0 ∷ Ping everybody d0 ∷ Show 1 3 ∷
     Begin 0 (op (act.Set (113 ∷ 48 ∷ []) 0 (pos 0) (49 ∷ []))) ∷ Send 0 d0 ∷ Read d0 d0 ∷ Treat d0 0 ∷ Learn d0 d0 ∷ Ping everybody d0 ∷ Show 0 4 ∷
     Begin 1 (op (act.Get (113 ∷ 49 ∷ []))) ∷ Send 1 d0 ∷ Read d0 d0 ∷ Treat d0 0 ∷ Learn d0 d0 ∷ Ping everybody d0 ∷ Show 1 5 ∷
@@ -77,7 +77,7 @@ kept_of_a_failed_gateway_actions =
     Count p0 d1 ∷ Begin 85 (op (act.Set (113 ∷ 50 ∷ []) 5 (pos 0) (50 ∷ 50 ∷ 48 ∷ []))) ∷ Send 85 d0 ∷ Read d1 d0 ∷ Treat d0 1 ∷
     Begin 86 (op (act.Get (113 ∷ 52 ∷ []))) ∷ Send 86 d0 ∷ Count p0 d1 ∷ Say p0 ∷ Count p0 d1 ∷ Hear p0 d1 ∷ Cut d0 d1 ∷ Read d1 d0 ∷ Treat d0 1 ∷
     Say d1 ∷ Hear d1 p0 ∷ Permit p0 ∷ Take d0 p0 ∷ GiveUp 170 ∷ GiveUp 171 ∷ Send 170 p0 ∷ Read p0 p0 ∷ Treat p0 0
-      ∷ Learn p0 p0 ∷ Ping everybody p0 ∷ Show 170 0 ∷
+    ∷ Learn p0 p0 ∷ Ping everybody p0 ∷ Show 170 0 ∷
     Pong p0 d1 ∷ Permit d1 ∷ Take d0 d1 ∷ GiveUp 85 ∷ GiveUp 86 ∷ Count d1 p0 ∷ Treat d1 0 ∷ []
 
 abbrev pub KeptOfAFailedGateway : Type 0

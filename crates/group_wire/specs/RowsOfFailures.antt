@@ -48,7 +48,7 @@ abbrev pub nobody_is_dead_actions : List Action
 nobody_is_dead_actions =
     Begin 51 (op (act.Incr (113 ∷ 50 ∷ []) 7)) ∷ Send 51 d2 ∷ Read d1 d2 ∷ Treat d2 0 ∷ Begin 204 (op (act.Append (113 ∷ 50 ∷ []) (50 ∷ []))) ∷
     Send 204 d2 ∷ Read p1 d2 ∷ Treat d2 0 ∷ Learn d2 d1 ∷ Ping everybody d1
-      ∷ Begin 154 (op (act.Incr (113 ∷ 56 ∷ []) 7)) ∷ Send 154 d0 ∷ Pong d1 p1 ∷ Read p0 d0 ∷
+    ∷ Begin 154 (op (act.Incr (113 ∷ 56 ∷ []) 7)) ∷ Send 154 d0 ∷ Pong d1 p1 ∷ Read p0 d0 ∷
     Begin 205 (op (act.Get (113 ∷ 48 ∷ []))) ∷ Send 205 d1 ∷ Begin 153 (op (act.Set (113 ∷ 52 ∷ []) 5 (pos 0) (50 ∷ []))) ∷ Send 153 d2 ∷
     Begin 52 (op (act.Incr (113 ∷ 55 ∷ []) 7)) ∷ Send 52 d2 ∷ Pong d1 d0 ∷ Read p0 d2 ∷ Treat d2 0 ∷ Count d0 d1 ∷ Count p1 d1 ∷ Show 51 0 ∷
     Begin 103 (op (act.Set (113 ∷ 54 ∷ []) 5 (pos 0) (48 ∷ 50 ∷ 48 ∷ []))) ∷ Send 103 d0 ∷ Read d2 d0 ∷ Pong d1 d2 ∷
@@ -83,7 +83,7 @@ heads_are_condemned_actions =
     Learn d0 d0 ∷ Count p0 d0 ∷ Receive p0 d0 ∷ Collect 85 0 d0 ∷ Cut d0 d1 ∷ Say d1 ∷ Receive d1 p0 ∷ Send 0 d0 ∷ Read d0 d0 ∷ Treat d0 0 ∷
     Receive p0 d1 ∷ Collect 170 0 d1 ∷ Receive d0 p0 ∷ Cut d0 p0 ∷ Read p0 d0 ∷ Treat d0 0 ∷ Receive p0 d0 ∷ Collect 86 0 d0 ∷ Say p0 ∷ Hear d1 p0 ∷
     Permit p0 ∷ Take d0 p0 ∷ GiveUp 171 ∷ Learn d1 p0 ∷ Ping everybody p0 ∷ Show 170 0 ∷ Receive p0 d0 ∷ Collect 0 1 d0
-      ∷ Learn d0 d0 ∷ Ping everybody d0 ∷ Send 171 p0 ∷
+    ∷ Learn d0 d0 ∷ Ping everybody d0 ∷ Send 171 p0 ∷
     Read p0 p0 ∷ Treat p0 0 ∷ Learn p0 p0 ∷ Hear p0 d1 ∷ Permit d1 ∷ Take d0 d1 ∷ GiveUp 85 ∷ GiveUp 86 ∷ Send 1 d0 ∷ Read d0 d0 ∷ Treat d0 0 ∷
     Send 171 p0 ∷ Read p0 p0 ∷ Treat p0 0 ∷ Learn p0 p0 ∷ Pong p0 d1 ∷ Send 86 p0 ∷ Receive p0 d1 ∷ Count d1 p0 ∷ Read d1 p0 ∷ Treat p0 0 ∷
     Begin 170 (op (act.Set (113 ∷ 50 ∷ []) 5 (pos 0) (51 ∷ []))) ∷ Send 170 p0 ∷ Read p0 p0 ∷ Treat p0 0 ∷ Learn p0 p0 ∷ Send 85 p0 ∷ Flush p0 ∷
@@ -92,10 +92,10 @@ heads_are_condemned_actions =
     Begin 85 (op (act.Delete (113 ∷ 51 ∷ []))) ∷ Send 85 d1 ∷ Read d1 d1 ∷ Treat d1 0 ∷ Learn d1 d1 ∷ Ping everybody d1 ∷ Show 85 2 ∷ Pong d1 p0 ∷ Count p0 d1 ∷
     Read d1 p0 ∷ Treat p0 0 ∷ Pong d1 p0 ∷ Begin 85 (op (act.Append (113 ∷ 51 ∷ []) (50 ∷ []))) ∷ Send 85 d1 ∷ Read d1 d1 ∷ Treat d1 0 ∷ Learn d1 d1 ∷
     Ping everybody d1 ∷ Show 85 3 ∷ Send 170 p0 ∷ Read p0 p0 ∷ Treat p0 0 ∷ Learn p0 p0 ∷ Ping everybody p0 ∷ Show 170 1
-      ∷ Pong d1 p0 ∷ Pong d1 p0 ∷ Learn p0 d1 ∷ Ping everybody d1 ∷
+    ∷ Pong d1 p0 ∷ Pong d1 p0 ∷ Learn p0 d1 ∷ Ping everybody d1 ∷
     Show 86 4 ∷ Begin 86 (op (act.Set (113 ∷ 48 ∷ []) 0 (pos 0) (51 ∷ 49 ∷ []))) ∷ Send 86 p0 ∷ Pong d1 p0 ∷ Begin 85 (op (act.Delete (113 ∷ 51 ∷ []))) ∷
     Send 85 d1 ∷ Read d1 d1 ∷ Treat d1 0 ∷ Learn d1 d1 ∷ Ping everybody d1 ∷ Show 85 5
-      ∷ Begin 170 (op (act.Set (113 ∷ 49 ∷ []) 0 (pos 0) (48 ∷ 51 ∷ 50 ∷ []))) ∷
+    ∷ Begin 170 (op (act.Set (113 ∷ 49 ∷ []) 0 (pos 0) (48 ∷ 51 ∷ 50 ∷ []))) ∷
     Send 170 d1 ∷ Count p0 d1 ∷ Read d1 p0 ∷ Treat p0 0 ∷ Pong p0 d1 ∷ Count p0 d1 ∷ Flush p0 ∷ Pong d1 p0 ∷ []
 
 abbrev pub HeadsAreCondemned : Type 0

@@ -42,7 +42,7 @@ a_lost_ask_actions =
     Begin 171 (op (act.Delete (113 ∷ 48 ∷ []))) ∷ Send 171 d0 ∷ Pong d1 p0 ∷ Begin 85 (op (act.Incr (113 ∷ 48 ∷ []) 7)) ∷ Send 85 d0 ∷ Read p0 d0 ∷
     Cut d1 d0 ∷ Count p0 d1 ∷ Show 86 0 ∷ Flush d1 ∷ Say d0 ∷ Receive d1 p0 ∷ Hear d0 p0 ∷ Cut d1 p0 ∷ Say p0 ∷ Treat d0 0 ∷
     Begin 0 (op (act.Get (113 ∷ 48 ∷ []))) ∷ Send 0 d0 ∷ Read d0 d0 ∷ Treat d0 1 ∷ Learn d0 d0 ∷ Ping everybody d0
-      ∷ Learn d0 p0 ∷ Ping everybody p0 ∷ Hear p0 d0 ∷
+    ∷ Learn d0 p0 ∷ Ping everybody p0 ∷ Hear p0 d0 ∷
     Pong p0 d0 ∷ Permit d0 ∷ Take d1 d0 ∷ Show 0 0 ∷ Begin 86 (op (act.Set (113 ∷ 49 ∷ []) 0 (pos 0) (50 ∷ 51 ∷ []))) ∷ Send 86 d1 ∷ Read d1 d1 ∷
     Treat d1 0 ∷ Pong d0 p0 ∷ Count d0 p0 ∷ Show 170 1 ∷ Begin 170 (op (act.Delete (113 ∷ 49 ∷ []))) ∷ Send 170 d1 ∷
     Begin 0 (op (act.Append (113 ∷ 48 ∷ []) (50 ∷ []))) ∷ Send 0 d0 ∷ Read d0 d0 ∷ Treat d0 1 ∷ Learn d0 d0 ∷ Ping everybody d0 ∷ Show 0 1 ∷ Pong d0 p0 ∷
@@ -63,10 +63,10 @@ shown_by_a_failed_one_actions =
     Learn d1 d1 ∷ Ping everybody d1 ∷ Pong d1 p0 ∷ Begin 170 (op (act.Set (113 ∷ 50 ∷ []) 0 (pos 0) (51 ∷ []))) ∷ Send 170 d0 ∷
     Begin 171 (op (act.Incr (113 ∷ 48 ∷ []) 7)) ∷ Send 171 d0 ∷ Read p0 d0 ∷ Treat d0 0 ∷ Begin 86 (op (act.Append (113 ∷ 49 ∷ []) (50 ∷ []))) ∷
     Send 86 d1 ∷ Read d1 d1 ∷ Treat d1 0 ∷ Learn d1 d1 ∷ Ping everybody d1 ∷ Read p0 d0 ∷ Treat d0 0
-      ∷ Begin 0 (op (act.Set (113 ∷ 48 ∷ []) 0 (pos 0) (50 ∷ []))) ∷
+    ∷ Begin 0 (op (act.Set (113 ∷ 48 ∷ []) 0 (pos 0) (50 ∷ []))) ∷
     Send 0 d0 ∷ Read d0 d0 ∷ Treat d0 0 ∷ Pong d1 p0 ∷ Cut d1 p0 ∷ Cut d1 d0 ∷ Flush p0 ∷ Receive d0 p0 ∷ Say d0 ∷ Say p0 ∷ Read d0 d1 ∷ Treat d1 0 ∷
     Learn d0 p0 ∷ Ping everybody p0 ∷ Count p0 d1 ∷ Show 85 0 ∷ Receive p0 d0 ∷ Collect 170 0 d0 ∷ Hear p0 d0
-      ∷ Permit d0 ∷ Take d1 d0 ∷ GiveUp 1 ∷ Count p0 d1 ∷
+    ∷ Permit d0 ∷ Take d1 d0 ∷ GiveUp 1 ∷ Count p0 d1 ∷
     Show 86 1 ∷ Begin 85 (op (act.Get (113 ∷ 49 ∷ []))) ∷ Send 85 d1 ∷ Read d1 d1 ∷ Treat d1 0 ∷ Learn d1 d1 ∷ Ping everybody d1 ∷
     Begin 86 (op (act.Set (113 ∷ 50 ∷ []) 5 (pos 0) (50 ∷ 49 ∷ 51 ∷ []))) ∷ Send 86 d0 ∷ Pong p0 d0 ∷ Receive d0 p0 ∷ Receive p0 d0 ∷ Collect 0 0 d0 ∷
     Learn d0 d0 ∷ Ping everybody d0 ∷ Show 0 0 ∷ Hear d0 p0 ∷ Permit p0 ∷ Take d1 p0 ∷ Show 171 0 ∷ Learn d0 p0 ∷ Ping everybody p0 ∷ Show 170 1 ∷

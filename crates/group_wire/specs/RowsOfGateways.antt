@@ -21,7 +21,7 @@ a_read_is_asked_again_actions =
     Ping everybody p0 ∷ Say p0 ∷ Cut d1 d0 ∷ Pong d0 d1 ∷ Say d0 ∷ Count p0 d0 ∷ Show 0 0 ∷ Pong p0 d0 ∷ Hear p0 d0 ∷ Permit d0 ∷ Take d1 d0 ∷ GiveUp 1 ∷
     Hear d0 p0 ∷ Permit p0 ∷ Take d1 p0 ∷ Show 171 1 ∷ Count d0 p0 ∷ Begin 0 (op (act.Set (113 ∷ 48 ∷ []) 0 (pos 0) (51 ∷ 50 ∷ 51 ∷ []))) ∷ Send 0 d0 ∷
     Read d0 d0 ∷ Treat d0 0 ∷ Begin 170 (op (act.Get (113 ∷ 49 ∷ []))) ∷ Send 170 p0 ∷ Read p0 p0 ∷ Treat p0 0
-      ∷ Learn p0 p0 ∷ Ping everybody p0 ∷ Show 170 2 ∷ []
+    ∷ Learn p0 p0 ∷ Ping everybody p0 ∷ Show 170 2 ∷ []
 
 abbrev pub AReadIsAskedAgain : Type 0
 AReadIsAskedAgain = ScheduleRow (small 2 1) a_read_is_asked_again_actions
@@ -51,7 +51,7 @@ abbrev pub three_gateways_actions : List Action
 three_gateways_actions =
     Begin 1 (op (act.Append (113 ∷ 49 ∷ []) (50 ∷ []))) ∷ Send 1 d1 ∷ Begin 64 (op (act.Append (113 ∷ 48 ∷ []) (51 ∷ []))) ∷ Send 64 d0 ∷ Read d0 d1 ∷
     Treat d1 0 ∷ Read d1 d0 ∷ Treat d0 0 ∷ Learn d1 d0 ∷ Ping everybody d0 ∷ Pong d0 p0 ∷ Learn d0 d1
-      ∷ Ping everybody d1 ∷ Begin 193 (op (act.Get (113 ∷ 49 ∷ []))) ∷
+    ∷ Ping everybody d1 ∷ Begin 193 (op (act.Get (113 ∷ 49 ∷ []))) ∷
     Send 193 d1 ∷ Pong d1 d0 ∷ Cut d0 d1 ∷ Read p1 d1 ∷ Treat d1 0 ∷ Pong d1 p1 ∷ Learn d1 p1 ∷ Ping everybody p1 ∷ Pong p1 d0 ∷ Pong d1 p0 ∷ Count p0 d0 ∷
     Begin 65 (op (act.Delete (113 ∷ 48 ∷ []))) ∷ Send 65 d0 ∷ Pong p1 p0 ∷ Begin 192 (op (act.Incr (113 ∷ 49 ∷ []) 7)) ∷ Send 192 d1 ∷ Say d1 ∷
     Cut d0 p0 ∷ Count p0 p1 ∷ Hear d1 p1 ∷ Cut d0 p1 ∷ Begin 129 (op (act.Incr (113 ∷ 48 ∷ []) 7)) ∷ Send 129 d0 ∷ Hear d1 p0 ∷

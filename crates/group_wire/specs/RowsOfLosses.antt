@@ -18,7 +18,7 @@ a_block_is_rebuilt_actions =
     Begin 0 (op (act.Incr (113 ∷ 53 ∷ []) 7)) ∷ Send 0 d1 ∷ Begin 170 (op (act.Delete (113 ∷ 48 ∷ []))) ∷ Send 170 d0 ∷ Read d0 d1 ∷ Read d1 d0 ∷
     Treat d0 0 ∷ Begin 171 (op (act.Append (113 ∷ 49 ∷ []) (49 ∷ []))) ∷ Send 171 d1 ∷ Begin 1 (op (act.Append (113 ∷ 49 ∷ []) (50 ∷ []))) ∷ Send 1 d1 ∷
     Treat d1 0 ∷ Read d0 d1 ∷ Treat d1 0 ∷ Stop d0 ∷ Receive d0 p0 ∷ Receive p0 d1 ∷ Collect 85 0 d1 ∷ Learn d1 d1
-      ∷ Ping everybody d1 ∷ Read p0 d1 ∷ Treat d1 0 ∷
+    ∷ Ping everybody d1 ∷ Read p0 d1 ∷ Treat d1 0 ∷
     Pong d1 p0 ∷ Receive d1 p0 ∷ Cut d0 p0 ∷ Count p0 d1 ∷ Show 85 0 ∷ Receive p0 d1 ∷ Collect 171 0 d1 ∷ Learn d1 p0 ∷ Ping everybody p0 ∷ Cut d0 d1 ∷
     Pong p0 d1 ∷ Count d1 p0 ∷ Show 171 0 ∷ Begin 171 (op (act.Get (113 ∷ 52 ∷ []))) ∷ Send 171 d0 ∷ Begin 85 (op (act.Get (113 ∷ 48 ∷ []))) ∷
     Send 85 d0 ∷ Say p0 ∷ Hear p0 d1 ∷ Say d1 ∷ Flush d1 ∷ Hear d1 p0 ∷ Receive d1 p0 ∷ Permit p0 ∷ Take d0 p0 ∷ GiveUp 170 ∷ GiveUp 171 ∷ Send 170 p0 ∷

@@ -41,7 +41,7 @@ one_pong_too_few_actions =
     Begin 0 (op (act.Set (113 ∷ 48 ∷ []) 0 (pos 0) (48 ∷ []))) ∷ Send 0 d0 ∷ Read d0 d0 ∷ Treat d0 0 ∷ Receive d0 p0 ∷
     Begin 128 (op (act.Set (113 ∷ 48 ∷ []) 0 (pos 0) (51 ∷ 51 ∷ 48 ∷ []))) ∷ Send 128 d0 ∷ Begin 129 (op (act.Get (113 ∷ 49 ∷ []))) ∷ Send 129 d0 ∷
     Begin 1 (op (act.Get (113 ∷ 49 ∷ []))) ∷ Send 1 d0 ∷ Read d0 d0 ∷ Treat d0 0 ∷ Learn d0 d0 ∷ Ping everybody d0
-      ∷ Show 1 0 ∷ Pong d0 p0 ∷ Cut d0 p0 ∷ Say p0 ∷
+    ∷ Show 1 0 ∷ Pong d0 p0 ∷ Cut d0 p0 ∷ Say p0 ∷
     Begin 1 (op (act.Get (113 ∷ 48 ∷ []))) ∷ Send 1 d0 ∷ Read d0 d0 ∷ Treat d0 0 ∷ Learn d0 d0 ∷ Ping everybody d0 ∷ Show 1 1 ∷ Receive p0 d0 ∷ Collect 0 0 d0 ∷
     Learn d0 d0 ∷ Ping everybody d0 ∷ Show 0 2 ∷ Permit p0 ∷ Take d0 p0 ∷ GiveUp 128 ∷ GiveUp 129 ∷ Begin 0 (op (act.Incr (113 ∷ 49 ∷ []) 7)) ∷ Send 0 d0 ∷
     Read d0 d0 ∷ Treat d0 0 ∷ Learn d0 d0 ∷ Ping everybody d0 ∷ Show 0 3 ∷ []
@@ -67,7 +67,7 @@ more_than_m_actions =
     Begin 171 (op (act.Append (113 ∷ 48 ∷ []) (51 ∷ []))) ∷ Send 171 d0 ∷ Begin 170 (op (act.Append (113 ∷ 51 ∷ []) (51 ∷ []))) ∷ Send 170 d1 ∷
     Begin 1 (op (act.Set (113 ∷ 51 ∷ []) 5 (pos 0) (50 ∷ 51 ∷ 50 ∷ []))) ∷ Send 1 d1 ∷ Read p0 d0 ∷ Treat d0 0 ∷ Read d0 d1 ∷ Treat d1 0 ∷
     Receive d1 p0 ∷ Learn d0 p0 ∷ Ping everybody p0 ∷ Begin 85 (op (act.Incr (113 ∷ 48 ∷ []) 7)) ∷ Send 85 d0
-      ∷ Read d1 d0 ∷ Treat d0 0 ∷ Read p0 d1 ∷ Treat d1 0 ∷
+    ∷ Read d1 d0 ∷ Treat d0 0 ∷ Read p0 d1 ∷ Treat d1 0 ∷
     Learn d1 p0 ∷ Cut d1 d0 ∷ Receive p0 d1 ∷ Collect 1 0 d1 ∷ Say d0 ∷ Cut d0 d1 ∷ Pong p0 d0 ∷ Begin 0 (op (act.Delete (113 ∷ 48 ∷ []))) ∷ Send 0 d0 ∷
     Read d0 d0 ∷ Treat d0 0 ∷ Learn d0 d0 ∷ Ping everybody d0 ∷ Cut d0 p0 ∷ Pong p0 d1 ∷ Count d1 p0 ∷ Show 171 0 ∷
     Begin 171 (op (act.Set (113 ∷ 48 ∷ []) 5 (pos 0) (48 ∷ []))) ∷ Send 171 d0 ∷ Cut d1 p0 ∷ Send 170 d1 ∷ Say p0 ∷

@@ -28,8 +28,10 @@ sent_to_all cut wires p frames = changed wires p (λ q. one_or (cut p q) (wires 
 abbrev pub heard_first : ProcessId → ProcessId → List Processes → Words → Words
 heard_first q p [] words = words
 heard_first q p (set ∷ rest) words =
-    record words { said = changed_from words.said q p rest;
-    heard = changed_from words.heard p q (either (words.heard p q) set) }
+    record words {
+      said = changed_from words.said q p rest;
+      heard = changed_from words.heard p q (either (words.heard p q) set);
+    }
 
 -- the words after an action
 abbrev pub words_after : Words → Action → Words

@@ -58,11 +58,11 @@ decided s d h op r b = decide (space_of s) h.inherited r op (found_in s d b)
 abbrev pub AsksAreTheMachines : Type 0
 AsksAreTheMachines = (s : Dimensions) (v : Serving) (b : Process) (peers : Peers) (h : Head) (r : Replica) (name : CallName) (op : Asked)
     → ArePeers s v b peers → HeadsPartition v (home_of (key_of op.act) s.k) h r
-      → ((block : ℕ) → decided s (home_of (key_of op.act) s.k) h op r b ≢ NeedBlock block)
+    → ((block : ℕ) → decided s (home_of (key_of op.act) s.k) h op r b ≢ NeedBlock block)
     → ask_process s name op (serving v b)
     ≡ serving_step (home_of (key_of op.act) s.k)
-      (acts s (home_of (key_of op.act) s.k) peers h name op r (at [] v.held (home_of (key_of op.act) s.k)) b
-      (decided s (home_of (key_of op.act) s.k) h op r b)) v
+    (acts s (home_of (key_of op.act) s.k) peers h name op r (at [] v.held (home_of (key_of op.act) s.k)) b
+    (decided s (home_of (key_of op.act) s.k) h op r b)) v
 
 -- a head judges its acknowledgements
 abbrev pub JudgesAreTheMachines : Type 0

@@ -13,7 +13,12 @@ use partition_replica::Replica;
 use std::alloc::{AllocError, Global};
 
 /// The new head of a partition under a rank, which inherits what waits in the log.
-pub fn successor(alloc: Global, shape: Shape, rank: Rank, replica: &Replica) -> Result<Head, AllocError>
+pub fn successor(
+    alloc: Global,
+    shape: Shape,
+    rank: Rank,
+    replica: &Replica,
+) -> Result<Head, AllocError>
     ensures { IfOk result (λ head. head ≡ new_head shape rank.0 (last_of replica.now.replica)) }
 {
     Head::new(alloc, shape, rank, replica.last())

@@ -22,7 +22,7 @@ fails_in node (FailNode other keep ∷ es) = if other == node then true else fai
 abbrev pub DeadAreOnFailedNodes : Type 0
 DeadAreOnFailedNodes = (s : Dimensions) (n count : ℕ) (es : List ClusterEvent) → IsShape s → IsLayout s n count → MayAllHappen (opening_cluster s n count) es
     → (j q : ℕ) → j < count → q < s.k + s.m → is_dead (world_in (cluster_after (opening_cluster s n count) es).groups j)
-      (process_at s q) ≡ fails_in (node_of n j q) es
+    (process_at s q) ≡ fails_in (node_of n j q) es
 
 -- the event asks group j for a key of group i, which is another
 abbrev pub AsksAnother : Cluster → ClusterEvent → ℕ → Type 0

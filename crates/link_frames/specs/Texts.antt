@@ -82,7 +82,7 @@ abbrev pub act_table : List (ℕ × Read Act)
 act_table = (0, made_at asks.Get key_at) ∷ (1, item_at asks.Set) ∷ (2, item_at asks.Add) ∷ (3, item_at asks.Replace)
     ∷ (4, cas_at) ∷ (5, made_at asks.Delete key_at) ∷ (6, touch_at)
     ∷ (7, of_two asks.Append key_at value_at) ∷ (8, of_two asks.Prepend key_at value_at)
-      ∷ (9, of_two asks.Incr key_at (decode_number w64)) ∷ (10, of_two asks.Decr key_at (decode_number w64)) ∷ []
+    ∷ (9, of_two asks.Incr key_at (decode_number w64)) ∷ (10, of_two asks.Decr key_at (decode_number w64)) ∷ []
 
 unfoldable pub act_at : Read Act
 act_at = tagged_at act_table
@@ -130,7 +130,7 @@ answer_table = (0, made_at answers.Reply reply_at) ∷ (1, made_at answers.Ticke
     ∷ (2, given answers.NotYet) ∷ (3, given answers.NoSpace) ∷ (4, made_at answers.Retry cause_at)
     ∷ (5, given answers.Moved)
     ∷ (6, given answers.Lost) ∷ (7, given answers.Down) ∷ (8, given answers.Idle) ∷ (9, given answers.Stranger)
-      ∷ (10, given answers.Done) ∷ (11, given answers.AlreadyDead) ∷ (12, given answers.Gone)
+    ∷ (10, given answers.Done) ∷ (11, given answers.AlreadyDead) ∷ (12, given answers.Gone)
     ∷ (13, made_at answers.Stale (decode_number w64)) ∷ []
 
 unfoldable pub told_answer_at : Read Answer

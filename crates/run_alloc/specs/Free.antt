@@ -14,7 +14,7 @@ pub record AddressSpace : Type 0 where
 abbrev pub space_code : Coded AddressSpace
 space_code =
     code_by (ℕ × (set.FinSet nat_cmp × ℕ)) (coded× coded_ℕ (coded× (set.code coded_ℕ) coded_ℕ))
-        (λ s. (s.size, (s.free, s.spare))) (λ p. record { size = p.0; free = p.1.0; spare = p.1.1 }) (λ _. refl)
+    (λ s. (s.size, (s.free, s.spare))) (λ p. record { size = p.0; free = p.1.0; spare = p.1.1 }) (λ _. refl)
 
 -- whether the address is free
 abbrev pub is_free_address : AddressSpace → ℕ → Bool

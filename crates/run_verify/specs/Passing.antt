@@ -234,8 +234,8 @@ with_account s a = record { account = a; steps = s.steps; logging = s.logging }
 abbrev pub PassesEntry : Sheet → JudgingState → List ℕ → JudgingState → Type 0
 PassesEntry sheet s line next =
     MayLog s × (e : Entry) × (run : Option Run) × LineTellsEntry s.account line e
-        × IsToldRun (accepts e.reply) sheet s.account e run
-        × (next ≡ with_account s (account_after_entry sheet s.account e run))
+    × IsToldRun (accepts e.reply) sheet s.account e run
+    × (next ≡ with_account s (account_after_entry sheet s.account e run))
 
 -- behind the last line of a step
 abbrev pub on_to : Account → List Step → JudgingState

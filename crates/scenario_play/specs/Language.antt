@@ -24,5 +24,8 @@ group_scripts = record { transcript = transcript; verdict = verdict; Promise = K
 -- what a player's language is, by its lines: of a script that is played to its end, that no line was refused
 abbrev pub language_of : (List (List ℕ) → List ℕ) → (List (List ℕ) → Status) → Language
 language_of text verdict =
-    record { transcript = λ script. text (lines_of script); verdict = λ script. verdict (lines_of script);
-    Promise = λ script. verdict (lines_of script) ≡ Done }
+    record {
+      transcript = λ script. text (lines_of script);
+      verdict = λ script. verdict (lines_of script);
+      Promise = λ script. verdict (lines_of script) ≡ Done;
+    }

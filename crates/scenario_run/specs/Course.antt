@@ -21,8 +21,11 @@ LineRules S T F = Option S → List ℕ → Next S T F
 abbrev pub turns_of_lines : {S T F : Type 0} → LineRules S T F → Option S → List (List ℕ) → List T
 turns_of_lines rules state [] = []
 turns_of_lines rules state (line ∷ lines) =
-    elim (rules state line) [ Goes next turns text ↦ turns ++ turns_of_lines rules next lines | Ends ↦ [] | Refused
-    cause ↦ [] ]
+    elim (rules state line) [
+      | Goes next turns text ↦ turns ++ turns_of_lines rules next lines
+      | Ends ↦ []
+      | Refused cause ↦ []
+    ]
 
 -- what is written for these lines
 abbrev pub text_in : {S T F : Type 0} → LineRules S T F → Option S → List (List ℕ) → List ℕ
@@ -35,8 +38,11 @@ abbrev pub fault_in : {S T F : Type 0} → LineRules S T F → F → ℕ → Opt
 fault_in rules lacking n None [] = Some (record { number = n; cause = lacking })
 fault_in rules lacking n (Some p) [] = None
 fault_in rules lacking n state (line ∷ lines) =
-    elim (rules state line) [ Goes next turns text ↦ fault_in rules lacking (n + 1) next lines | Ends ↦ None | Refused
-    cause ↦ Some (record { number = n; cause = cause }) ]
+    elim (rules state line) [
+      | Goes next turns text ↦ fault_in rules lacking (n + 1) next lines
+      | Ends ↦ None
+      | Refused cause ↦ Some (record { number = n; cause = cause })
+    ]
 
 -- the state as it was first named
 abbrev pub named_in : {S T F : Type 0} → LineRules S T F → Option S → List (List ℕ) → Option S
