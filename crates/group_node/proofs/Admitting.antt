@@ -1,5 +1,5 @@
 -- What comes to a node is what can come to its process, by its role.
-use Rattle.std.proofs.Common.{ℕ, ◌≡◌, ◌↔◌, Bool, IsTrue, sym, ap, subst, ◌∙◌}
+use Rattle.std.proofs.Common.{ℕ, ◌≡◌, ◌↔◌, Bool, IsTrue, sym, ap, subst, ◌∙◌, Box, Global}
 use Rattle.group_types.specs.Dimensions.{Dimensions}
 use Rattle.group_types.specs.declared.process.ProcessId.{ProcessId}
 use Rattle.group_types.specs.declared.process.ProcessId.TheVariants.{DataNode, ParityNode}
@@ -59,7 +59,7 @@ unmarked (tells.Row session bytes stamp) kind = tt
 unmarked (tells.Cease upto) kind = tt
 unmarked (tells.Notice dead) kind = tt
 
-pub data-unmarked : (role : Role) (q seen : Standing) (m : Message) → standing_in role ≡ seen → IsNamed role
+pub data-unmarked : (role : Role) (q : Box Standing Global) (seen : Standing) (m : Message) → standing_in role ≡ seen → IsNamed role
     → role ≡ Data q → IsFor seen.process.name m → IsNoMark m
 data-unmarked role q seen m view named is kind =
     let name = subst IsNamed is named in
@@ -87,19 +87,21 @@ for-parity name i (tells.Row session bytes stamp) is = (
 for-parity name i (tells.Cease upto) is = (λ any. subst (λ (x : ProcessId). IsFor x (tells.Cease upto)) (sym is) tt, λ any. tt)
 for-parity name i (tells.Notice dead) is = (λ any. subst (λ (x : ProcessId). IsFor x (tells.Notice dead)) (sym is) tt, λ any. tt)
 
-module _ (role : Role) (q seen : Standing) (from : ProcessId) (m : Message) (b : Bool) (view : standing_in role ≡ seen) (named : IsNamed role) where
+module _ (role : Role) (q : Box Standing Global) (seen : Standing) (from : ProcessId) (m : Message) (b : Bool) (view : standing_in role ≡ seen) (named : IsNamed role) where
   -- what a data process tells
-  pub told-data : role ≡ Data q → (IsTrue b ↔ to_data.FitsData q.shape from m q.process) → IsTrue b ↔ Comes seen.shape from m seen.process
-  told-data is told =
+  pub told-data : role ≡ Data q → (p : Standing) → p ≡ q.value → (IsTrue b ↔ to_data.FitsData p.shape from m p.process) → IsTrue b ↔ Comes seen.shape from m seen.process
+  told-data is p held by_p =
+      let told = subst (λ (v : Standing). IsTrue b ↔ to_data.FitsData v.shape from m v.process) held by_p in
       let name = subst IsNamed is named in
       subst (λ (v : Standing). IsTrue b ↔ Comes v.shape from m v.process) (sym (ap standing_in is) ∙ view)
-      (λ yes. data-comes q.shape from q.process name.0 name.1 m (told.0 yes), λ comes. told.1 (comes-data q.shape from q.process name.0 name.1 m comes))
+      (λ yes. data-comes q.value.shape from q.value.process name.0 name.1 m (told.0 yes), λ comes. told.1 (comes-data q.value.shape from q.value.process name.0 name.1 m comes))
 
   -- what a parity process tells
-  pub told-parity : role ≡ Parity q → (IsTrue b ↔ to_parity.FitsParity q.shape from m q.process) → IsTrue b ↔ Comes seen.shape from m seen.process
-  told-parity is told =
+  pub told-parity : role ≡ Parity q → (p : Standing) → p ≡ q.value → (IsTrue b ↔ to_parity.FitsParity p.shape from m p.process) → IsTrue b ↔ Comes seen.shape from m seen.process
+  told-parity is p held by_p =
+      let told = subst (λ (v : Standing). IsTrue b ↔ to_parity.FitsParity v.shape from m v.process) held by_p in
       let name = subst IsNamed is named in
-      let kinds = for-parity q.process.name name.0 m name.1 in
+      let kinds = for-parity q.value.process.name name.0 m name.1 in
       subst (λ (v : Standing). IsTrue b ↔ Comes v.shape from m v.process) (sym (ap standing_in is) ∙ view) (
         λ yes. let can = told.0 yes in record { fits = can.fits; kind = kinds.0 can.kind; group = can.group },
         λ comes. told.1 (record { fits = comes.fits; kind = kinds.1 comes.kind; group = comes.group }),

@@ -1,5 +1,5 @@
 -- Which numbers a process has left, and whether it has opened a block session.
-use Rattle.std.proofs.Common.{ℕ, zero, suc, ◌≡◌, ◌<◌, ◌^◌, ◌↔◌, nat_lt, Bool, List, [], ◌∷◌, All, IsTrue, refl, sym, ap, subst, ◌∙◌, arith}
+use Rattle.std.proofs.Common.{ℕ, zero, suc, ◌≡◌, ◌<◌, ◌^◌, ◌↔◌, nat_lt, Bool, List, [], ◌∷◌, All, IsTrue, refl, sym, ap, subst, ◌∙◌, arith, Box, Global}
 use Rattle.std.proofs.lemmas.Grind.{common_steps}
 use Rattle.group_types.specs.Dimensions.{Dimensions}
 use Rattle.group_types.specs.Hash.{home_of}
@@ -33,11 +33,12 @@ all-low s key p updates sessions = record {
 apart : (d i : ℕ) → DataNode d ≡ ParityNode i → ⊥
 apart d i same = cc same
 
-module _ (role : Role) (q seen : Standing) (key : List ℕ) (b : Bool) (view : standing_in role ≡ seen) (named : IsNamed role) where
+module _ (role : Role) (q : Box Standing Global) (seen : Standing) (key : List ℕ) (b : Bool) (view : standing_in role ≡ seen) (named : IsNamed role) where
   -- what a data process tells of its numbers
-  pub numbers-data : role ≡ Data q → (IsTrue b ↔ last_of (replica_of q.process (home_of key q.shape.k)) < 2 ^ 62)
+  pub numbers-data : role ≡ Data q → (p : Standing) → p ≡ q.value → (IsTrue b ↔ last_of (replica_of p.process (home_of key p.shape.k)) < 2 ^ 62)
       → IsTrue b ↔ HasNumbers seen.shape key seen.process
-  numbers-data is told =
+  numbers-data is p held by_p =
+      let told = subst (λ (v : Standing). IsTrue b ↔ last_of (replica_of v.process (home_of key v.shape.k)) < 2 ^ 62) held by_p in
       let name = subst IsNamed is named in
       subst (λ (v : Standing). IsTrue b ↔ HasNumbers v.shape key v.process) (sym (ap standing_in is) ∙ view) (
         λ left. record { updates = told.0 left; sessions = λ i other. absurd (apart name.0 i (sym name.1 ∙ other)) },
@@ -45,17 +46,19 @@ module _ (role : Role) (q seen : Standing) (key : List ℕ) (b : Bool) (view : s
       )
 
   -- what a parity process tells of them
-  pub numbers-parity : role ≡ Parity q
-      → (IsTrue b ↔ (last_of (replica_of q.process (home_of key q.shape.k)) < 2 ^ 62) × (q.process.as_leader.last_session < 2 ^ 62))
+  pub numbers-parity : role ≡ Parity q → (p : Standing) → p ≡ q.value
+      → (IsTrue b ↔ (last_of (replica_of p.process (home_of key p.shape.k)) < 2 ^ 62) × (p.process.as_leader.last_session < 2 ^ 62))
       → IsTrue b ↔ HasNumbers seen.shape key seen.process
-  numbers-parity is told =
+  numbers-parity is p held by_p =
+      let told = subst (λ (v : Standing). IsTrue b ↔ (last_of (replica_of v.process (home_of key v.shape.k)) < 2 ^ 62)
+      × (v.process.as_leader.last_session < 2 ^ 62)) held by_p in
       let name = subst IsNamed is named in
       subst (λ (v : Standing). IsTrue b ↔ HasNumbers v.shape key v.process) (sym (ap standing_in is) ∙ view) (
         λ left. let both = told.0 left in record { updates = both.0; sessions = λ i own. both.1 },
         λ numbers. told.1 (numbers.updates, numbers.sessions name.0 name.1),
       )
 
-module _ (role : Role) (q seen : Standing) (view : standing_in role ≡ seen) (named : IsNamed role) where
+module _ (role : Role) (q : Box Standing Global) (seen : Standing) (view : standing_in role ≡ seen) (named : IsNamed role) where
   -- a data process has no sessions, and only a parity process has
   pub last-data : role ≡ Data q → (i : ℕ) → seen.process.name ≡ ParityNode i → ⊥
   last-data is i other =
@@ -67,7 +70,7 @@ module _ (role : Role) (q seen : Standing) (view : standing_in role ≡ seen) (n
       let name = subst IsNamed is named in
       apart d name.0 (sym (sym name.1 ∙ ap (λ (v : Standing). v.process.name) (sym (ap standing_in is) ∙ view) ∙ other))
 
-  pub last-is : (n : ℕ) → role ≡ Parity q → n ≡ q.process.as_leader.last_session → n ≡ seen.process.as_leader.last_session
+  pub last-is : (n : ℕ) → role ≡ Parity q → n ≡ q.value.process.as_leader.last_session → n ≡ seen.process.as_leader.last_session
   last-is n is number = number ∙ ap (λ (v : Standing). v.process.as_leader.last_session) (sym (ap standing_in is) ∙ view)
 
 -- sessions were opened where a parity process's number rose

@@ -1,5 +1,5 @@
 -- The pages of a process of either role after a message.
-use Rattle.std.proofs.Common.{ℕ, ◌≡◌, List, sym, ap, subst, ◌∙◌}
+use Rattle.std.proofs.Common.{ℕ, ◌≡◌, List, sym, ap, subst, ◌∙◌, Box, Global}
 use Rattle.group_message.specs.declared.message.Message.{Message}
 use Rattle.head_service.specs.Paging.{MakesNoneOf}
 use Rattle.head_service.proofs.Paging.{makes-none}
@@ -9,17 +9,17 @@ use Rattle.group_node.specs.Roles.{standing_in}
 use Rattle.group_node.specs.declared.process.Role.{Role}
 use Rattle.group_node.specs.declared.process.Role.TheVariants.{Data, Parity}
 
-pub data-pages : (m : Message) (now inside : Role) (new old seen : Standing) → now ≡ Data new → inside ≡ Data old
-    → standing_in inside ≡ seen → new.made ≡ old.made
+pub data-pages : (m : Message) (now inside : Role) (new old : Box Standing Global) (seen : Standing) → now ≡ Data new → inside ≡ Data old
+    → standing_in inside ≡ seen → new.value.made ≡ old.value.made
     → MakesPagesFor m seen (standing_in now)
 data-pages m now inside new old seen is was view same =
-    let none : MakesPagesFor m old new = subst (λ (made : List ℕ). MakesNoneOf (MessageMisses old.shape.block m) old.made made)
-    (sym same) (makes-none (MessageMisses old.shape.block m) old.made) in
+    let none : MakesPagesFor m old.value new.value = subst (λ (made : List ℕ). MakesNoneOf (MessageMisses old.value.shape.block m) old.value.made made)
+    (sym same) (makes-none (MessageMisses old.value.shape.block m) old.value.made) in
     subst (λ (p : Standing). MakesPagesFor m p (standing_in now)) (sym (ap standing_in was) ∙ view)
-    (subst (λ (p : Standing). MakesPagesFor m old p) (sym (ap standing_in is)) none)
+    (subst (λ (p : Standing). MakesPagesFor m old.value p) (sym (ap standing_in is)) none)
 
-pub parity-pages : (m : Message) (now inside : Role) (new old seen : Standing) → now ≡ Parity new → inside ≡ Parity old → standing_in inside ≡ seen
-    → MakesPagesFor m old new → MakesPagesFor m seen (standing_in now)
+pub parity-pages : (m : Message) (now inside : Role) (new old : Box Standing Global) (seen : Standing) → now ≡ Parity new → inside ≡ Parity old → standing_in inside ≡ seen
+    → MakesPagesFor m old.value new.value → MakesPagesFor m seen (standing_in now)
 parity-pages m now inside new old seen is was view made =
     subst (λ (p : Standing). MakesPagesFor m p (standing_in now)) (sym (ap standing_in was) ∙ view)
-    (subst (λ (p : Standing). MakesPagesFor m old p) (sym (ap standing_in is)) made)
+    (subst (λ (p : Standing). MakesPagesFor m old.value p) (sym (ap standing_in is)) made)

@@ -24,11 +24,11 @@ use std::marker::Model;
 
 mod coming;
 
-/// What a process is in its group.
+/// What a process is in its group. It stands on the heap, so that a node is small where threads hand it on by value.
 #[derive(Drop)]
 pub enum Role {
-    Data(DataProcess),
-    Parity(ParityProcess),
+    Data(Box<DataProcess>),
+    Parity(Box<ParityProcess>),
 }
 
 /// A process of either role.
@@ -56,8 +56,14 @@ impl Process {
             ≡ record { shape = shape; process = opening_process shape name; made = [] }) }
     {
         let role = match name {
-            ProcessId::DataNode(d) => Role::Data(DataProcess::new(alloc, shape, d)?),
-            ProcessId::ParityNode(i) => Role::Parity(ParityProcess::new(alloc, shape, i)?),
+            ProcessId::DataNode(d) => Role::Data(Box::new(
+                alloc,
+                DataProcess::new(alloc, shape, d)?,
+            )?),
+            ProcessId::ParityNode(i) => Role::Parity(Box::new(
+                alloc,
+                ParityProcess::new(alloc, shape, i)?,
+            )?),
         };
         Ok(Process { role })
     }

@@ -8,7 +8,8 @@ use Rattle.group_node.proofs.process.Process.stamp.Goals as goal
 
 pub numbers_of-requires : goal.numbers_of-requires
 numbers_of-requires c =
-    let p = c.in-Parity.process in
+    let p = c.deref-in-Parity.result.now in
     c.requires ∙ sym (ap (λ (v : Standing). v.shape.k) c.self.view_is) ∙ ap (λ (r : Role). (standing_in r).shape.k) c.in-Parity.is
     ∙ sym (ap (λ (ns : List ℕ). length ns) c.in_ok-stamp-in-Parity.ensures
-    ∙ length-map-range_with_len (λ (d : ℕ). (replica_of p.process d).applied) 0 p.shape.k)
+    ∙ length-map-range_with_len (λ (d : ℕ). (replica_of p.process d).applied) 0 p.shape.k
+    ∙ ap (λ (v : Standing). v.shape.k) c.deref-in-Parity.ensures)
