@@ -32,18 +32,7 @@ use Rattle.law_transcripts.proofs.Turns.{told_after}
 
 lengths-by : (p : Play) (l : Line) → length (steps_by p l) ≡ length (told_by p l)
 lengths-by p Skipped = refl
-lengths-by p (Group shape) = refl
-lengths-by p (Ask caller from act) = refl
-lengths-by p (Collect caller call from) = refl
-lengths-by p (Deliver from to) = refl
-lengths-by p (Fail from keep) = refl
-lengths-by p (Flush from) = refl
-lengths-by p (Trace caller call d from) = refl
-lengths-by p Drain = refl
-lengths-by p (Show from run) = refl
-lengths-by p Places = refl
-lengths-by p (Time moment) = refl
-lengths-by p Stop = refl
+lengths-by p l = refl
 
 lengths-on : (play : Option Play) (l : Result Line LineFault) → length (steps_on play l) ≡ length (told_on play l)
 lengths-on None l = refl

@@ -38,9 +38,7 @@ event-fits : (event : Event) → FitsAsk event → IsEventInRange event
 event-fits (happens.Ask caller op p) fits = fits.0
 event-fits (happens.Collect caller call p) fits = fits
 event-fits (happens.Trace caller call d p) fits = fits
-event-fits (happens.Deliver from to) fits = tt
-event-fits (happens.Fail p keep) fits = tt
-event-fits (happens.Flush p) fits = tt
+event-fits e fits = tt
 
 step-fits : (s : Dimensions) (step : Step) → FitsFully s step → FitsStep s step
 step-fits s (Make event) fits = event-fits event fits
@@ -71,17 +69,12 @@ delivery-fits t is = by t.event is
 -- the turns that are told for a step
 told-fits : (s : Dimensions) (step : Step) (told : ToldStep) → FitsFully s step → CanBeTold step told → All FitsTurn (turns_told_in told)
 told-fits s (Make event) (Made t) fits tells = All-cons FitsTurn t [] (subst FitsAsk (sym tells.0) fits) (All-nil FitsTurn)
-told-fits s Deliveries (Made t) fits tells = absurd tells
-told-fits s (Look p run) (Made t) fits tells = absurd tells
-told-fits s Placing (Made t) fits tells = absurd tells
 told-fits s Deliveries (Drained ts n) fits tells = All-weaker (λ t. IsDelivery t.event) FitsTurn delivery-fits ts tells.0
-told-fits s (Make event) (Drained ts n) fits tells = absurd tells
-told-fits s (Look p run) (Drained ts n) fits tells = absurd tells
-told-fits s Placing (Drained ts n) fits tells = absurd tells
 told-fits s step (Shown stamp bytes) fits tells = All-nil FitsTurn
 told-fits s step Lost fits tells = All-nil FitsTurn
 told-fits s step Down fits tells = All-nil FitsTurn
 told-fits s step (Placed runs) fits tells = All-nil FitsTurn
+told-fits s asked told fits tells = absurd tells
 
 turns-fit : (s : Dimensions) (steps : List Step) (told : List ToldStep) → FitAll s steps → TellAll steps told → All FitsTurn (turns_told told)
 turns-fit s [] [] fit tells = All-nil FitsTurn
@@ -108,11 +101,7 @@ asks-one caller (happens.Trace who call d p) = omega arith
 
 asks-none : (caller : ℕ) (event : Event) → IsDelivery event → asks_in caller event ≡ 0
 asks-none caller (happens.Deliver from to) is = refl
-asks-none caller (happens.Ask who op p) is = absurd is
-asks-none caller (happens.Collect who call p) is = absurd is
-asks-none caller (happens.Fail p keep) is = absurd is
-asks-none caller (happens.Flush p) is = absurd is
-asks-none caller (happens.Trace who call d p) is = absurd is
+asks-none caller e is = absurd is
 
 drained-none : (caller : ℕ) (ts : List Turn) → All (λ t. IsDelivery t.event) ts → asks_of caller ts ≡ 0
 drained-none caller [] all = refl
@@ -128,13 +117,11 @@ asks-append caller (x ∷ xs) ys = let rest = asks-append caller xs ys in omega 
 asks-told : (caller : ℕ) (step : Step) (told : ToldStep) → CanBeTold step told → asks_of caller (turns_told_in told) ≤ 1
 asks-told caller step (Made t) tells = let one = asks-one caller t.event in omega (arith, one)
 asks-told caller Deliveries (Drained ts n) tells = let none = drained-none caller ts tells.0 in omega (arith, none)
-asks-told caller (Make event) (Drained ts n) tells = absurd tells
-asks-told caller (Look p run) (Drained ts n) tells = absurd tells
-asks-told caller Placing (Drained ts n) tells = absurd tells
 asks-told caller step (Shown stamp bytes) tells = omega arith
 asks-told caller step Lost tells = omega arith
 asks-told caller step Down tells = omega arith
 asks-told caller step (Placed runs) tells = omega arith
+asks-told caller asked told tells = absurd tells
 
 asks-few : (caller : ℕ) (steps : List Step) (told : List ToldStep) → TellAll steps told → asks_of caller (turns_told told) ≤ length steps
 asks-few caller [] [] tells = omega arith

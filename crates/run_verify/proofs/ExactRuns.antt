@@ -71,10 +71,8 @@ no-told d n step (Drained turns m) other tells = (
 no-told d n step (Shown stamp bytes) other tells = (refl, (starts-other d n (shown_text stamp bytes) refl, tt))
 no-told d n step Lost other tells = (refl, (starts-other d n _ refl, tt))
 no-told d n step Down other tells = (refl, (starts-other d n _ refl, tt))
-no-told d n (Make event) (Placed runs) other tells = absurd tells
-no-told d n Deliveries (Placed runs) other tells = absurd tells
-no-told d n (Look p run) (Placed runs) other tells = absurd tells
 no-told d n Placing (Placed runs) other tells = absurd (other refl)
+no-told d n asked told other tells = absurd tells
 
 -- ---- the lines of the places
 

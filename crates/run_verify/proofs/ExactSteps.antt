@@ -50,29 +50,14 @@ use Rattle.run_verify.proofs.ExactUpdates.{drop-none}
 
 answer-begins : (answer : Answer) → begins_entry (answer_text answer) ≡ false
 answer-begins (answered.Reply reply) = refl
-answer-begins (answered.Ticket m) = refl
-answer-begins answered.NotYet = refl
-answer-begins answered.NoSpace = refl
-answer-begins (answered.Retry (Pending p m)) = refl
+answer-begins (answered.Retry (Pending d n)) = refl
 answer-begins (answered.Retry (Block b)) = refl
-answer-begins answered.Moved = refl
-answer-begins answered.Lost = refl
-answer-begins answered.Down = refl
-answer-begins answered.Idle = refl
-answer-begins answered.Stranger = refl
-answer-begins answered.Done = refl
-answer-begins answered.AlreadyDead = refl
-answer-begins answered.Gone = refl
-answer-begins (answered.Stale call) = refl
+answer-begins answer = refl
 
 -- a delivery leaves the account
 delivery-same : (a : Account) (event : Event) (answer : Answer) → IsDelivery event → after_answer a event answer ≡ a
 delivery-same a (happens.Deliver from to) answer is = refl
-delivery-same a (happens.Ask caller op p) answer is = absurd is
-delivery-same a (happens.Collect caller call p) answer is = absurd is
-delivery-same a (happens.Fail p keep) answer is = absurd is
-delivery-same a (happens.Flush p) answer is = absurd is
-delivery-same a (happens.Trace caller call d p) answer is = absurd is
+delivery-same a e answer is = absurd is
 
 -- a log has no more updates than entries
 pub updates-few : (k d : ℕ) (es : List Entry) (t : Contents) (runs : List (Option Run)) → length (updates_from k d t runs es) ≤ length es

@@ -104,14 +104,7 @@ well-step : (sheet : Sheet) (a : Account) (step : Step) (told : ToldStep) (next 
     (log : List Entry) → FitsStep sheet.script.shape step
     → StandsSoFar sheet.script.shape runs log a → StepTold sheet a step told next → IsWellShown sheet.script.shape runs log step told
 well-step sheet a (Look p run) (Shown stamp bytes) next runs log fits stands by = well-look sheet a next p run stamp bytes runs log fits stands by
-well-step sheet a (Look p run) (Made t) next runs log fits stands by = tt
-well-step sheet a (Look p run) (Drained turns n) next runs log fits stands by = tt
-well-step sheet a (Look p run) Lost next runs log fits stands by = tt
-well-step sheet a (Look p run) Down next runs log fits stands by = tt
-well-step sheet a (Look p run) (Placed rs) next runs log fits stands by = tt
-well-step sheet a (Make event) told next runs log fits stands by = tt
-well-step sheet a Deliveries told next runs log fits stands by = tt
-well-step sheet a Placing told next runs log fits stands by = tt
+well-step sheet a asked told next runs log fits stands by = tt
 
 pub well-shown : (sheet : Sheet) (steps : List Step) (told : List ToldStep) (a final : Account) (log : List Entry) → FitSteps sheet.script.shape steps
     → Shadow sheet.script.shape.k (empty_table sheet.script.shape.k) (replicate sheet.script.shape.k []) log a.table a.changes → Course sheet a steps told final

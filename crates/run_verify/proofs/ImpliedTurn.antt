@@ -263,7 +263,4 @@ turn-right sheet a t next before fits few s by = record {
         subst (λ (n : CallName). LoggedSince before t n reply) same
         (there (record { caller = caller; call = call }) reply (ap (λ (e : Event). after_answer a e t.answer) is)
         answer_is f.0 f.1 (answer-right (happens.Trace caller call d p) reply is answer_is))
-    later name reply (happens.Ask caller op p) is fetches answer_is = absurd fetches
-    later name reply (happens.Deliver from to) is fetches answer_is = absurd fetches
-    later name reply (happens.Fail p keep) is fetches answer_is = absurd fetches
-    later name reply (happens.Flush p) is fetches answer_is = absurd fetches
+    later name reply e is fetches answer_is = absurd fetches

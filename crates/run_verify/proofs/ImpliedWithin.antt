@@ -36,11 +36,7 @@ legal-logs sheet (e ∷ es) more a b (run, tells, logs) legal = (tells.reply, le
 
 table-answer : (a : Account) (event : Event) (answer : Answer) → (after_answer a event answer).table ≡ a.table
 table-answer a (happens.Ask caller op p) answer = refl
-table-answer a (happens.Collect caller call p) answer = refl
-table-answer a (happens.Deliver from to) answer = refl
-table-answer a (happens.Fail p keep) answer = refl
-table-answer a (happens.Flush p) answer = refl
-table-answer a (happens.Trace caller call d p) answer = refl
+table-answer a e answer = refl
 
 pub legal-course : (sheet : Sheet) (a : Account) (steps : List Step) (told : List ToldStep) (final : Account)
     → Course sheet a steps told final → IsLegalFrom a.table (log_of (turns_told told))
@@ -220,18 +216,7 @@ ask-take turns n j t name op ask =
 not-taken : (answer : Answer) → ¬ (IsTaken answer) → takes_effect answer ≡ false
 not-taken (answered.Reply reply) never = absurd (never (inl (reply, refl)))
 not-taken (answered.Ticket n) never = absurd (never (inr (n, refl)))
-not-taken answered.NotYet never = refl
-not-taken answered.NoSpace never = refl
-not-taken (answered.Retry cause) never = refl
-not-taken answered.Moved never = refl
-not-taken answered.Lost never = refl
-not-taken answered.Down never = refl
-not-taken answered.Idle never = refl
-not-taken answered.Stranger never = refl
-not-taken answered.Done never = refl
-not-taken answered.AlreadyDead never = refl
-not-taken answered.Gone never = refl
-not-taken (answered.Stale call) never = refl
+not-taken answer never = refl
 
 pub replies-within : (turns : List Turn) → AllRight [] turns → RepliesWithin turns
 replies-within turns all = record {

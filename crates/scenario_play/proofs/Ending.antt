@@ -101,19 +101,7 @@ module _ (l : Language) (a b : Outside) (same : b.held ≡ a.held) where
     ends = (same, read.0, read.1.few);
   }
   treated-unread Want read = record { script = read.bytes; taken = read.taken; few = read.few; ends = inl same }
-  treated-unread Done read = absurd read
-  treated-unread BadWords read = absurd read
-  treated-unread Cut read = absurd read
-  treated-unread LineTooLong read = absurd read
-  treated-unread Worn read = absurd read
-  treated-unread (BadFrame n) read = absurd read
-  treated-unread (Refused n) read = absurd read
-  treated-unread (BadConfig key) read = absurd read
-  treated-unread AcceptFault read = absurd read
-  treated-unread (BadLine n) read = absurd read
-  treated-unread (BadShape f) read = absurd read
-  treated-unread (BadCount c) read = absurd read
-  treated-unread WriteFault read = absurd read
+  treated-unread status read = absurd read
 
 -- who counted a fault
 pub read-fault : (input now : Input) (read_before read_now writes : ℕ) (status : Status)
@@ -121,19 +109,7 @@ pub read-fault : (input now : Input) (read_before read_now writes : ℕ) (status
 read-fault input now read_before read_now writes ReadFault read = read.0
 read-fault input now read_before read_now writes WriteFault read = absurd read
 read-fault input now read_before read_now writes BadWords read = absurd read
-read-fault input now read_before read_now writes Done read = tt
-read-fault input now read_before read_now writes (BadLine n) read = tt
-read-fault input now read_before read_now writes (BadShape f) read = tt
-read-fault input now read_before read_now writes (BadCount c) read = tt
-read-fault input now read_before read_now writes TooLong read = tt
-read-fault input now read_before read_now writes Want read = tt
-read-fault input now read_before read_now writes Cut read = tt
-read-fault input now read_before read_now writes LineTooLong read = tt
-read-fault input now read_before read_now writes Worn read = tt
-read-fault input now read_before read_now writes (BadFrame n) read = tt
-read-fault input now read_before read_now writes (Refused n) read = tt
-read-fault input now read_before read_now writes (BadConfig key) read = tt
-read-fault input now read_before read_now writes AcceptFault read = tt
+read-fault input now read_before read_now writes status read = tt
 
 pub play-fault : (held held_now : List ℕ) (read_before read_now written_before written_now : ℕ)
     (transcript : List ℕ → List ℕ) (text : List ℕ) (verdict status : Status)
@@ -142,19 +118,7 @@ pub play-fault : (held held_now : List ℕ) (read_before read_now written_before
 play-fault held held_now read_before read_now written_before written_now transcript text verdict WriteFault played = played.0
 play-fault held held_now read_before read_now written_before written_now transcript text verdict ReadFault played = absurd played.0
 play-fault held held_now read_before read_now written_before written_now transcript text verdict BadWords played = absurd played.0
-play-fault held held_now read_before read_now written_before written_now transcript text verdict Done played = tt
-play-fault held held_now read_before read_now written_before written_now transcript text verdict (BadLine n) played = tt
-play-fault held held_now read_before read_now written_before written_now transcript text verdict (BadShape f) played = tt
-play-fault held held_now read_before read_now written_before written_now transcript text verdict (BadCount c) played = tt
-play-fault held held_now read_before read_now written_before written_now transcript text verdict TooLong played = tt
-play-fault held held_now read_before read_now written_before written_now transcript text verdict Want played = tt
-play-fault held held_now read_before read_now written_before written_now transcript text verdict Cut played = tt
-play-fault held held_now read_before read_now written_before written_now transcript text verdict LineTooLong played = tt
-play-fault held held_now read_before read_now written_before written_now transcript text verdict Worn played = tt
-play-fault held held_now read_before read_now written_before written_now transcript text verdict (BadFrame n) played = tt
-play-fault held held_now read_before read_now written_before written_now transcript text verdict (Refused n) played = tt
-play-fault held held_now read_before read_now written_before written_now transcript text verdict (BadConfig key) played = tt
-play-fault held held_now read_before read_now written_before written_now transcript text verdict AcceptFault played = tt
+play-fault held held_now read_before read_now written_before written_now transcript text verdict status played = tt
 
 -- a status that was told is the one at the end, unless there was no memory
 pub came_from : (s status other : Status) → (status ≡ s) ⊎ (status ≡ Want) → status ≡ other → (other ≡ Want → ⊥) → s ≡ other
@@ -290,19 +254,7 @@ module _ (l : Language) (script : List ℕ) (a b c : Outside) (kept : c.input �
       (last_line (BadShape f)) end.3 later tells
   refused (BadCount n) end refusal tells = behind a.held b.held c.held a.writes b.writes c.writes (l.transcript script)
       (last_line (BadCount n)) end.3 later tells
-  refused Done end refusal tells = absurd refusal
-  refused BadWords end refusal tells = absurd refusal
-  refused Cut end refusal tells = absurd refusal
-  refused LineTooLong end refusal tells = absurd refusal
-  refused Worn end refusal tells = absurd refusal
-  refused (BadFrame n) end refusal tells = absurd refusal
-  refused (Refused n) end refusal tells = absurd refusal
-  refused (BadConfig key) end refusal tells = absurd refusal
-  refused AcceptFault end refusal tells = absurd refusal
-  refused TooLong end refusal tells = absurd refusal
-  refused ReadFault end refusal tells = absurd refusal
-  refused WriteFault end refusal tells = absurd refusal
-  refused Want end refusal tells = absurd refusal
+  refused status end refusal tells = absurd refusal
 
   alone : (s : Status) → b.held ≡ a.held → Tells s → EndsWith a.held c.held a.writes c.writes [] (last_line s)
   alone s same tells = behind a.held b.held c.held a.writes b.writes c.writes [] (last_line s)
@@ -311,20 +263,7 @@ module _ (l : Language) (script : List ℕ) (a b c : Outside) (kept : c.input �
   unread-told : (s : Status) → HasPlayedScript l script a b (Err s) → IsUnread s → Tells s → EndsWith a.held c.held a.writes c.writes [] (last_line s)
   unread-told TooLong end unread tells = alone TooLong end.0 tells
   unread-told ReadFault end unread tells = alone ReadFault end.0 tells
-  unread-told Done end unread tells = absurd unread
-  unread-told BadWords end unread tells = absurd unread
-  unread-told (BadLine n) end unread tells = absurd unread
-  unread-told (BadShape f) end unread tells = absurd unread
-  unread-told (BadCount n) end unread tells = absurd unread
-  unread-told WriteFault end unread tells = absurd unread
-  unread-told Want end unread tells = absurd unread
-  unread-told Cut end unread tells = absurd unread
-  unread-told LineTooLong end unread tells = absurd unread
-  unread-told Worn end unread tells = absurd unread
-  unread-told (BadFrame n) end unread tells = absurd unread
-  unread-told (Refused n) end unread tells = absurd unread
-  unread-told (BadConfig key) end unread tells = absurd unread
-  unread-told AcceptFault end unread tells = absurd unread
+  unread-told status end unread tells = absurd unread
 
   not-done : (s : Status) → HasPlayedScript l script a b (Err s) → s ≡ Done → ⊥
   not-done s end is = (subst (λ (x : Status). HasPlayedScript l script a b (Err x)) is end).0

@@ -10,9 +10,10 @@ ghost use Rattle.scenario_play.specs.Played.{IsPlayed};
 ghost use Rattle.scenario_play.specs.Player.{HasPlayed};
 ghost use Rattle.scenario_play.specs.Status.{HasFaultOf};
 
-use crate::group_player::GroupPlayer;
 use crate::player::Player;
+use crate::playing::Play;
 use crate::read_script::{LONGEST_SCRIPT, read_script};
+use crate::script_player::ScriptPlayer;
 use crate::status::Status;
 use crate::tell::tell;
 use edge_io::{Sink, SinkFault, Source, write_all};
@@ -28,7 +29,7 @@ pub fn play<S: Source, K: Sink>(alloc: Global, source: &mut S, sink: &mut K) -> 
     ensures read { result ≡ Status.ReadFault → Rose (S.faults source.old) (S.faults source.new) }
     ensures write { result ≡ Status.WriteFault → Rose (K.faults sink.old) (K.faults sink.new) }
 {
-    play_on(alloc, &mut GroupPlayer::new(), source, sink)
+    play_on(alloc, &mut ScriptPlayer::<Play>::new(), source, sink)
 }
 
 /// The same of a player's language.
