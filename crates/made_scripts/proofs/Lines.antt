@@ -28,8 +28,12 @@ fault_in n p lines = course.fault_in next_of BadLine n p lines
 -- lines that go on, whatever group of their shape they come to
 abbrev pub is_plain : Result Line LineFault → Bool
 is_plain (Err fault) = false
+is_plain (Ok (Ask caller at act)) = true
+is_plain (Ok (Deliver from to)) = true
+is_plain (Ok (Fail at keep)) = true
+is_plain (Ok (Flush at)) = true
+is_plain (Ok Drain) = true
 is_plain (Ok _) = false
-is_plain l = true
 
 -- a byte that ends no word and no line
 abbrev pub in_word : ℕ → Bool
