@@ -129,13 +129,7 @@ fn follow_in(
             )?
         }
         Line::Show { at, run } => play.show(alloc, group, at, run)?,
-        Line::Skipped
-        | Line::Group { .. }
-        | Line::Fail { .. }
-        | Line::Drain
-        | Line::Places
-        | Line::Time { .. }
-        | Line::Stop => return Err(ClusterFault::BadLine),
+        _ => return Err(ClusterFault::BadLine),
     };
     Ok(Some(text))
 }
@@ -158,14 +152,6 @@ fn follow_plain(
             Ok(Some(Vec::new(alloc)))
         }
         Line::Stop => Ok(None),
-        Line::Group { .. }
-        | Line::Ask { .. }
-        | Line::Collect { .. }
-        | Line::Deliver { .. }
-        | Line::Fail { .. }
-        | Line::Flush { .. }
-        | Line::Places
-        | Line::Trace { .. }
-        | Line::Show { .. } => Err(ClusterFault::BadLine),
+        _ => Err(ClusterFault::BadLine),
     }
 }

@@ -16,8 +16,7 @@ use Rattle.scenario_play.specs.Player.{HasPlayed}
 use Rattle.scenario_play.specs.Status.{HasFaultOf, IsEarly, IsStatusTold, IsUnread, TellsOfLine, TellsOfScript, last_line, longest_script}
 use Rattle.scenario_play.specs.declared.status.Status.{Status}
 use Rattle.scenario_play.specs.declared.status.Status.TheVariants.{Done, BadWords, BadLine, BadShape, BadCount, TooLong}
-use Rattle.scenario_play.specs.declared.status.Status.TheVariants.{ReadFault, WriteFault, Want, Cut, LineTooLong, Worn}
-use Rattle.scenario_play.specs.declared.status.Status.TheVariants.{BadFrame, Refused, BadConfig, AcceptFault}
+use Rattle.scenario_play.specs.declared.status.Status.TheVariants.{ReadFault, WriteFault, Want}
 
 short : (n : ℕ) → n ≤ longest_script → nat_lt longest_script n ≡ false
 short n within = grind (arith, nat_tests)
@@ -68,17 +67,7 @@ module _ (l : Language) (a b : Outside) (text : List ℕ) (within : length text 
   fault (BadCount c) played = (played.0, told-short l text within ∙ played.1, met, played.2)
   fault WriteFault played = (played.0, within, met, played.1)
   fault Want played = inr (met, played)
-  fault Done played = absurd played.0
-  fault BadWords played = absurd played.0
-  fault Cut played = absurd played.0
-  fault LineTooLong played = absurd played.0
-  fault Worn played = absurd played.0
-  fault (BadFrame n) played = absurd played.0
-  fault (Refused n) played = absurd played.0
-  fault (BadConfig key) played = absurd played.0
-  fault AcceptFault played = absurd played.0
-  fault TooLong played = absurd played.0
-  fault ReadFault played = absurd played.0
+  fault status played = absurd played.0
 
   pub treated-fault : (status : Status) → Played (Err status) → HasTreatedScript l a b (Err status)
   treated-fault status played = treated (Err status) (fault status played)
@@ -186,15 +175,7 @@ module _ (l : Language) (script : List ℕ) (a b c : Outside) (kept : c.input �
   is-told Want end = inr (inl refl)
   is-told ReadFault end = let rose : Rose a.reads b.reads = end.1 in inr (inr (inl (refl, omega (arith, rose, reads))))
   is-told WriteFault end = let rose : Rose a.writes b.writes = end.0 in inr (inr (inr (refl, omega (arith, rose, more))))
-  is-told Done end = absurd end.0
-  is-told BadWords end = absurd end.0
-  is-told Cut end = absurd end.0
-  is-told LineTooLong end = absurd end.0
-  is-told Worn end = absurd end.0
-  is-told (BadFrame n) end = absurd end.0
-  is-told (Refused n) end = absurd end.0
-  is-told (BadConfig key) end = absurd end.0
-  is-told AcceptFault end = absurd end.0
+  is-told s end = absurd end.0
 
   -- one byte more than a script may have was taken
   is-long : (s : Status) → HasPlayedScript l script a b (Err s) → length script ≡ 16777217 → (s ≡ TooLong) ⊎ (s ≡ Want)
@@ -205,15 +186,7 @@ module _ (l : Language) (script : List ℕ) (a b c : Outside) (kept : c.input �
   is-long (BadCount n) end all = absurd (cc (sym end.1 ∙ long-told l script all))
   is-long ReadFault end all = let short = end.2 in absurd (omega (arith, short, all))
   is-long WriteFault end all = let short = end.1 in absurd (omega (arith, short, all))
-  is-long Done end all = absurd end.0
-  is-long BadWords end all = absurd end.0
-  is-long Cut end all = absurd end.0
-  is-long LineTooLong end all = absurd end.0
-  is-long Worn end all = absurd end.0
-  is-long (BadFrame n) end all = absurd end.0
-  is-long (Refused n) end all = absurd end.0
-  is-long (BadConfig key) end all = absurd end.0
-  is-long AcceptFault end all = absurd end.0
+  is-long s end all = absurd end.0
 
   -- what stands in the sink: behind the transcript of a script that was read to its end, or of no line
   abbrev Stops : Status → Type 0
@@ -234,15 +207,7 @@ module _ (l : Language) (script : List ℕ) (a b c : Outside) (kept : c.input �
   stops Want status early (inr wrote) front = within-all status wrote.0 (in-part l.transcript script a.held b.held wrote.1) front
   stops TooLong status early end front = alone-told status (early tt) end.0 front
   stops ReadFault status early end front = alone-told status (early tt) end.0 front
-  stops Done status early end front = absurd end.0
-  stops BadWords status early end front = absurd end.0
-  stops Cut status early end front = absurd end.0
-  stops LineTooLong status early end front = absurd end.0
-  stops Worn status early end front = absurd end.0
-  stops (BadFrame n) status early end front = absurd end.0
-  stops (Refused n) status early end front = absurd end.0
-  stops (BadConfig key) status early end front = absurd end.0
-  stops AcceptFault status early end front = absurd end.0
+  stops s status early end front = absurd end.0
 
   abbrev Tells : Status → Type 0
   Tells s = EndsWith b.held c.held b.writes c.writes [] (last_line s)
@@ -282,15 +247,7 @@ module _ (l : Language) (script : List ℕ) (a b c : Outside) (kept : c.input �
   within WriteFault end silent done = absurd (cc (silent refl))
   within Want (inl same) silent done = inl same
   within Want (inr wrote) silent done = inr wrote.1
-  within Done end silent done = absurd end.0
-  within BadWords end silent done = absurd end.0
-  within Cut end silent done = absurd end.0
-  within LineTooLong end silent done = absurd end.0
-  within Worn end silent done = absurd end.0
-  within (BadFrame n) end silent done = absurd end.0
-  within (Refused n) end silent done = absurd end.0
-  within (BadConfig key) end silent done = absurd end.0
-  within AcceptFault end silent done = absurd end.0
+  within s end silent done = absurd end.0
 
   -- the status was told as it is
   same-told : (s : Status) → Takes a.input b.input script → length script ≤ 16777217
