@@ -60,11 +60,7 @@ delivery-fits t is = by t.event is
   where
     by : (event : Event) → IsDelivery event → FitsAsk event
     by (happens.Deliver from to) is = tt
-    by (happens.Ask caller op p) is = absurd is
-    by (happens.Collect caller call p) is = absurd is
-    by (happens.Fail p keep) is = absurd is
-    by (happens.Flush p) is = absurd is
-    by (happens.Trace caller call d p) is = absurd is
+    by event is = absurd is
 
 -- the turns that are told for a step
 told-fits : (s : Dimensions) (step : Step) (told : ToldStep) → FitsFully s step → CanBeTold step told → All FitsTurn (turns_told_in told)
@@ -93,11 +89,7 @@ all-get (u ∷ ts) (suc j) t all is = all-get ts j t (All-tail FitsTurn u ts all
 
 asks-one : (caller : ℕ) (event : Event) → asks_in caller event ≤ 1
 asks-one caller (happens.Ask who op p) = grind (arith, nat_tests)
-asks-one caller (happens.Collect who call p) = omega arith
-asks-one caller (happens.Deliver from to) = omega arith
-asks-one caller (happens.Fail p keep) = omega arith
-asks-one caller (happens.Flush p) = omega arith
-asks-one caller (happens.Trace who call d p) = omega arith
+asks-one caller event = omega arith
 
 asks-none : (caller : ℕ) (event : Event) → IsDelivery event → asks_in caller event ≡ 0
 asks-none caller (happens.Deliver from to) is = refl
@@ -143,10 +135,7 @@ asks-take caller (suc j) (t ∷ ts) = let rest = asks-take caller j ts in omega 
 told-long : (told : ToldStep) → length (log_of (turns_told_in told)) ≤ length (told_lines told)
 told-long (Made t) = let log = ap length (append-nil t.logged) in omega (arith, log, length-map t.logged entry_text)
 told-long (Drained ts n) = omega (arith, length-append (map entry_text (log_of ts)) (drained_line n ∷ []), length-map (log_of ts) entry_text)
-told-long (Shown stamp bytes) = omega arith
-told-long Lost = omega arith
-told-long Down = omega arith
-told-long (Placed runs) = omega arith
+told-long told = omega arith
 
 log-long : (told : List ToldStep) → length (log_of (turns_told told)) ≤ length (lines_told told)
 log-long [] = omega arith

@@ -193,11 +193,7 @@ few-change m true d c changes few e = elim (cases_eq e d) [
 
 few-answer : (m : ℕ) (a : Account) (event : Event) (b : Bool) → AreFew m a.changes → AreFew (m + 1) (after_event a event b).changes
 few-answer m a (happens.Ask caller op p) b few = few-more m a.changes few
-few-answer m a (happens.Collect caller call p) b few = few-more m a.changes few
-few-answer m a (happens.Deliver from to) b few = few-more m a.changes few
-few-answer m a (happens.Fail p keep) b few = few-more m a.changes few
-few-answer m a (happens.Flush p) b few = few-more m a.changes few
-few-answer m a (happens.Trace caller call d p) b few = few-more m a.changes few
+few-answer m a event b few = few-more m a.changes few
 
 few-as : (m : ℕ) (s next : JudgingState) → next ≡ s → AreFew m s.account.changes → AreFew m next.account.changes
 few-as m s next is few = subst (λ (x : JudgingState). AreFew m x.account.changes) (sym is) few

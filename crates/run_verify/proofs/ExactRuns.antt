@@ -169,8 +169,4 @@ module _ (s : Dimensions) (d len : ℕ) (run : Run) (fd : d < 2 ^ 64) (fits : Ru
       (sym (ap (λ (r : List (List (Option Run))). at [] r d) same) ∙ is) in
       subst (λ (t : List (List ℕ)). IsRunIn t s d (suc (length front)) len (Some run))
       (sym (append-nil (place_lines 0 runs ++ placed_line (count_placed runs) ∷ []))) found
-  run_found (Placing ∷ []) (Made turn ∷ []) front ends (tell, tells) few short is = absurd tell
-  run_found (Placing ∷ []) (Drained turns m ∷ []) front ends (tell, tells) few short is = absurd tell
-  run_found (Placing ∷ []) (Shown stamp bytes ∷ []) front ends (tell, tells) few short is = absurd tell
-  run_found (Placing ∷ []) (Lost ∷ []) front ends (tell, tells) few short is = absurd tell
-  run_found (Placing ∷ []) (Down ∷ []) front ends (tell, tells) few short is = absurd tell
+  run_found (Placing ∷ []) (told ∷ []) front ends (tell, tells) few short is = absurd tell

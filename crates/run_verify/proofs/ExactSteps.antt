@@ -251,20 +251,10 @@ module _ (sheet : Sheet) (turns : List Turn) (runs : List (List (Option Run))) (
       made-passes event t steps more before a logging is event_is may fit now
       (steps_pass steps more (before ++ t ∷ []) (is ∙ sym (append_assoc before (t ∷ []) (turns_told more))) runs_are
       tells ends fits (shown-behind before (t ∷ []) steps more shown))
-  steps_pass (Make event ∷ steps) (Drained ts n ∷ more) before is runs_are (tell, tells) ends fits shown a logging now = absurd tell
-  steps_pass (Make event ∷ steps) (Shown stamp bytes ∷ more) before is runs_are (tell, tells) ends fits shown a logging now = absurd tell
-  steps_pass (Make event ∷ steps) (Lost ∷ more) before is runs_are (tell, tells) ends fits shown a logging now = absurd tell
-  steps_pass (Make event ∷ steps) (Down ∷ more) before is runs_are (tell, tells) ends fits shown a logging now = absurd tell
-  steps_pass (Make event ∷ steps) (Placed rs ∷ more) before is runs_are (tell, tells) ends fits shown a logging now = absurd tell
   steps_pass (Deliveries ∷ steps) (Drained ts n ∷ more) before is runs_are ((all, few), tells) ends (fe, fits) (here, shown) a logging now =
       drained-passes ts n steps more before a logging is all few now
       (steps_pass steps more (before ++ ts) (is ∙ sym (append_assoc before ts (turns_told more))) runs_are tells ends
       fits (shown-behind before ts steps more shown))
-  steps_pass (Deliveries ∷ steps) (Made t ∷ more) before is runs_are (tell, tells) ends fits shown a logging now = absurd tell
-  steps_pass (Deliveries ∷ steps) (Shown stamp bytes ∷ more) before is runs_are (tell, tells) ends fits shown a logging now = absurd tell
-  steps_pass (Deliveries ∷ steps) (Lost ∷ more) before is runs_are (tell, tells) ends fits shown a logging now = absurd tell
-  steps_pass (Deliveries ∷ steps) (Down ∷ more) before is runs_are (tell, tells) ends fits shown a logging now = absurd tell
-  steps_pass (Deliveries ∷ steps) (Placed rs ∷ more) before is runs_are (tell, tells) ends fits shown a logging now = absurd tell
   steps_pass (Look p run ∷ steps) (Shown stamp bytes ∷ more) before is runs_are (tell, tells) ends (within, fits) (here, shown) a logging now =
       let rest = steps_pass steps more before is runs_are tells ends fits
       (subst (λ (es : List Entry). AreWellShown s runs es steps more) (append-nil (log_of before)) shown)
@@ -280,9 +270,6 @@ module _ (sheet : Sheet) (turns : List Turn) (runs : List (List (Option Run))) (
       (subst (λ (es : List Entry). AreWellShown s runs es steps more) (append-nil (log_of before)) shown) a false
       now in
       (rest.0, (on_to a steps, inr (inr refl, refl), rest.1))
-  steps_pass (Look p run ∷ steps) (Made t ∷ more) before is runs_are (tell, tells) ends fits shown a logging now = absurd tell
-  steps_pass (Look p run ∷ steps) (Drained ts n ∷ more) before is runs_are (tell, tells) ends fits shown a logging now = absurd tell
-  steps_pass (Look p run ∷ steps) (Placed rs ∷ more) before is runs_are (tell, tells) ends fits shown a logging now = absurd tell
   steps_pass (Placing ∷ (step ∷ steps)) (told ∷ more) before is runs_are tells ends fits shown a logging now = absurd (cc ends)
   steps_pass (Placing ∷ []) (told ∷ (next ∷ more)) before is runs_are (tell, tells) ends fits shown a logging now = absurd tells
   steps_pass (Placing ∷ []) (Placed rs ∷ []) before is runs_are (tell, tells) ends fits shown a logging now =
@@ -291,8 +278,4 @@ module _ (sheet : Sheet) (turns : List Turn) (runs : List (List (Option Run))) (
         subst (λ (ls : List (List ℕ)). PassAll sheet (state a (Placing ∷ []) logging) ls end.0)
             (sym (append-nil (place_lines 0 rs ++ placed_line (count_placed rs) ∷ []))) end.1,
       )
-  steps_pass (Placing ∷ []) (Made t ∷ []) before is runs_are (tell, tells) ends fits shown a logging now = absurd tell
-  steps_pass (Placing ∷ []) (Drained ts n ∷ []) before is runs_are (tell, tells) ends fits shown a logging now = absurd tell
-  steps_pass (Placing ∷ []) (Shown stamp bytes ∷ []) before is runs_are (tell, tells) ends fits shown a logging now = absurd tell
-  steps_pass (Placing ∷ []) (Lost ∷ []) before is runs_are (tell, tells) ends fits shown a logging now = absurd tell
-  steps_pass (Placing ∷ []) (Down ∷ []) before is runs_are (tell, tells) ends fits shown a logging now = absurd tell
+  steps_pass (asked ∷ steps) (told ∷ more) before is runs_are (tell, tells) ends fits shown a logging now = absurd tell

@@ -97,11 +97,7 @@ grow k d (e ∷ es) t changes u after (run, reply, rest) =
 table-kept : (a : Account) (event : Event) (answer : Answer) → ((after_answer a event answer).table ≡ a.table)
     × ((after_answer a event answer).changes ≡ a.changes)
 table-kept a (happens.Ask caller op p) answer = (refl, refl)
-table-kept a (happens.Collect caller call p) answer = (refl, refl)
-table-kept a (happens.Deliver from to) answer = (refl, refl)
-table-kept a (happens.Fail p keep) answer = (refl, refl)
-table-kept a (happens.Flush p) answer = (refl, refl)
-table-kept a (happens.Trace caller call d p) answer = (refl, refl)
+table-kept a event answer = (refl, refl)
 
 -- so do those of a step
 pub shadow-step : (sheet : Sheet) (a : Account) (step : Step) (told : ToldStep) (next : Account) → StepTold sheet a step told next

@@ -188,32 +188,14 @@ runs-course sheet a [] told final ends course = absurd ends
 runs-course sheet a (step ∷ steps) [] final ends course = absurd course
 runs-course sheet a (Make event ∷ steps) (Made t ∷ more) final ends (next, by, course) = let r =
     runs-course sheet next steps more final ends course in record { runs_are = r.runs_are; clear = r.clear }
-runs-course sheet a (Make event ∷ steps) (Drained turns n ∷ more) final ends (next, by, course) = absurd by
-runs-course sheet a (Make event ∷ steps) (Shown stamp bytes ∷ more) final ends (next, by, course) = absurd by
-runs-course sheet a (Make event ∷ steps) (Lost ∷ more) final ends (next, by, course) = absurd by
-runs-course sheet a (Make event ∷ steps) (Down ∷ more) final ends (next, by, course) = absurd by
-runs-course sheet a (Make event ∷ steps) (Placed runs ∷ more) final ends (next, by, course) = absurd by
-runs-course sheet a (Deliveries ∷ steps) (Made t ∷ more) final ends (next, by, course) = absurd by
 runs-course sheet a (Deliveries ∷ steps) (Drained turns n ∷ more) final ends (next, by, course) = let r =
     runs-course sheet next steps more final ends course in record { runs_are = r.runs_are; clear = r.clear }
-runs-course sheet a (Deliveries ∷ steps) (Shown stamp bytes ∷ more) final ends (next, by, course) = absurd by
-runs-course sheet a (Deliveries ∷ steps) (Lost ∷ more) final ends (next, by, course) = absurd by
-runs-course sheet a (Deliveries ∷ steps) (Down ∷ more) final ends (next, by, course) = absurd by
-runs-course sheet a (Deliveries ∷ steps) (Placed runs ∷ more) final ends (next, by, course) = absurd by
-runs-course sheet a (Look p run ∷ steps) (Made t ∷ more) final ends (next, by, course) = absurd by
-runs-course sheet a (Look p run ∷ steps) (Drained turns n ∷ more) final ends (next, by, course) = absurd by
 runs-course sheet a (Look p run ∷ steps) (Shown stamp bytes ∷ more) final ends (next, by, course) = let r =
     runs-course sheet next steps more final ends course in record { runs_are = r.runs_are; clear = r.clear }
 runs-course sheet a (Look p run ∷ steps) (Lost ∷ more) final ends (next, by, course) = let r =
     runs-course sheet next steps more final ends course in record { runs_are = r.runs_are; clear = r.clear }
 runs-course sheet a (Look p run ∷ steps) (Down ∷ more) final ends (next, by, course) = let r =
     runs-course sheet next steps more final ends course in record { runs_are = r.runs_are; clear = r.clear }
-runs-course sheet a (Look p run ∷ steps) (Placed runs ∷ more) final ends (next, by, course) = absurd by
-runs-course sheet a (Placing ∷ steps) (Made t ∷ more) final ends (next, by, course) = absurd by
-runs-course sheet a (Placing ∷ steps) (Drained turns n ∷ more) final ends (next, by, course) = absurd by
-runs-course sheet a (Placing ∷ steps) (Shown stamp bytes ∷ more) final ends (next, by, course) = absurd by
-runs-course sheet a (Placing ∷ steps) (Lost ∷ more) final ends (next, by, course) = absurd by
-runs-course sheet a (Placing ∷ steps) (Down ∷ more) final ends (next, by, course) = absurd by
 runs-course sheet a (Placing ∷ (step ∷ steps)) (Placed runs ∷ more) final ends (next, by, course) = absurd (cc ends)
 runs-course sheet a (Placing ∷ []) (Placed runs ∷ (told ∷ more)) final ends (next, by, course) = absurd course
 runs-course sheet a (Placing ∷ []) (Placed runs ∷ []) final ends (next, by, course) =
@@ -223,3 +205,4 @@ runs-course sheet a (Placing ∷ []) (Placed runs ∷ []) final ends (next, by, 
       clear = λ d below. subst (λ (c : Account). AreClear sheet.script.shape [] (changes_at c d)) same
           (by.clear d below);
     }
+runs-course sheet a (asked ∷ steps) (answer ∷ more) final ends (next, by, course) = absurd by

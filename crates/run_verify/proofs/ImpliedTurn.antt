@@ -149,11 +149,7 @@ asks-le caller (t ∷ turns) = let e = asks-le caller turns in let one = asks-on
   where
     asks-one : (caller : ℕ) (event : Event) → asks_in caller event ≤ 1
     asks-one caller (happens.Ask who op p) = grind (arith, nat_tests)
-    asks-one caller (happens.Collect who call p) = omega arith
-    asks-one caller (happens.Deliver from to) = omega arith
-    asks-one caller (happens.Fail p keep) = omega arith
-    asks-one caller (happens.Flush p) = omega arith
-    asks-one caller (happens.Trace who call d p) = omega arith
+    asks-one caller event = omega arith
 
 -- the call of a reply that is there
 pub record Replied (b : Account) (name : CallName) (reply : Reply) : Type 0 where

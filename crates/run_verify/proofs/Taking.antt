@@ -123,10 +123,7 @@ line-told n before now bytes lines cause fault = by (steps_of_line before bytes)
   by (Refused c) e (line.BadShape field) is told =
       subst (λ (f : VerifyFault). HasReadScript (script_in n before (bytes ∷ lines)) (Err f)) (sym told)
       (n, line-refused n before bytes lines (line.BadShape field) (e ∙ ap Refused (sym is)))
-  by (Goes to steps text) e line.BadLine is told = absurd is
-  by (Goes to steps text) e (line.BadShape field) is told = absurd is
-  by Ends e line.BadLine is told = absurd is
-  by Ends e (line.BadShape field) is told = absurd is
+  by next e cause is told = absurd is
 
 -- a line that is skipped is taken
 pub line-skips : (n : ℕ) (before : Option Setting) (kept : List Step) (bytes : List ℕ) (lines : List (List ℕ))
