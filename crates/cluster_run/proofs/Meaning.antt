@@ -48,6 +48,7 @@ module _ (p : Plan) where
     shape = shape-of p.shape is;
     bytes = grind (arith, nat_tests);
   }
+  fits true true true isb isc isd None is same = absurd (cc same)
   fits b c d isb isc isd o is same = absurd (cc same)
 
 plan-fits : (p : Plan) → first_bad p ≡ None → IsPlan p

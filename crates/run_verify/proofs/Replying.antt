@@ -78,6 +78,8 @@ only_reply : (a : Account) (e : Event) (line text : List ℕ) (ahead : List (Lis
 only_reply a e line text ahead (answered.Reply r) l is =
     tells-of a e r text ahead is.fits (append_cancel_left (codes "reply ") (reply_words r) text (sym is.text ∙ l))
     is.right
+only_reply a e line text ahead (answered.Retry (Pending d n)) l is = absurd (no_reply line text _ is.text l (λ same. omega (arith, same)))
+only_reply a e line text ahead (answered.Retry (Block b)) l is = absurd (no_reply line text _ is.text l (λ same. omega (arith, same)))
 only_reply a e line text ahead answer l is = absurd (no_reply line text _ is.text l (λ same. omega (arith, same)))
 
 -- a reply was said, with this text
