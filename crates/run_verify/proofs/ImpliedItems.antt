@@ -66,6 +66,7 @@ ruled t n (Append key value) (Some h) is = joined-left (Append key value) n h (h
 ruled t n (Prepend key value) (Some h) is = joined-left (Prepend key value) n h (value ++ h.item.value) (λ l. (l, refl)) is
 ruled t n (Incr key by) (Some h) is = raised-left (Incr key by) n h by (number_of h.item.value) (λ l. (l, refl)) is
 ruled t n (Decr key by) (Some h) is = lowered-left (Decr key by) n h by (number_of h.item.value) (λ l. (l, refl)) is
+ruled t n (Get key) None is = cc is
 ruled t n a o is = cc is
 
 pub same_key-refl : (key : List ℕ) → is_eq (slice_cmp nat_cmp key key) ≡ true
