@@ -76,11 +76,11 @@ module _ {E : Type 0} (entry_text : E → List ℕ) where
   -- one text behind another
   pub tells-append : (t u : List ℕ) (es fs : List E) (said more : List (List ℕ)) → TellsLines entry_text t es said
       → TellsLines entry_text u fs more → TellsLines entry_text (t ++ u) (es ++ fs) (said ++ more)
-  tells-append t u es fs said more first then = record {
-    lines = first.lines ++ then.lines;
-    written = ap₂ (λ (a b : List ℕ). a ++ b) first.written then.written ∙ sym (text-append first.lines then.lines);
-    log = filter-append is_log_line first.lines then.lines ∙ ap₂ (λ (a b : List (List ℕ)). a ++ b) first.log then.log ∙ sym (map-append entry_text es fs);
-    others = filter-append is_other first.lines then.lines ∙ ap₂ (λ (a b : List (List ℕ)). a ++ b) first.others then.others;
+  tells-append t u es fs said more first next = record {
+    lines = first.lines ++ next.lines;
+    written = ap₂ (λ (a b : List ℕ). a ++ b) first.written next.written ∙ sym (text-append first.lines next.lines);
+    log = filter-append is_log_line first.lines next.lines ∙ ap₂ (λ (a b : List (List ℕ)). a ++ b) first.log next.log ∙ sym (map-append entry_text es fs);
+    others = filter-append is_other first.lines next.lines ∙ ap₂ (λ (a b : List (List ℕ)). a ++ b) first.others next.others;
   }
 
   -- lines that say something
