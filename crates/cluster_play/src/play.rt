@@ -6,8 +6,8 @@ ghost use Rattle.cluster_play.specs.Language.{cluster_scripts};
 
 use crate::playing::ClusterPlay;
 use edge_io::{Sink, Source};
+use scenario_play::Status;
 use scenario_play::play::play_on;
-use scenario_play::{ScriptPlayer, Status};
 use std::alloc::Global;
 
 /// Reads a script of several groups from the source to its end, treats its lines in order, and writes their
@@ -19,5 +19,5 @@ pub fn play_groups<S: Source, K: Sink>(alloc: Global, source: &mut S, sink: &mut
     ensures read { result ≡ Status.ReadFault → Rose (S.faults source.old) (S.faults source.new) }
     ensures write { result ≡ Status.WriteFault → Rose (K.faults sink.old) (K.faults sink.new) }
 {
-    play_on(alloc, &mut ScriptPlayer::<ClusterPlay>::new(), source, sink)
+    play_on::<ClusterPlay, S, K>(alloc, source, sink)
 }

@@ -6,8 +6,8 @@ ghost use Rattle.regroup_play.specs.Language.{era_scripts};
 
 use crate::playing::EraPlay;
 use edge_io::{Sink, Source};
+use scenario_play::Status;
 use scenario_play::play::play_on;
-use scenario_play::{ScriptPlayer, Status};
 use std::alloc::Global;
 
 /// Reads a script of a group over eras from the source to its end, treats its lines in order, and writes their
@@ -20,5 +20,5 @@ pub fn play_regroup<S: Source, K: Sink>(alloc: Global, source: &mut S, sink: &mu
     ensures read { result ≡ Status.ReadFault → Rose (S.faults source.old) (S.faults source.new) }
     ensures write { result ≡ Status.WriteFault → Rose (K.faults sink.old) (K.faults sink.new) }
 {
-    play_on(alloc, &mut ScriptPlayer::<EraPlay>::new(), source, sink)
+    play_on::<EraPlay, S, K>(alloc, source, sink)
 }

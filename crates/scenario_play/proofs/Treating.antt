@@ -1,23 +1,17 @@
 -- What treating a line comes to, by what the rules of its script say of it.
 use Rattle.std.proofs.Common.{◌≡◌, ℕ, ◌⊎◌, inl, inr, List, [], Option, Some, None, Ok, Err, Vec, refl, sym, ap, subst, ◌∙◌}
-use Rattle.scenario_run.specs.Course.{Ends, Fault, Goes, Next, Refused, fault_in, text_in, turns_of_lines}
+use Rattle.scenario_run.specs.Course.{Ends, Fault, Goes, Next, Refused, turns_of_lines}
 use Rattle.scenario_run.proofs.Following.{fault-line, text-line, turns-line}
 use Rattle.scenario_play.specs.Player as player
-use Rattle.scenario_play.specs.Player.{EndsAt, HasMetEnd, HasTreatedLine, ScriptGoesOn, Telling, telling}
+use Rattle.scenario_play.specs.Player.{EndsAt, HasMetEnd, HasTreatedLine, ScriptGoesOn, telling}
 use Rattle.scenario_play.specs.Script.{TellsCauses, HasDone, HasLedOn, LeavesReady, Left, Scripts}
 use Rattle.scenario_play.specs.Status.{TellsOfLine, status_of_lines}
 use Rattle.scenario_play.specs.declared.status.Status.{Status}
 use Rattle.scenario_play.specs.declared.status.Status.TheVariants.{BadLine, Done, ReadFault, Want}
 
 module _ {S T F : Type 0} (script : Scripts S T F) where
-  -- what a player of the script tells
-  abbrev pub tells : Telling (Option S)
-  tells = telling (λ state lines. text_in script.rules state lines)
-      (λ n state lines. status_of_lines script.told (fault_in script.rules script.lacking n state lines))
-      (λ state lines. script.logged state (turns_of_lines script.rules state lines)) script.Ready
-
   goes-on : (n : ℕ) (before now : Option S) (line : List ℕ) (turns : List T) (text : List ℕ) → script.rules before line
-      ≡ Goes now turns text → Left script n before now turns → ScriptGoesOn tells n before now line text
+      ≡ Goes now turns text → Left script n before now turns → ScriptGoesOn (telling script) n before now line text
   goes-on n before now line turns text next left = record {
     text = λ lines. text-line script.rules before line lines (Goes now turns text) next;
     verdict = λ lines. ap (status_of_lines script.told) (fault-line script.rules script.lacking n before line lines (Goes now turns text) next);
@@ -27,13 +21,13 @@ module _ {S T F : Type 0} (script : Scripts S T F) where
   }
 
   refused-at : (n : ℕ) (before : Option S) (line : List ℕ) (cause : F) → script.rules before line ≡ Refused cause
-      → EndsAt tells n before line (script.told n cause)
+      → EndsAt (telling script) n before line (script.told n cause)
   refused-at n before line cause next = record {
     text = λ lines. text-line script.rules before line lines (Refused cause) next;
     verdict = λ lines. ap (status_of_lines script.told) (fault-line script.rules script.lacking n before line lines (Refused cause) next);
   }
 
-  ended-at : (n : ℕ) (before : Option S) (line : List ℕ) → script.rules before line ≡ Ends → EndsAt tells n before line Done
+  ended-at : (n : ℕ) (before : Option S) (line : List ℕ) → script.rules before line ≡ Ends → EndsAt (telling script) n before line Done
   ended-at n before line next = record {
     text = λ lines. text-line script.rules before line lines Ends next;
     verdict = λ lines. ap (status_of_lines script.told) (fault-line script.rules script.lacking n before line lines Ends next);
@@ -52,7 +46,7 @@ module _ {S T F : Type 0} (script : Scripts S T F) where
   module _ (n : ℕ) (before now : Option S) (line : List ℕ) where
     pub treated-ok : {Z : Type 0} (text : Option (Vec ℕ Z)) → LeavesReady script → script.Ready n before
         → HasDone script.want before (script.rules before line) now (player.bytes_in_text {E = F} (Ok text))
-        → HasTreatedLine tells n before now line (player.bytes_in_text {E = Status} (Ok text))
+        → HasTreatedLine (telling script) n before now line (player.bytes_in_text {E = Status} (Ok text))
     treated-ok (Some text) onward ready done =
         let goes = went (script.rules before line) now text.items done in
         goes-on n before now line goes.0 text.items goes.1 (onward n before now line goes.0 text.items ready goes.1)
@@ -63,18 +57,18 @@ module _ {S T F : Type 0} (script : Scripts S T F) where
 
     pub treated-err : TellsCauses script → (cause : F) (status : Status) → status ≡ script.told n cause
         → (cause ≡ script.want) ⊎ (script.rules before line ≡ Refused cause)
-        → HasTreatedLine tells n before now line (Err status)
+        → HasTreatedLine (telling script) n before now line (Err status)
     treated-err law cause status is done =
-        subst (λ (s : Status). (s ≡ Want) ⊎ (TellsOfLine s × EndsAt tells n before line s)) (sym is)
+        subst (λ (s : Status). (s ≡ Want) ⊎ (TellsOfLine s × EndsAt (telling script) n before line s)) (sym is)
         (by done (law.refused n cause)) where
           by : (cause ≡ script.want) ⊎ (script.rules before line ≡ Refused cause) → (script.told n cause ≡ Want) ⊎ TellsOfLine (script.told n cause)
-              → (script.told n cause ≡ Want) ⊎ (TellsOfLine (script.told n cause) × EndsAt tells n before line (script.told n cause))
+              → (script.told n cause ≡ Want) ⊎ (TellsOfLine (script.told n cause) × EndsAt (telling script) n before line (script.told n cause))
           by (inl want) told = inl (ap (script.told n) want ∙ law.want n)
           by (inr next) (inl want) = inl want
           by (inr next) (inr refusal) = inr (refusal, refused-at n before line cause next)
 
   -- where no state was named, its line is lacking
-  pub met-end : TellsCauses script → (n : ℕ) → HasMetEnd tells n None (Err (BadLine n))
+  pub met-end : TellsCauses script → (n : ℕ) → HasMetEnd (telling script) n None (Err (BadLine n))
   met-end law n = (refl, law.lacking n, tt)
 
   -- what is told of a cause says that a line was refused, or that there was no memory

@@ -4,7 +4,6 @@ ghost use Rattle.scenario_play.specs.Status.{told_at};
 
 use crate::next::treat;
 use crate::playing::Play;
-use crate::script_player::ScriptPlayer;
 use crate::status::Status;
 use crate::subject::Subject;
 use scenario_text::LineFault;
@@ -48,10 +47,10 @@ pub fn status_of(fault: LineFault, number: u64) -> Status
 }
 
 /// How many entries a script's group has logged.
-pub(crate) fn logged(player: &ScriptPlayer<Play>) -> usize
-    ensures { result ≡ log_len player.now }
+pub(crate) fn logged(subject: &Option<Play>) -> usize
+    ensures { result ≡ log_len subject.now }
 {
-    match &player.subject {
+    match subject {
         Some(play) => play.world.log().len(),
         None => 0,
     }

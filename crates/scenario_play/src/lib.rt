@@ -14,10 +14,8 @@ mod next;
 mod page;
 mod placing;
 pub mod play;
-pub mod player;
 mod playing;
 mod read_script;
-pub mod script_player;
 pub mod showing;
 pub mod status;
 pub mod subject;
@@ -25,7 +23,5 @@ pub mod tell;
 pub mod trial;
 pub mod words;
 
-pub use player::Player;
-pub use script_player::ScriptPlayer;
 pub use status::{Count, Status};
 pub use subject::Subject;

@@ -1,5 +1,5 @@
 ghost use Rattle.std.specs.Prelude.{◌≡◌, ◌≤◌};
-ghost use Rattle.scenario_play.specs.Player.{bytes_in_text};
+ghost use Rattle.scenario_play.specs.Player.{HasMetEnd, HasTreatedLine, bytes_in_text, telling};
 ghost use Rattle.scenario_play.specs.Script.{TellsCauses, HasDone, LeavesReady, Scripts};
 
 use crate::status::Status;
@@ -35,4 +35,31 @@ pub trait Subject: Sized + Drop {
 
     // Each cause is told of as a refusal, but for want of memory.
     ghost tells: { TellsCauses script };
+}
+
+/// Treats a line, and tells of it where it is refused.
+pub(crate) fn treat_line<P: Subject>(
+    subject: &mut Option<P>,
+    alloc: Global,
+    number: u64,
+    line: &[u8],
+) -> Result<Option<Vec<u8>>, Status>
+    requires number { number ≤ 16777217 }
+    requires ready { P.script.Ready number subject.old }
+    ensures { HasTreatedLine (telling P.script) number subject.old subject.new line.now (bytes_in_text result) }
+{
+    match P::treat(subject, alloc, number, line) {
+        Ok(text) => Ok(text),
+        Err(fault) => Err(P::told(fault, number)),
+    }
+}
+
+/// What there is to say behind the last line.
+pub(crate) fn end_lines<P: Subject>(subject: &Option<P>, number: u64) -> Result<(), Status>
+    ensures { HasMetEnd (telling P.script) number subject.now result }
+{
+    match subject {
+        Some(_) => Ok(()),
+        None => Err(Status::BadLine(number)),
+    }
 }

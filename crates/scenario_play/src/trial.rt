@@ -13,7 +13,6 @@ use crate::page::Page;
 use crate::play::{play_lines, write_text};
 use crate::playing::Play;
 use crate::read_script::LONGEST_SCRIPT;
-use crate::script_player::ScriptPlayer;
 use crate::status::Status;
 use crate::tell::tell;
 use edge_io::Sink;
@@ -58,8 +57,8 @@ fn trial_line(alloc: Global, number: u64, script: &[u8]) -> Result<String, Statu
     if LONGEST_SCRIPT < script.len() {
         return Err(Status::TooLong);
     }
-    let (mut player, mut page) = (ScriptPlayer::<Play>::new(), Page::new(alloc));
-    play_lines(alloc, &mut player, script, &mut page)?;
-    let (lines, logged, bytes) = (count_lines(script), logged(&player), page.len());
+    let (mut subject, mut page): (Option<Play>, Page) = (None, Page::new(alloc));
+    play_lines(alloc, &mut subject, script, &mut page)?;
+    let (lines, logged, bytes) = (count_lines(script), logged(&subject), page.len());
     Ok(format!(in alloc; "trial {number} lines {lines} logged {logged} bytes {bytes}\n")?)
 }
