@@ -16,6 +16,7 @@ use Rattle.group_layout.specs.declared.event.ClusterEvent.TheVariants.{InGroup}
 use Rattle.group_cluster.specs.History.{HasFewEvents}
 use Rattle.group_cluster.specs.Plan.{Plan}
 use Rattle.scenario_run.proofs.Draining.{Lightens, burden, lightens, next-delivers}
+use Rattle.scenario_run.proofs.Entries.{entries-append}
 use Rattle.scenario_play.proofs.Delivering.{draining-down, draining-up, none-left, one-left}
 use Rattle.cluster_run.specs.Led.{IsLedTo}
 use Rattle.cluster_run.specs.Playing.{ClusterTurn, all_deliveries, cluster_log_of, cluster_turns_from, deliveries, deliveries_in, drained_text}
@@ -24,11 +25,6 @@ use Rattle.cluster_run.proofs.Draining.{Delivered, delivered, group-drains}
 use Rattle.cluster_run.proofs.Leading.{after-append, led-even, led-group, led-on, one-leads, turns-append}
 use Rattle.cluster_play.specs.Doing.{IsReadyCluster}
 
-pub entries-append : (a b : List ClusterEntry) → cluster_entries_text (a ++ b) ≡ cluster_entries_text a ++ cluster_entries_text b
-entries-append [] b = refl
-entries-append (x ∷ a) b = ap (λ (ys : List ℕ). cluster_entry_text x ++ 10 ∷ ys) (entries-append a b)
-    ∙ sym (append_assoc (cluster_entry_text x) (10 ∷ cluster_entries_text a) (cluster_entries_text b))
-
 -- what events write that they log
 abbrev pub written_by : Cluster → List ClusterEvent → List ℕ
 written_by c es = cluster_entries_text (cluster_log_of (cluster_turns_from c es))
@@ -36,7 +32,7 @@ written_by c es = cluster_entries_text (cluster_log_of (cluster_turns_from c es)
 written-more : (c : Cluster) (e : ClusterEvent) (es : List ClusterEvent)
     → written_by c (e ∷ es) ≡ cluster_entries_text (logged_in (cluster_step c e).turns)
     ++ written_by (cluster_step c e).cluster es
-written-more c e es = entries-append (logged_in (cluster_step c e).turns) (cluster_log_of (cluster_turns_from (cluster_step c e).cluster es))
+written-more c e es = entries-append cluster_entry_text (logged_in (cluster_step c e).turns) (cluster_log_of (cluster_turns_from (cluster_step c e).cluster es))
 
 -- deliveries of a group, as events of its cluster
 abbrev pub ours : ℕ → List Event → List ClusterEvent
@@ -185,7 +181,7 @@ written-append : (c : Cluster) (es fs : List ClusterEvent) → written_by c (es 
 written-append c es fs =
     ap (λ (ts : List ClusterTurn). cluster_entries_text (cluster_log_of ts)) (turns-append c es fs)
     ∙ ap cluster_entries_text (log-append (cluster_turns_from c es) (cluster_turns_from (cluster_after c es) fs))
-    ∙ entries-append (cluster_log_of (cluster_turns_from c es)) (cluster_log_of (cluster_turns_from (cluster_after c es) fs))
+    ∙ entries-append cluster_entry_text (cluster_log_of (cluster_turns_from c es)) (cluster_log_of (cluster_turns_from (cluster_after c es) fs))
 
 -- events that add to no group leave it ready
 led-after : (n : ℕ) (c : Cluster) (j : ℕ) → (ready : IsReadyCluster n c) → j < length c.groups.worlds → IsLedTo ready.plan (cluster_after c (deliveries_in c j))

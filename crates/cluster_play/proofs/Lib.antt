@@ -4,4 +4,3 @@ pub mod Lines
 pub mod Logged
 pub mod Ranges
 pub mod Ready
-pub mod Whole

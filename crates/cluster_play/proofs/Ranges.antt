@@ -1,38 +1,17 @@
 -- Groups of numbers that are within their limits, or the first of them that is not.
 use Rattle.std.proofs.Common.{◌≡◌, ◌<◌, ◌≤◌, ◌+◌, ◌&&◌, ◌⊎◌, inl, inr, Bool, true, false, nat_le, nat_lt, Option, Some}
-use Rattle.std.proofs.Common.{None, Result, Ok, Err, if◌then◌else◌, refl, sym, ap, ◌∙◌, arith}
+use Rattle.std.proofs.Common.{None, Ok, Err, if◌then◌else◌, refl, sym, ap, ◌∙◌, arith}
 use Rattle.std.proofs.lemmas.Bool.Decides.{nat_tests}
-use Rattle.group_types.specs.Dimensions.{Dimensions}
 use Rattle.group_types.specs.Shape.{IsFirstOutOfRange, IsShape}
 use Rattle.group_types.specs.declared.shape.Field.{Field}
 use Rattle.group_types.specs.declared.shape.Field.TheVariants.{Blocks}
 use Rattle.group_cluster.specs.Plan.{AreGroups, AreNodes, IsFirstBad, IsPlan, Plan, cluster_bytes, most_bytes}
 use Rattle.group_cluster.specs.declared.layout.LayoutField.{LayoutField}
 use Rattle.group_cluster.specs.declared.layout.LayoutField.TheVariants.{Groups, Nodes, Shape}
-use Rattle.scenario_text.specs.Meaning.{first_out_of_range, group_unless, group_within}
-use Rattle.scenario_text.specs.declared.line.Line.{Line}
-use Rattle.scenario_text.specs.declared.line.Line.TheVariants.{Group}
-use Rattle.scenario_text.specs.declared.line.LineFault.{LineFault}
-use Rattle.scenario_text.specs.declared.line.LineFault.TheVariants as line
-use Rattle.scenario_text.proofs.Limits.{group_within-fault, group_within-shape}
+use Rattle.scenario_text.specs.Meaning.{first_out_of_range}
+use Rattle.scenario_play.proofs.Shapes.{shape-none, shape-some}
 use Rattle.cluster_run.specs.Meaning.{field_of_shape, first_bad, plan_unless, plan_within}
 use Rattle.cluster_run.specs.declared.fault.ClusterFault.TheVariants.{BadLayout}
-
-unless : (d : Dimensions) → Result Line LineFault → group_within d ≡ group_unless d (first_out_of_range d)
-unfolding group_within
-unless d r = refl
-
-shape-none : (d : Dimensions) → IsShape d → first_out_of_range d ≡ None
-shape-none d limits = by (first_out_of_range d) (sym (unless d (Ok (Group d))) ∙ group_within-shape d d refl limits) where
-  by : (o : Option Field) → group_unless d o ≡ Ok (Group d) → o ≡ None
-  by None is = refl
-  by (Some field) is = absurd (cc is)
-
-shape-some : (d : Dimensions) (field : Field) → IsFirstOutOfRange d field → first_out_of_range d ≡ Some field
-shape-some d field bad = by (first_out_of_range d) (sym (unless d (Ok (Group d))) ∙ group_within-fault d field bad) where
-  by : (o : Option Field) → group_unless d o ≡ Err (line.BadShape field) → o ≡ Some field
-  by None is = absurd (cc is)
-  by (Some other) is = cc
 
 module _ (p : Plan) where
   groups-in : AreGroups p → (nat_le 1 p.groups && nat_le p.groups 16) ≡ true

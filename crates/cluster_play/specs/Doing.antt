@@ -1,13 +1,18 @@
--- What doing a line comes to, and when a line may come.
-use Rattle.std.specs.Prelude.{ℕ, ◌≡◌, ◌<◌, ◌≤◌, ◌+◌, ◌*◌, ◌^◌, ⊤, List, [], length, Option, Some, None, Result, Ok, Err}
+-- When a line may come, and scripts of several groups as they are played.
+use Rattle.std.specs.Prelude.{ℕ, ◌≡◌, ◌<◌, ◌≤◌, ◌+◌, ◌*◌, ◌^◌, ◌⊎◌, refl, ⊤, Option, Some, None}
+use Rattle.std.proofs.Common.{inl, inr}
 use Rattle.group_run.specs.Progress.{load_of}
 use Rattle.group_layout.specs.Cluster.{Cluster, world_in}
 use Rattle.group_cluster.specs.Plan.{Plan}
-use Rattle.scenario_run.specs.Course.{Ends, Goes, Refused}
+use Rattle.group_cluster.specs.declared.layout.LayoutField.TheVariants.{Groups, Nodes, Shape}
+use Rattle.scenario_play.specs.Script.{TellsCauses, Scripts}
+use Rattle.scenario_play.specs.Status.{TellsOfLine}
+use Rattle.scenario_play.specs.declared.status.Status.TheVariants as status
 use Rattle.cluster_run.specs.Led.{IsLedTo}
-use Rattle.cluster_run.specs.Playing.{ClusterNext, ClusterPlay}
+use Rattle.cluster_run.specs.Playing.{ClusterPlay, ClusterTurn, next_of}
 use Rattle.cluster_run.specs.declared.fault.ClusterFault.{ClusterFault}
-use Rattle.cluster_run.specs.declared.fault.ClusterFault.TheVariants.{Want}
+use Rattle.cluster_run.specs.declared.fault.ClusterFault.TheVariants.{BadLayout, BadLine, Want}
+use Rattle.cluster_play.specs.Language.{told_at}
 
 -- the events that each group made, and those that can drain it, are at most n
 abbrev pub AreLight : ℕ → ℕ → Cluster → Type 0
@@ -28,22 +33,17 @@ abbrev pub ClusterGoesOn : ℕ → Option ClusterPlay → Type 0
 ClusterGoesOn n None = ⊤
 ClusterGoesOn n (Some p) = IsReadyCluster (n * most_of_a_line) p.cluster
 
--- how many entries the groups have logged
-abbrev pub log_len : Option ClusterPlay → ℕ
-log_len None = 0
-log_len (Some p) = length p.cluster.groups.log
+-- scripts of several groups, as they are played; what they log is not counted
+abbrev pub cluster_script : Scripts ClusterPlay ClusterTurn ClusterFault
+cluster_script = record { rules = next_of; lacking = BadLine; want = Want; told = told_at; logged = λ play turns. 0; Ready = ClusterGoesOn }
 
--- a line before the one that names the groups was treated, or that one
-abbrev pub HasBegun : ClusterNext → Result (Option ClusterPlay) ClusterFault → Type 0
-HasBegun next (Ok play) = next ≡ Goes play [] []
-HasBegun next (Err Want) = ⊤
-HasBegun next (Err fault) = next ≡ Refused fault
+refused : (n : ℕ) (cause : ClusterFault) → (told_at n cause ≡ status.Want) ⊎ TellsOfLine (told_at n cause)
+refused n BadLine = inr tt
+refused n (BadLayout Groups) = inr tt
+refused n (BadLayout Nodes) = inr tt
+refused n (BadLayout (Shape field)) = inr tt
+refused n Want = inl refl
 
--- what a line does was done: the cluster is the one after it and the text is what is written for it, or there is no
--- text at the end, or the line was refused; or there was no memory
-abbrev pub HasDone : Option ClusterPlay → ClusterNext → Option ClusterPlay → Result (Option (List ℕ)) ClusterFault → Type 0
-HasDone before (Goes play turns text) now (Ok (Some written)) = (now ≡ play) × (written ≡ text)
-HasDone before Ends now (Ok None) = now ≡ before
-HasDone before next now (Err Want) = ⊤
-HasDone before (Refused fault) now (Err cause) = cause ≡ fault
-HasDone before next now _ = ⊥
+-- what is told of a line that is refused
+pub cluster_told : TellsCauses cluster_script
+cluster_told = record { lacking = λ n. refl; want = λ n. refl; refused = refused }

@@ -8,9 +8,9 @@ pub mod laws;
 mod making;
 mod next;
 pub mod play;
-mod player;
 mod playing;
 mod reading;
+mod subject;
 mod writing;
 
 pub use play::play_groups;

@@ -2,14 +2,16 @@ ghost use Rattle.std.specs.Prelude.{◌≡◌, ◌^◌, ◌<◌, None, Some, len
 ghost use Rattle.scenario_text.specs.Meaning.{IsLineOf};
 ghost use Rattle.scenario_text.specs.Words as text;
 ghost use Rattle.scenario_play.specs.Player.{bytes_in_text};
+ghost use Rattle.scenario_play.specs.Script.{HasBegun, HasDone};
 ghost use Rattle.cluster_run.specs.Meaning.{failure_line};
 ghost use Rattle.cluster_run.specs.Playing.{by_words, next_of, then_by, then_in};
-ghost use Rattle.cluster_play.specs.Doing.{HasBegun, HasDone, IsReadyCluster};
+ghost use Rattle.cluster_play.specs.Doing.{IsReadyCluster};
 
 use crate::playing::ClusterPlay;
-use crate::reading::{is_skipped, read_failure, read_group, read_groups, words_of};
+use crate::reading::{read_failure, read_group, read_groups};
 use cluster_run::ClusterFault;
 use group_calls::Event;
+use scenario_play::words::{is_skipped, words_of};
 use scenario_text::read_line::read_line;
 use scenario_text::{Line, LineFault};
 use std::alloc::Global;
@@ -21,7 +23,7 @@ pub(crate) fn treat(
     line: &[u8],
 ) -> Result<Option<Vec<u8>>, ClusterFault>
     requires { IfSome play.old (λ p. IsReadyCluster (2 ^ 59) p.cluster) }
-    ensures { HasDone play.old (next_of play.old line.now) play.new (bytes_in_text result) }
+    ensures { HasDone ClusterFault.Want play.old (next_of play.old line.now) play.new (bytes_in_text result) }
 {
     match play {
         None => {
@@ -34,7 +36,7 @@ pub(crate) fn treat(
 
 /// The groups after a line before which they were not named.
 fn begin(alloc: Global, line: &[u8]) -> Result<Option<ClusterPlay>, ClusterFault>
-    ensures { HasBegun (next_of None line.now) result }
+    ensures { HasBegun ClusterFault.Want (next_of None line.now) result }
 {
     if is_skipped(line) {
         return Ok(None);
@@ -50,7 +52,8 @@ fn follow(
     line: &[u8],
 ) -> Result<Option<Vec<u8>>, ClusterFault>
     requires ready { IsReadyCluster (2 ^ 59) play.old.cluster }
-    ensures { HasDone (Some play.old) (next_of (Some play.old) line.now) (Some play.new) (bytes_in_text result) }
+    ensures { HasDone ClusterFault.Want (Some play.old) (next_of (Some play.old) line.now) (Some play.new)
+        (bytes_in_text result) }
 {
     match read_group(play.cluster.groups(), line) {
         Ok((group, rest)) => {
@@ -69,7 +72,7 @@ fn follow_all(
     line: &[u8],
 ) -> Result<Option<Vec<u8>>, ClusterFault>
     requires ready { IsReadyCluster (2 ^ 59) play.old.cluster }
-    ensures { HasDone (Some play.old) (by_words play.old line.now None
+    ensures { HasDone ClusterFault.Want (Some play.old) (by_words play.old line.now None
         (failure_line (length play.old.cluster.failed) (text.split_words line.now))) (Some play.new) (bytes_in_text result) }
 {
     match read_failure(play.cluster.nodes(), &words_of(alloc, line)?) {
@@ -92,7 +95,8 @@ fn follow_in(
     requires group { group < length play.old.cluster.groups.worlds }
     requires line { IsLineOf (Some play.old.cluster.groups.shape) line }
     requires ready { IsReadyCluster (2 ^ 59) play.old.cluster }
-    ensures { HasDone (Some play.old) (then_in play.old group line) (Some play.new) (bytes_in_text result) }
+    ensures { HasDone ClusterFault.Want (Some play.old) (then_in play.old group line) (Some play.new)
+        (bytes_in_text result) }
 {
     let text = match line {
         Line::Ask { caller, at, act } => {
@@ -125,13 +129,7 @@ fn follow_in(
             )?
         }
         Line::Show { at, run } => play.show(alloc, group, at, run)?,
-        Line::Skipped
-        | Line::Group { .. }
-        | Line::Fail { .. }
-        | Line::Drain
-        | Line::Places
-        | Line::Time { .. }
-        | Line::Stop => return Err(ClusterFault::BadLine),
+        _ => return Err(ClusterFault::BadLine),
     };
     Ok(Some(text))
 }
@@ -144,7 +142,7 @@ fn follow_plain(
 ) -> Result<Option<Vec<u8>>, ClusterFault>
     requires line { IsLineOf (Some play.old.cluster.groups.shape) line }
     requires ready { IsReadyCluster (2 ^ 59) play.old.cluster }
-    ensures { HasDone (Some play.old) (then_by play.old line) (Some play.new) (bytes_in_text result) }
+    ensures { HasDone ClusterFault.Want (Some play.old) (then_by play.old line) (Some play.new) (bytes_in_text result) }
 {
     match line {
         Line::Skipped => Ok(Some(Vec::new(alloc))),
@@ -154,14 +152,6 @@ fn follow_plain(
             Ok(Some(Vec::new(alloc)))
         }
         Line::Stop => Ok(None),
-        Line::Group { .. }
-        | Line::Ask { .. }
-        | Line::Collect { .. }
-        | Line::Deliver { .. }
-        | Line::Fail { .. }
-        | Line::Flush { .. }
-        | Line::Places
-        | Line::Trace { .. }
-        | Line::Show { .. } => Err(ClusterFault::BadLine),
+        _ => Err(ClusterFault::BadLine),
     }
 }

@@ -4,7 +4,7 @@ ghost use Rattle.scenario_play.specs.Outside.{outside};
 ghost use Rattle.scenario_play.specs.Played.{IsPlayed};
 ghost use Rattle.cluster_play.specs.Language.{cluster_scripts};
 
-use crate::player::ClusterPlayer;
+use crate::playing::ClusterPlay;
 use edge_io::{Sink, Source};
 use scenario_play::Status;
 use scenario_play::play::play_on;
@@ -19,5 +19,5 @@ pub fn play_groups<S: Source, K: Sink>(alloc: Global, source: &mut S, sink: &mut
     ensures read { result ≡ Status.ReadFault → Rose (S.faults source.old) (S.faults source.new) }
     ensures write { result ≡ Status.WriteFault → Rose (K.faults sink.old) (K.faults sink.new) }
 {
-    play_on(alloc, &mut ClusterPlayer::new(), source, sink)
+    play_on::<ClusterPlay, S, K>(alloc, source, sink)
 }

@@ -10,13 +10,13 @@ ghost use Rattle.cluster_play.specs.Doing.{IsReadyCluster};
 
 use crate::deliveries::drain;
 use crate::making::make_event;
-use crate::writing::{answer_line, write_drained, write_mark};
+use crate::writing::{answer_line, write_mark};
 use group_calls::Event;
 use group_cluster::{Cluster, Layout};
 use group_layout::ClusterEvent;
 use group_types::{ProcessId, Run, Shape};
 use memc_table::{Act, Op};
-use scenario_play::entries::write_last;
+use scenario_play::entries::{write_count, write_last};
 use scenario_play::showing::write_look;
 use std::alloc::{AllocError, Global};
 use std::marker::Model;
@@ -131,7 +131,7 @@ impl ClusterPlay {
     {
         let mut text = Vec::new(alloc);
         let count = drain(alloc, &mut self.cluster, &mut text)?;
-        text.extend_from_slice(&write_drained(alloc, count)?)?;
+        write_count(alloc, count, &mut text)?;
         Ok(text)
     }
 

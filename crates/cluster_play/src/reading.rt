@@ -1,8 +1,6 @@
-ghost use Rattle.std.specs.Prelude.{◌≡◌, ◌<◌, ◌==◌, map, None, Some, IfOk, MatchOption, MatchResult};
-ghost use Rattle.std.specs.List.{slice_split};
+ghost use Rattle.std.specs.Prelude.{◌≡◌, ◌<◌, map, None, Some, IfOk, MatchOption, MatchResult};
 ghost use Rattle.group_cluster.specs.Plan.{IsPlan, Plan};
 ghost use Rattle.group_layout.specs.declared.event.ClusterEvent.TheVariants.{FailNode};
-ghost use Rattle.scenario_text.specs.Meaning.{is_skipped};
 ghost use Rattle.scenario_text.specs.Reads.{IsReadAs, IsReadBy};
 ghost use Rattle.cluster_run.specs.Meaning.{cut_at_space, failure_line, group_of_word, groups_line, in_group, plan_of, plan_within};
 ghost use Rattle.cluster_play.specs.Reads.{IsPlanRead};
@@ -12,25 +10,7 @@ use group_cluster::Layout;
 use memchr::memchr;
 use scenario_text::LineFault;
 use scenario_text::read_word::{read_keep, read_number, read_u32};
-use std::alloc::{AllocError, Global};
 use std::marker::Model;
-
-/// The words of a line.
-pub(crate) fn words_of(alloc: Global, line: &[u8]) -> Result<Vec<&[u8]>, AllocError>
-    ensures { IfOk result (λ words. map (λ word. word.now) words.items ≡ slice_split (λ b. b == 32) line.now) }
-{
-    line.split(|byte| *byte == b' ').collect(alloc)
-}
-
-/// Whether a line is skipped.
-pub(crate) fn is_skipped(line: &[u8]) -> bool
-    ensures { result ≡ is_skipped line.now }
-{
-    match line {
-        [] => true,
-        [first, ..] => *first == b'#',
-    }
-}
 
 /// The group that a line begins with, and its line: `g<j> ` and what stands behind it.
 pub(crate) fn read_group(groups: u32, line: &[u8]) -> Result<(u32, &[u8]), LineFault>

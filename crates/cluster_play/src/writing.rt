@@ -52,13 +52,6 @@ pub(crate) fn logged_by(out: ClusterOut) -> u64
     out.logged
 }
 
-/// The last line of a drain of so many deliveries.
-pub(crate) fn write_drained(alloc: Global, count: u64) -> Result<Vec<u8>, AllocError>
-    ensures { IfOk result (λ text. text.items ≡ codes "drained " ++ (decimal count ++ codes "\n")) }
-{
-    Ok(format!(in alloc; "drained {count}\n")?.into_bytes())
-}
-
 /// What stands in front of an entry of a group's log.
 pub(crate) fn write_mark(alloc: Global, group: u32) -> Result<Vec<u8>, AllocError>
     ensures { IfOk result (λ text. text.items ≡ group_mark group) }

@@ -57,11 +57,7 @@ module _ (plan : Plan) where
       by i (inr (word, other)) own =
           let same = ap burden (other-world c.groups (record { group = j; event = e }) i (λ x. other (sym x))) in
           omega (arith, same)
-  delivered c j (Ask caller op p) led low delivery lighter = absurd delivery
-  delivered c j (Collect caller call p) led low delivery lighter = absurd delivery
-  delivered c j (Fail p keep) led low delivery lighter = absurd delivery
-  delivered c j (Flush p) led low delivery lighter = absurd delivery
-  delivered c j (Trace caller call d p) led low delivery lighter = absurd delivery
+  delivered c j e led low delivery lighter = absurd delivery
 
   -- the deliveries behind the next one
   abbrev behind : ℕ → World → Option Event → List Event

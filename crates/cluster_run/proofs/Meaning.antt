@@ -49,9 +49,7 @@ module _ (p : Plan) where
     bytes = grind (arith, nat_tests);
   }
   fits true true true isb isc isd None is same = absurd (cc same)
-  fits true true d isb isc isd (Some field) is same = absurd (cc same)
-  fits true false d isb isc isd o is same = absurd (cc same)
-  fits false c d isb isc isd o is same = absurd (cc same)
+  fits b c d isb isc isd o is same = absurd (cc same)
 
 plan-fits : (p : Plan) → first_bad p ≡ None → IsPlan p
 plan-fits p is = fits p _ _ _ refl refl refl (first_out_of_range p.shape) refl (sym (by (first_out_of_range p.shape)) ∙ is) where
@@ -103,13 +101,10 @@ in_group-below count line x is = named-below count (cut_at_space line) x is
 
 -- a node that a line names is there
 pub failure-below : (c : Cluster) (words : List (List ℕ)) (e : ClusterEvent) → failure_line (length c.failed) words ≡ Some e → MayHappen c e
-failure-below c [] e is = absurd (cc is)
-failure-below c (name ∷ []) e is = absurd (cc is)
-failure-below c (name ∷ node ∷ []) e is = absurd (cc is)
-failure-below c (name ∷ node ∷ keep ∷ another ∷ more) e is = absurd (cc is)
 failure-below c (name ∷ node ∷ keep ∷ []) e is =
     let read = (passed (bytes_eq name (codes "fail_node")) _ e is).1 in
     let first = bound (number_below (length c.failed) node) _ e read in
     let second = bound (keep_of_word keep) _ e first.2 in
     let same : FailNode first.0 second.0 ≡ e = cc (second.2) in
     subst (MayHappen c) same (number_below-under (length c.failed) node first.0 first.1)
+failure-below c xs e is = absurd (cc is)

@@ -1,9 +1,9 @@
 -- Every script's cluster keeps the promises of the headline.
-use Rattle.std.proofs.Common.{ℕ, zero, suc, ◌≡◌, ◌<◌, ◌+◌, ◌⊎◌, inl, inr, List, [], ◌∷◌, ◌++◌, length, map, take, All}
-use Rattle.std.proofs.Common.{Option, Some, None, Result, Ok, Err, refl, sym, ap, subst, ◌∙◌, append_assoc}
+use Rattle.std.proofs.Common.{ℕ, zero, suc, ◌≡◌, ◌<◌, List, [], ◌∷◌, ◌++◌, length, map, take, All, Option, Some, None}
+use Rattle.std.proofs.Common.{Result, Ok, refl, sym, ap, subst, ◌∙◌, append_assoc}
 use Rattle.group_types.specs.Dimensions.{Dimensions}
 use Rattle.group_types.specs.Shape.{IsShape}
-use Rattle.group_run.specs.Shown.{HoldsTruth, held}
+use Rattle.group_run.specs.Shown.{HoldsTruth, held, stamp_of}
 use Rattle.group_layout.specs.Cluster.{Cluster, ClusterEntry, GroupTurn, IsLayout, MayAllHappen, cluster_step, cluster_turns, logged_in, tagged, world_in}
 use Rattle.group_layout.specs.Legal.{IsClusterLegal}
 use Rattle.group_layout.specs.Promise.{IsOwn}
@@ -17,34 +17,27 @@ use Rattle.group_cluster.specs.Plan.{IsPlan, Plan}
 use Rattle.law_headline.proofs.Truth.{truth_always}
 use Rattle.scenario_text.specs.Meaning.{IsLineOf, line_meaning}
 use Rattle.scenario_text.specs.declared.line.Line.{Line}
-use Rattle.scenario_text.specs.declared.line.Line.TheVariants.{Skipped, Group, Ask, Collect, Deliver, Fail, Flush, Trace, Drain, Show, Places, Time, Stop}
+use Rattle.scenario_text.specs.declared.line.Line.TheVariants.{Show}
 use Rattle.scenario_text.specs.declared.line.LineFault.{LineFault}
 use Rattle.scenario_text.specs.Words.{split_words}
 use Rattle.scenario_text.proofs.Lines.{line_of-within}
-use Rattle.scenario_run.specs.Course.{Ends, Goes, Refused, fault_in, named_in, turns_of_lines}
+use Rattle.scenario_run.specs.Course.{Goes, turns_of_lines}
 use Rattle.scenario_run.specs.Lines.{lines_of}
-use Rattle.scenario_run.proofs.Following.{fault_after, named-line, turns_after}
+use Rattle.scenario_run.proofs.Beginning.{Begins, Onward, all-along, along, begins}
 use Rattle.scenario_run.specs.Playing.{look}
+use Rattle.scenario_run.specs.Promises.{IsTrueShow, ShowsTruth}
 use Rattle.scenario_run.proofs.Running.{parts}
-use Rattle.scenario_run.proofs.Truth.{shows-truth}
+use Rattle.scenario_run.proofs.Truth.{shows-with, true-show}
 use Rattle.cluster_run.specs.Led.{IsLedTo}
-use Rattle.cluster_run.specs.Playing.{ClusterNext, ClusterPlay, ClusterTurn, by_line, by_words, cluster_log_of, group_world, next_of, opening_of, then_in}
+use Rattle.cluster_run.specs.Playing.{ClusterPlay, ClusterTurn, by_line, by_words, group_world, cluster_log_of, next_of, opening_of, cluster_from, then_in}
 use Rattle.cluster_run.specs.Playing.{cluster_turns_from}
 use Rattle.cluster_run.specs.Meaning.{failure_line, in_group}
-use Rattle.cluster_run.specs.Promises.{AreTrueLines, HoldsAfter, IsTrueIn, IsTrueLine, IsTrueNamed, ScriptsKeepPromises, cluster_at_end}
+use Rattle.cluster_run.specs.Promises.{AreTrueLines, HoldsAfter, IsTrueLine, IsTrueNamed, ScriptsKeepPromises, cluster_at_end}
 use Rattle.cluster_run.specs.Script.{cluster_script_events, cluster_script_turns, plan_in}
 use Rattle.cluster_run.specs.declared.fault.ClusterFault.TheVariants.{BadLine}
 use Rattle.cluster_run.proofs.Leading.{Leads, laid, leads-then, led-even, led-group, led-nodes, led-on, none-leads, opened}
 use Rattle.cluster_run.proofs.Meaning.{in_group-below}
-use Rattle.cluster_run.proofs.Running.{GoesOn, Opens, line-leads, line-opens, never-ends}
-
--- what follows a line, by what it does
-abbrev TrueAfter : Option ClusterPlay → List ℕ → ClusterNext → List (List ℕ) → Type 0
-TrueAfter play line next lines = elim next [
-  | Goes next turns text ↦ IsTrueLine play line text × AreTrueLines next lines
-  | Ends ↦ Unit {0}
-  | Refused fault ↦ Unit {0}
-]
+use Rattle.cluster_run.proofs.Running.{line-leads, line-opens, never-ends}
 
 -- the lines behind the one that names the groups are events that may happen
 record Runs (c : Cluster) (turns : List ClusterTurn) : Type 0 where
@@ -55,22 +48,18 @@ module _ (plan : Plan) where
   none : (c : Cluster) → Runs c []
   none c = record { d = c; leads = none-leads c c refl }
 
+  onward : (p : ClusterPlay) (line : List ℕ) (next : Option ClusterPlay) (turns : List ClusterTurn) (text : List ℕ)
+      → IsLedTo plan p.cluster → next_of (Some p) line ≡ Goes next turns text
+      → Onward (λ q. IsLedTo plan q.cluster) (λ q ts us. Runs q.cluster ts) p next turns text
+  onward p line next turns text led is = let on = line-leads plan p line next turns text led is in record {
+    state = on.play;
+    is = on.is;
+    ready = led-on plan p.cluster on.play.cluster turns led on.leads;
+    comes = λ ts us rest. record { d = rest.d; leads = leads-then p.cluster on.play.cluster rest.d turns ts on.leads rest.leads };
+  }
+
   runs : (p : ClusterPlay) (lines : List (List ℕ)) → IsLedTo plan p.cluster → Runs p.cluster (turns_of_lines next_of (Some p) lines)
-  runs p [] led = none p.cluster
-  runs p (line ∷ lines) led = by (next_of (Some p) line) refl (λ q. runs q lines) where
-    by : (next : ClusterNext) → next_of (Some p) line ≡ next
-        → ((q : ClusterPlay) → IsLedTo plan q.cluster → Runs q.cluster (turns_of_lines next_of (Some q) lines))
-        → Runs p.cluster (turns_after next_of next lines)
-    by Ends is later = none p.cluster
-    by (Refused fault) is later = none p.cluster
-    by (Goes next turns text) is later =
-        let on : GoesOn plan p.cluster next turns = line-leads plan p line next turns text led is in
-        let rest = later on.play (led-on plan p.cluster on.play.cluster turns led on.leads) in
-        record {
-          d = rest.d;
-          leads = leads-then p.cluster on.play.cluster rest.d turns (turns_of_lines next_of next lines) on.leads
-              (subst (λ (q : Option ClusterPlay). Leads on.play.cluster rest.d (turns_of_lines next_of q lines)) (sym on.is) rest.leads);
-        }
+  runs = along next_of (λ q. IsLedTo plan q.cluster) (λ q ts us. Runs q.cluster ts) (λ q. none q.cluster) onward
 
   -- what is shown behind the line that names the groups is true
   truth : (c : Cluster) (j : ℕ) → IsLedTo plan c → j < plan.groups → HoldsTruth (world_in c.groups j)
@@ -78,23 +67,12 @@ module _ (plan : Plan) where
 
   true-in : (p : ClusterPlay) (j : ℕ) (l : Result Line LineFault) (next : Option ClusterPlay) (turns : List ClusterTurn)
       (text : List ℕ) → IsLedTo plan p.cluster → j < plan.groups
-      → ((l' : Line) → l ≡ Ok l' → IsLineOf (Some (group_world p j).shape) l') → by_line (then_in p j) l ≡ Goes next turns text → IsTrueIn p j l text
-  true-in p j (Err fault) next turns text led low within is = tt
-  true-in p j (Ok (Show from run)) next turns text led low within is =
-      (parts (Some p) next [] turns (look (group_world p j) from (held (group_world p j) from run) ++ 10 ∷ []) text is).2
-      ∙ shows-truth (group_world p j) from run (within (Show from run) refl).0 (truth p.cluster j led low)
-  true-in p j (Ok Skipped) next turns text led low within is = tt
-  true-in p j (Ok (Group shape)) next turns text led low within is = tt
-  true-in p j (Ok (Ask caller from act)) next turns text led low within is = tt
-  true-in p j (Ok (Collect caller call from)) next turns text led low within is = tt
-  true-in p j (Ok (Deliver from to)) next turns text led low within is = tt
-  true-in p j (Ok (Fail from keep)) next turns text led low within is = tt
-  true-in p j (Ok (Flush from)) next turns text led low within is = tt
-  true-in p j (Ok (Trace caller call d from)) next turns text led low within is = tt
-  true-in p j (Ok Drain) next turns text led low within is = tt
-  true-in p j (Ok Places) next turns text led low within is = tt
-  true-in p j (Ok (Time moment)) next turns text led low within is = tt
-  true-in p j (Ok Stop) next turns text led low within is = tt
+      → ((l' : Line) → l ≡ Ok l' → IsLineOf (Some (group_world p j).shape) l') → by_line (then_in p j) l
+      ≡ Goes next turns text → IsTrueShow (ShowsTruth (group_world p j)) l text
+  true-in p j l next turns text led low within is = true-show (ShowsTruth (group_world p j)) l text (λ from run reads.
+      (parts (Some p) next [] turns (look (group_world p j) from (held (group_world p j) from run) ++ 10 ∷ []) text
+      (sym (ap (by_line (then_in p j)) reads) ∙ is)).2
+      ∙ shows-with (stamp_of (group_world p j) from) (group_world p j) from run (within (Show from run) reads).0 (truth p.cluster j led low))
 
   true-named : (p : ClusterPlay) (line : List ℕ) (named : Option (ℕ × List ℕ)) (failure : Option ClusterEvent)
       (next : Option ClusterPlay) (turns : List ClusterTurn) (text : List ℕ) → IsLedTo plan p.cluster
@@ -106,88 +84,23 @@ module _ (plan : Plan) where
       (λ l reads. subst (λ (s : Dimensions). IsLineOf (Some s) l) (even.shape ∙ sym (even.worlds x.0))
       (line_of-within (Some p.cluster.groups.shape) x.1 l reads)) is
 
+  true-line : (p : ClusterPlay) (line : List ℕ) (next : Option ClusterPlay) (turns : List ClusterTurn) (text : List ℕ)
+      → IsLedTo plan p.cluster → next_of (Some p) line ≡ Goes next turns text → IsTrueLine (Some p) line text
+  true-line p line next turns text led is =
+      let many = (led-even plan p.cluster led).many in
+      true-named p line (in_group (length p.cluster.groups.worlds) line) (failure_line (length p.cluster.failed) (split_words line)) next turns text led
+      (λ x names. subst (λ (n : ℕ). x.0 < n) many (in_group-below (length p.cluster.groups.worlds) line x names)) is
+
   true-lines : (p : ClusterPlay) (lines : List (List ℕ)) → IsLedTo plan p.cluster → AreTrueLines (Some p) lines
-  true-lines p [] led = tt
-  true-lines p (line ∷ lines) led = by (next_of (Some p) line) refl (λ q. true-lines q lines) where
-    here : (next : Option ClusterPlay) (turns : List ClusterTurn) (text : List ℕ) → next_of (Some p) line ≡ Goes next turns text → IsTrueLine (Some p) line text
-    here next turns text is = let many = (led-even plan p.cluster led).many in
-        true-named p line (in_group (length p.cluster.groups.worlds) line) (failure_line (length p.cluster.failed) (split_words line)) next turns text led
-        (λ x names. subst (λ (n : ℕ). x.0 < n) many (in_group-below (length p.cluster.groups.worlds) line x names)) is
-
-    by : (next : ClusterNext) → next_of (Some p) line ≡ next
-        → ((q : ClusterPlay) → IsLedTo plan q.cluster → AreTrueLines (Some q) lines)
-        → TrueAfter (Some p) line next lines
-    by Ends is later = tt
-    by (Refused fault) is later = tt
-    by (Goes next turns text) is later =
-        let on = line-leads plan p line next turns text led is in (
-          here next turns text is,
-          subst (λ (q : Option ClusterPlay). AreTrueLines q lines) (sym on.is)
-              (later on.play (led-on plan p.cluster on.play.cluster turns led on.leads)),
-        )
-
--- a script that names its groups
-record Named (lines : List (List ℕ)) : Type 0 where
-  plan : Plan
-  limits : IsPlan plan
-  named : plan_in (named_in next_of None lines) ≡ Some plan
-  runs_are : Runs (opening_of plan) (turns_of_lines next_of None lines)
-  true_lines : AreTrueLines None lines
+  true-lines = all-along next_of (λ q. IsLedTo plan q.cluster) (λ q ts us. Runs q.cluster ts) (λ q. none q.cluster) onward IsTrueLine true-line
 
 -- the numbers of the opening cluster
-opening-plan : (plan : Plan) → IsPlan plan → plan_in (Some (record { cluster = opening_of plan; moment = 0 })) ≡ Some plan
+pub opening-plan : (plan : Plan) → IsPlan plan → plan_in (Some (cluster_from plan)) ≡ Some plan
 opening-plan plan limits =
     let many = (led-even plan (opening_of plan) (opened plan limits)).many in
     let nodes = led-nodes plan (opening_of plan) (opened plan limits) in
     ap (λ (n : ℕ). Some (record { groups = n; nodes = length (opening_of plan).failed; shape = plan.shape })) many
     ∙ ap (λ (n : ℕ). Some (record { groups = plan.groups; nodes = n; shape = plan.shape })) nodes
-
-begins : (n : ℕ) (lines : List (List ℕ)) → fault_in next_of BadLine n None lines ≡ None → Named lines
-begins n [] ends = absurd (cc ends)
-begins n (line ∷ lines) ends = by (next_of None line) refl ends (begins (n + 1) lines) where
-  begun : (next : Option ClusterPlay) (turns : List ClusterTurn) (text : List ℕ)
-      → next_of None line ≡ Goes next turns text → Opens next turns text → fault_in next_of BadLine (n + 1) next lines
-      ≡ None
-      → (fault_in next_of BadLine (n + 1) None lines ≡ None → Named lines) → Named (line ∷ lines)
-  begun next turns text is opens rest later = either opens.is where
-    turns_are : (q : Option ClusterPlay) → next ≡ q → turns_of_lines next_of None (line ∷ lines) ≡ turns_of_lines next_of q lines
-    turns_are q same = ap (λ (x : ClusterNext). turns_after next_of x lines) is ∙ ap
-        (λ (ts : List ClusterTurn). ts ++ turns_of_lines next_of next lines) opens.quiet
-        ∙ ap (λ (x : Option ClusterPlay). turns_of_lines next_of x lines) same
-
-    plan_is : (q : Option ClusterPlay) → next ≡ q → plan_in (named_in next_of None (line ∷ lines)) ≡ plan_in (named_in next_of q lines)
-    plan_is q same = ap plan_in (named-line next_of line lines (Goes next turns text) is ∙ ap (λ (x : Option ClusterPlay). named_in next_of x lines) same)
-
-    true_then : (q : Option ClusterPlay) → next ≡ q → AreTrueLines q lines → AreTrueLines None (line ∷ lines)
-    true_then q same truth = subst (λ (x : ClusterNext). TrueAfter None line x lines) (sym is)
-        (tt, subst (λ (x : Option ClusterPlay). AreTrueLines x lines) (sym same) truth)
-
-    either : (next ≡ None) ⊎ ((plan : Plan) × IsPlan plan × (next ≡ Some (record { cluster = opening_of plan; moment = 0 }))) → Named (line ∷ lines)
-    either (inl nothing) =
-        let behind = later (subst (λ (q : Option ClusterPlay). fault_in next_of BadLine (n + 1) q lines ≡ None) nothing rest) in
-        record {
-          plan = behind.plan;
-          limits = behind.limits;
-          named = plan_is None nothing ∙ behind.named;
-          runs_are = subst (Runs (opening_of behind.plan)) (sym (turns_are None nothing)) behind.runs_are;
-          true_lines = true_then None nothing behind.true_lines;
-        }
-    either (inr (plan, limits, some)) =
-        let p : ClusterPlay = record { cluster = opening_of plan; moment = 0 } in
-        record {
-          plan = plan;
-          limits = limits;
-          named = plan_is (Some p) some ∙ opening-plan plan limits;
-          runs_are = subst (Runs (opening_of plan)) (sym (turns_are (Some p) some)) (runs plan p lines (opened plan limits));
-          true_lines = true_then (Some p) some (true-lines plan p lines (opened plan limits));
-        }
-
-  by : (next : ClusterNext) → next_of None line ≡ next → fault_in next_of BadLine n None (line ∷ lines) ≡ None
-      → (fault_in next_of BadLine (n + 1) None lines ≡ None → Named lines) → Named (line ∷ lines)
-  by Ends is ends later = absurd (never-ends line is)
-  by (Refused fault) is ends later = absurd (cc (sym (ap (λ (x : ClusterNext). fault_after next_of BadLine n x lines) is) ∙ ends))
-  by (Goes next turns text) is ends later = begun next turns text is (line-opens line next turns text is)
-      (sym (ap (λ (x : ClusterNext). fault_after next_of BadLine n x lines) is) ∙ ends) later
 
 -- the first of events that may happen
 may-front : (c : Cluster) (n : ℕ) (es : List ClusterEvent) → MayAllHappen c es → MayAllHappen c (take n es)
@@ -216,7 +129,7 @@ logged-all c (e ∷ es) =
 pub scripts_keep_promises : ScriptsKeepPromises
 scripts_keep_promises text whole = record {
   plan = plan;
-  named = named.named;
+  named = ap plan_in named.named ∙ opening-plan plan named.limits;
   limits = named.limits;
   may = may;
   turns = turns;
@@ -225,13 +138,13 @@ scripts_keep_promises text whole = record {
   legal = subst (IsClusterLegal plan.shape.k) log (logs_are_legal plan.shape plan.nodes plan.groups (cluster_script_events text) limits layout may);
   own = subst (All (IsOwn plan.shape.k plan.groups)) log (entries_are_own plan.shape plan.nodes plan.groups (cluster_script_events text) limits layout may);
   within = answers_are_within plan.shape plan.nodes plan.groups (cluster_script_events text) limits layout may;
-  shown = named.true_lines;
+  shown = named.all IsTrueLine (λ line text. tt) (true-lines plan (cluster_from plan) named.rest (opened plan named.limits));
 } where
-  named : Named (lines_of text)
-  named = begins 1 (lines_of text) whole
+  named : Begins next_of IsPlan cluster_from (lines_of text)
+  named = begins next_of BadLine IsPlan cluster_from line-opens never-ends 1 (lines_of text) whole
 
   plan : Plan
-  plan = named.plan
+  plan = named.start
 
   limits : IsShape plan.shape
   limits = named.limits.shape
@@ -239,8 +152,11 @@ scripts_keep_promises text whole = record {
   layout : IsLayout plan.shape plan.nodes plan.groups
   layout = laid plan named.limits
 
-  leads : Leads (opening_of plan) named.runs_are.d (cluster_script_turns text)
-  leads = named.runs_are.leads
+  ran : Runs (opening_of plan) (cluster_script_turns text)
+  ran = subst (Runs (opening_of plan)) (sym named.turns) (runs plan (cluster_from plan) named.rest (opened plan named.limits))
+
+  leads : Leads (opening_of plan) ran.d (cluster_script_turns text)
+  leads = ran.leads
 
   same : leads.events ≡ cluster_script_events text
   same = sym (events-are (opening_of plan) leads.events) ∙ ap (λ (ts : List ClusterTurn). map (λ turn. turn.event) ts) leads.turns_are

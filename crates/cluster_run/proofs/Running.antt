@@ -1,6 +1,6 @@
 -- The turns of a script of several groups are those of events that may happen.
-use Rattle.std.proofs.Common.{ℕ, ◌≡◌, ◌<◌, ◌≤◌, ◌+◌, ◌⊎◌, inl, inr, Bool, true, false, nat_lt, List, [], ◌∷◌, length}
-use Rattle.std.proofs.Common.{Option, Some, None, Result, Ok, Err, if◌then◌else◌, refl, sym, ap, subst, ◌∙◌, arith}
+use Rattle.std.proofs.Common.{ℕ, ◌≡◌, ◌<◌, ◌≤◌, ◌+◌, inl, inr, Bool, true, false, nat_lt, List, [], ◌∷◌, length, Option}
+use Rattle.std.proofs.Common.{Some, None, Result, Ok, Err, if◌then◌else◌, refl, sym, ap, subst, ◌∙◌, arith}
 use Rattle.std.proofs.lemmas.Bool.Decides.{nat_tests}
 use Rattle.group_types.specs.Dimensions.{Dimensions}
 use Rattle.group_types.specs.Lists.{at}
@@ -19,13 +19,14 @@ use Rattle.scenario_text.specs.declared.line.Line.TheVariants.{Skipped, Group, A
 use Rattle.scenario_text.specs.declared.line.LineFault.{LineFault}
 use Rattle.scenario_text.proofs.Lines.{line_of-within}
 use Rattle.scenario_run.specs.Course.{Ends, Goes, Refused}
+use Rattle.scenario_run.proofs.Beginning as beginning
 use Rattle.scenario_run.proofs.Draining.{burden}
 use Rattle.scenario_run.proofs.Running.{parts}
 use Rattle.cluster_run.specs.Meaning.{failure_line, groups_line, in_group}
 use Rattle.cluster_run.specs.Led.{IsLedTo}
 use Rattle.cluster_run.specs.Playing.{ClusterPlay, ClusterTurn, all_deliveries, by_event, by_line, by_plan, by_trace}
-use Rattle.cluster_run.specs.Playing.{by_words, drained_text, group_world, next_of, opening_of, quietly, then_by, then_in}
-use Rattle.cluster_run.specs.Playing.{cluster_turn, cluster_turns_from, turn_text}
+use Rattle.cluster_run.specs.Playing.{by_words, drained_text, group_world, next_of, quietly, cluster_from, then_by, then_in}
+use Rattle.cluster_run.specs.Playing.{cluster_turn, turn_text, cluster_turns_from}
 use Rattle.cluster_run.specs.declared.fault.ClusterFault.{ClusterFault}
 use Rattle.cluster_run.specs.declared.fault.ClusterFault.TheVariants.{BadLine}
 use Rattle.cluster_run.proofs.Draining.{all-drained}
@@ -106,13 +107,7 @@ module _ (plan : Plan) where
     leads = let none : [] ≡ turns = cc (is) in subst (Leads p.cluster p.cluster) none (none-leads p.cluster p.cluster refl);
     light = λ i there. omega arith;
   }
-  in-leads p j Skipped next turns text led low within is = absurd (cc is)
-  in-leads p j (Group shape) next turns text led low within is = absurd (cc is)
-  in-leads p j (Fail from keep) next turns text led low within is = absurd (cc is)
-  in-leads p j Drain next turns text led low within is = absurd (cc is)
-  in-leads p j Places next turns text led low within is = absurd (cc is)
-  in-leads p j (Time moment) next turns text led low within is = absurd (cc is)
-  in-leads p j Stop next turns text led low within is = absurd (cc is)
+  in-leads p j l next turns text led low within is = absurd (cc is)
 
   -- a line that names no group
   then-leads : (p : ClusterPlay) (l : Line) (next : Option ClusterPlay) (turns : List ClusterTurn) (text : List ℕ)
@@ -130,16 +125,7 @@ module _ (plan : Plan) where
         leads = record { events = es; may = drains.may; turns_are = sym both.1; to = refl };
         light = λ j low. (let less = drains.light j in omega (arith, less));
       }
-  then-leads p Stop next turns text led is = absurd (cc is)
-  then-leads p (Group shape) next turns text led is = absurd (cc is)
-  then-leads p (Ask caller from act) next turns text led is = absurd (cc is)
-  then-leads p (Collect caller call from) next turns text led is = absurd (cc is)
-  then-leads p (Deliver from to) next turns text led is = absurd (cc is)
-  then-leads p (Fail from keep) next turns text led is = absurd (cc is)
-  then-leads p (Flush from) next turns text led is = absurd (cc is)
-  then-leads p (Trace caller call d from) next turns text led is = absurd (cc is)
-  then-leads p (Show from run) next turns text led is = absurd (cc is)
-  then-leads p Places next turns text led is = absurd (cc is)
+  then-leads p l next turns text led is = absurd (cc is)
 
   -- a line that is read so
   line-in : (p : ClusterPlay) (j : ℕ) (l : Result Line LineFault) (next : Option ClusterPlay) (turns : List ClusterTurn)
@@ -178,16 +164,14 @@ module _ (plan : Plan) where
       (λ e fails. failure-below p.cluster (split_words line) e fails) is
 
 -- the line that names the groups, or a line before it
-pub record Opens (next : Option ClusterPlay) (turns : List ClusterTurn) (text : List ℕ) : Type 0 where
-  pub quiet : turns ≡ []
-  pub silent : text ≡ []
-  pub is : (next ≡ None) ⊎ ((plan : Plan) × IsPlan plan × (next ≡ Some (record { cluster = opening_of plan; moment = 0 })))
+abbrev pub Opens : Option ClusterPlay → List ClusterTurn → List ℕ → Type 0
+Opens next turns text = beginning.Opens IsPlan cluster_from next turns text
 
 plan-opens : (r : Result Plan ClusterFault) (next : Option ClusterPlay) (turns : List ClusterTurn) (text : List ℕ)
     → ((plan : Plan) → r ≡ Ok plan → IsPlan plan) → by_plan r ≡ Goes next turns text → Opens next turns text
 plan-opens (Err fault) next turns text within is = absurd (cc is)
 plan-opens (Ok plan) next turns text within is =
-    let both = parts (Some (record { cluster = opening_of plan; moment = 0 })) next [] turns [] text is in
+    let both = parts (Some (cluster_from plan)) next [] turns [] text is in
     record { quiet = both.1; silent = both.2; is = inr (plan, within plan refl, both.0) }
 
 pub line-opens : (line : List ℕ) (next : Option ClusterPlay) (turns : List ClusterTurn) (text : List ℕ)

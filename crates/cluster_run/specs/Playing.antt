@@ -136,8 +136,11 @@ by_words p line None None = by_line (then_by p) (line_meaning (Some p.cluster.gr
 abbrev pub opening_of : Plan → Cluster
 opening_of plan = opening_cluster plan.shape plan.nodes plan.groups
 
+abbrev pub cluster_from : Plan → ClusterPlay
+cluster_from plan = record { cluster = opening_of plan; moment = 0 }
+
 abbrev pub by_plan : Result Plan ClusterFault → ClusterNext
-by_plan (Ok plan) = quietly (Some (record { cluster = opening_of plan; moment = 0 }))
+by_plan (Ok plan) = quietly (Some (cluster_from plan))
 by_plan (Err fault) = Refused fault
 
 -- what a line does

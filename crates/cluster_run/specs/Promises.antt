@@ -1,6 +1,6 @@
 -- What holds of every script's cluster: its events may happen, so the laws of clusters are about it; and the lines that show
 -- bytes show what the log of their group tells.
-use Rattle.std.specs.Prelude.{ℕ, ◌≡◌, ◌<◌, ◌≤◌, List, [], ◌∷◌, All, length, take, Option, Some, None, Result, Ok}
+use Rattle.std.specs.Prelude.{ℕ, ◌≡◌, ◌<◌, ◌≤◌, List, [], ◌∷◌, All, length, take, Option, Some, None}
 use Rattle.group_run.specs.Meaning.{IsDown}
 use Rattle.membership.specs.Members.{count_dead_words}
 use Rattle.group_layout.specs.Cluster.{Cluster, MayAllHappen, cluster_after, cluster_turns, world_in}
@@ -10,12 +10,9 @@ use Rattle.group_layout.specs.Within.{ClusterAnswersWithin}
 use Rattle.group_layout.specs.declared.event.ClusterEvent.{ClusterEvent}
 use Rattle.group_cluster.specs.Plan.{IsPlan, Plan}
 use Rattle.scenario_text.specs.Meaning.{line_meaning}
-use Rattle.scenario_text.specs.declared.line.Line.{Line}
-use Rattle.scenario_text.specs.declared.line.Line.TheVariants.{Show}
-use Rattle.scenario_text.specs.declared.line.LineFault.{LineFault}
-use Rattle.scenario_run.specs.Course.{Goes, Ends, Refused}
+use Rattle.scenario_run.specs.Course.{AllLines}
 use Rattle.scenario_run.specs.Lines.{lines_of}
-use Rattle.scenario_run.specs.Promises.{ShowsTruth}
+use Rattle.scenario_run.specs.Promises.{IsTrueShow, ShowsTruth}
 use Rattle.cluster_run.specs.Meaning.{in_group}
 use Rattle.cluster_run.specs.Playing.{ClusterPlay, cluster_log_of, cluster_turns_from, group_world, next_of, opening_of}
 use Rattle.cluster_run.specs.Script.{cluster_script_events, cluster_script_turns, first_fault, plan_of}
@@ -25,13 +22,9 @@ abbrev pub cluster_at_end : Plan → List ClusterEvent → Cluster
 cluster_at_end plan events = cluster_after (opening_of plan) events
 
 -- what is written for a line of a group that shows bytes is what its log tells
-abbrev pub IsTrueIn : ClusterPlay → ℕ → Result Line LineFault → List ℕ → Type 0
-IsTrueIn p j (Ok (Show from run)) text = ShowsTruth (group_world p j) from run text
-IsTrueIn p j _ text = Unit {0}
-
 abbrev pub IsTrueNamed : ClusterPlay → Option (ℕ × List ℕ) → List ℕ → Type 0
 IsTrueNamed p None text = Unit {0}
-IsTrueNamed p (Some named) text = IsTrueIn p named.0 (line_meaning (Some p.cluster.groups.shape) named.1) text
+IsTrueNamed p (Some named) text = IsTrueShow (ShowsTruth (group_world p named.0)) (line_meaning (Some p.cluster.groups.shape) named.1) text
 
 abbrev pub IsTrueLine : Option ClusterPlay → List ℕ → List ℕ → Type 0
 IsTrueLine None line text = Unit {0}
@@ -39,12 +32,7 @@ IsTrueLine (Some p) line text = IsTrueNamed p (in_group (length p.cluster.groups
 
 -- and so it is with all lines
 abbrev pub AreTrueLines : Option ClusterPlay → List (List ℕ) → Type 0
-AreTrueLines play [] = Unit {0}
-AreTrueLines play (line ∷ lines) = elim (next_of play line) [
-  | Goes next turns text ↦ IsTrueLine play line text × AreTrueLines next lines
-  | Ends ↦ Unit {0}
-  | Refused fault ↦ Unit {0}
-]
+AreTrueLines play lines = AllLines next_of IsTrueLine play lines
 
 -- after events each group makes a run of its own, with the whole headline, and while at most m nodes have failed none is down
 pub record HoldsAfter (plan : Plan) (events : List ClusterEvent) : Type 0 where

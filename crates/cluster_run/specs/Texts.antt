@@ -1,8 +1,8 @@
 -- How answers of a cluster and entries of its log are written: as a group's, and of an entry its group behind the mark.
-use Rattle.std.specs.Prelude.{ℕ, List, [], ◌∷◌, ◌++◌, codes}
+use Rattle.std.specs.Prelude.{ℕ, List, ◌++◌, codes}
 use Rattle.std.specs.Fmt.{decimal}
 use Rattle.scenario_text.specs.Texts.{answer_text}
-use Rattle.scenario_run.specs.Marks.{marked}
+use Rattle.scenario_run.specs.Marks.{entries_by, marked}
 use Rattle.group_layout.specs.Cluster.{ClusterEntry}
 use Rattle.group_layout.specs.declared.event.ClusterAnswer.{ClusterAnswer}
 use Rattle.group_layout.specs.declared.event.ClusterAnswer.TheVariants.{AlreadyDead, Done, Inner, WrongGroup}
@@ -24,5 +24,4 @@ cluster_entry_text e = marked (group_mark e.0) e.1
 
 -- entries of the log, each on a line
 abbrev pub cluster_entries_text : List ClusterEntry → List ℕ
-cluster_entries_text [] = []
-cluster_entries_text (entry ∷ entries) = cluster_entry_text entry ++ 10 ∷ cluster_entries_text entries
+cluster_entries_text entries = entries_by cluster_entry_text entries

@@ -1,12 +1,12 @@
 // The last line of settings of a member that are refused.
 ghost use Rattle.std.specs.Prelude.{◌≡◌, ◌≢◌};
-ghost use Rattle.scenario_play.specs.Status.{config_line};
 ghost use Rattle.group_program.specs.Member.{HasToldKey, key_line, status_key};
 
 use edge_io::{Sink, SinkFault, write_all};
 use group_config::MemberKey;
 use group_types::ConfigKey;
 use scenario_play::Status;
+use scenario_play::status::config_line;
 
 /// Writes the last line of settings that are refused at this key. The status stays where that write fails, and is `Want`
 /// where there was no memory for it.
@@ -59,22 +59,5 @@ fn key_line(key: MemberKey) -> &'static str
         MemberKey::WatchEtcd => "fault: config watch.etcd\n",
         MemberKey::WatchSeconds => "fault: config watch.seconds\n",
         MemberKey::WatchUnknown => "fault: config watch.unknown\n",
-    }
-}
-
-fn config_line(key: ConfigKey) -> &'static str
-    ensures { result.now ≡ config_line key }
-{
-    match key {
-        ConfigKey::Syntax => "fault: config syntax\n",
-        ConfigKey::K => "fault: config k\n",
-        ConfigKey::M => "fault: config m\n",
-        ConfigKey::Blocks => "fault: config blocks\n",
-        ConfigKey::Block => "fault: config block\n",
-        ConfigKey::Address => "fault: config address\n",
-        ConfigKey::Workers => "fault: config workers\n",
-        ConfigKey::Connections => "fault: config connections\n",
-        ConfigKey::Control => "fault: config control\n",
-        ConfigKey::Unknown => "fault: config unknown\n",
     }
 }

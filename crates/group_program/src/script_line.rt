@@ -1,4 +1,5 @@
 use memchr::memchr;
+use scenario_play::words::is_skipped;
 use scenario_text::read_word::read_u32;
 
 /// The line of a script that has this number, counted from 1.
@@ -21,13 +22,6 @@ pub(crate) fn numbers_of(script: &[u8]) -> Option<(u32, u32, u32, u32)> {
         rest = behind(rest, b'\n')?;
     }
     None
-}
-
-fn is_skipped(line: &[u8]) -> bool {
-    match line {
-        [] => true,
-        [first, ..] => *first == b'#',
-    }
 }
 
 // Those of a line `group`, or of a line `groups`, where they stand behind two numbers.

@@ -59,16 +59,7 @@ filter-both era (x ∷ xs) ys = by (is_earlier era x) (filter-both era xs ys) wh
 -- a reply is told as accepted where it is
 accepts-told : (bases : Bases) (d : ℕ) (r : Reply) → accepts (based_reply bases d r) ≡ accepts r
 accepts-told bases d (reply.Value item) = refl
-accepts-told bases d reply.Miss = refl
-accepts-told bases d reply.Stored = refl
-accepts-told bases d reply.NotStored = refl
-accepts-told bases d reply.Exists = refl
-accepts-told bases d reply.NotFound = refl
-accepts-told bases d reply.Deleted = refl
-accepts-told bases d reply.Touched = refl
-accepts-told bases d (reply.Number n) = refl
-accepts-told bases d reply.NotNumber = refl
-accepts-told bases d reply.TooLarge = refl
+accepts-told bases d r = refl
 
 same-update : (bases : Bases) (k d : ℕ) (asked : List Event) (x y : Entry) → TellsEntry bases k asked x y → is_update_of k d y ≡ is_update_of k d x
 same-update bases k d asked x y tells =

@@ -1,7 +1,7 @@
 -- What lines of a script over eras write.
-use Rattle.std.proofs.Common.{ℕ, zero, suc, ◌≡◌, ◌+◌, ◌⊎◌, inl, inr, Bool, true, false, nat_lt, List, [], ◌∷◌, ◌++◌}
-use Rattle.std.proofs.Common.{codes, length, map, Option, Some, None, Result, Ok, Err, if◌then◌else◌, refl, sym, ap}
-use Rattle.std.proofs.Common.{subst, ◌∙◌, append_assoc}
+use Rattle.std.proofs.Common.{ℕ, zero, suc, ◌≡◌, inl, inr, Bool, true, false, nat_lt, List, [], ◌∷◌, ◌++◌, codes}
+use Rattle.std.proofs.Common.{length, map, Option, Some, None, Result, Ok, Err, if◌then◌else◌, refl, sym, ap, subst}
+use Rattle.std.proofs.Common.{◌∙◌, append_assoc}
 use Rattle.std.proofs.lemmas.List.{append-nil}
 use Rattle.std.specs.Fmt.{decimal}
 use Rattle.std.specs.List.{range_with_len}
@@ -14,21 +14,20 @@ use Rattle.group_types.specs.declared.run.Run.{Run}
 use Rattle.group_calls.specs.declared.event.Event.{Event}
 use Rattle.group_calls.specs.declared.event.Event.TheVariants as happens
 use Rattle.group_run.specs.Draining.{next_delivery}
-use Rattle.group_run.specs.Meaning.{is_dead}
 use Rattle.group_run.specs.Shown.{held, is_down}
 use Rattle.group_run.specs.World.{World, opening}
 use Rattle.scenario_text.specs.Meaning.{line_meaning}
-use Rattle.scenario_text.specs.Texts.{answer_text, place_text, places_text, shown_text}
+use Rattle.scenario_text.specs.Texts.{answer_text, place_text, places_text}
 use Rattle.scenario_text.specs.Words.{split_words}
 use Rattle.scenario_text.specs.declared.line.Line.{Line}
 use Rattle.scenario_text.specs.declared.line.Line.TheVariants.{Skipped, Group, Ask, Collect, Deliver, Fail, Flush, Trace, Drain, Show, Places, Time, Stop}
 use Rattle.scenario_text.specs.declared.line.LineFault.{LineFault}
 use Rattle.scenario_text.specs.declared.line.LineFault.TheVariants.{BadLine}
-use Rattle.scenario_run.specs.Course.{Ends, Goes, Refused, fault_in, named_in, text_in, turns_of_lines}
+use Rattle.scenario_run.specs.Course.{Ends, Goes, Refused, text_in, turns_of_lines}
 use Rattle.scenario_run.specs.Lines.{lines_of}
 use Rattle.scenario_run.specs.Placing.{many_runs, placed_text, runs_text}
 use Rattle.scenario_run.specs.Playing.{draining_unless_down}
-use Rattle.scenario_run.proofs.Following.{fault_after, named-line, text_after, turns_after}
+use Rattle.scenario_run.proofs.Beginning.{Begins, Onward, along, begins}
 use Rattle.group_eras.specs.Carry.{carried, many_carried}
 use Rattle.group_eras.specs.Eras.{EraEntry, Eras, carrier, era_step, eras_after, first_era, stamp_in}
 use Rattle.group_eras.specs.Promise.{Carries, EraMove, Makes, all_done, done}
@@ -36,10 +35,11 @@ use Rattle.group_eras.proofs.Promises.{logs_only_grow}
 use Rattle.regroup_run.specs.Meaning.{regroup_line}
 use Rattle.regroup_run.specs.Playing.{EraNext, EraPlay, by_call, by_carry, by_drain, by_event, by_regroup, by_trace}
 use Rattle.regroup_run.specs.Playing.{has_space, logged_since, look, next_by, next_of, refuses, regroup_by, regroups}
-use Rattle.regroup_run.specs.Playing.{shape_in, then_by}
+use Rattle.regroup_run.specs.Playing.{shape_in, eras_from, then_by}
+use Rattle.regroup_run.specs.Script.{era_moves_of, transcript}
 use Rattle.regroup_run.specs.Texts.{era_entries_text, era_entry_text, era_mark}
 use Rattle.regroup_run.proofs.Leading.{done-append}
-use Rattle.regroup_run.proofs.Running.{Opens, line-opens, never-ends}
+use Rattle.regroup_run.proofs.Running.{line-opens, never-ends}
 use Rattle.law_told.specs.EraTexts.{EraLinesTell, EraTranscriptsTell, LineTells}
 use Rattle.law_told.specs.Lines.{TellsLines, is_log_line, text_of}
 use Rattle.law_told.proofs.Lines as lines
@@ -53,31 +53,6 @@ mark-head (suc era) text = refl
 
 entry-marked : (e : EraEntry) → is_log_line (era_entry_text e) ≡ true
 entry-marked e = mark-head e.0 _
-
-look-other : (e : Eras) (p : ProcessId) (bytes : List ℕ) → is_log_line (look e p bytes) ≡ false
-look-other e p bytes = by (is_down e.world) (is_dead e.world p) where
-  by : (down dead : Bool) → is_log_line (if down then codes "down" else (if dead then codes "lost" else shown_text (stamp_in e p) bytes)) ≡ false
-  by true dead = refl
-  by false true = refl
-  by false false = refl
-
--- ---- texts as lines
-
-entries-lines : (es : List EraEntry) → era_entries_text es ≡ text_of (map era_entry_text es)
-entries-lines [] = refl
-entries-lines (e ∷ es) = ap (λ (t : List ℕ). era_entry_text e ++ 10 ∷ t) (entries-lines es)
-
--- a line that is said, and entries behind it or in front of it
-said-first : (line : List ℕ) (es : List EraEntry) → is_log_line line ≡ false → TellsLines era_entry_text (line ++ 10 ∷ era_entries_text es) es (line ∷ [])
-said-first line es other =
-    subst (λ (t : List ℕ). TellsLines era_entry_text (line ++ 10 ∷ t) es (line ∷ [])) (sym (entries-lines es))
-    (lines.said-first era_entry_text entry-marked line es other)
-
-said-last : (line : List ℕ) (es : List EraEntry) → is_log_line line ≡ false
-    → TellsLines era_entry_text (era_entries_text es ++ (line ++ 10 ∷ [])) es (line ∷ [])
-said-last line es other =
-    subst (λ (t : List ℕ). TellsLines era_entry_text (t ++ (line ++ 10 ∷ [])) es (line ∷ [])) (sym (entries-lines es))
-    (lines.said-last era_entry_text entry-marked line es other)
 
 -- runs
 record Said (text : List ℕ) : Type 0 where
@@ -174,7 +149,8 @@ event-comes p line e = record {
     is_said = inr (inl (record { event = e; only = refl; answer = refl }));
     logged = (era_step p.eras e).logged;
     grows = refl;
-    tells = said-first (answer_text (era_step p.eras e).answer) (era_step p.eras e).logged (answer-other (era_step p.eras e).answer);
+    tells = lines.said-first era_entry_text entry-marked (answer_text (era_step p.eras e).answer)
+        (era_step p.eras e).logged (answer-other (era_step p.eras e).answer);
   };
   play = record { eras = (era_step p.eras e).eras; moment = p.moment };
   is = refl;
@@ -214,7 +190,8 @@ drain-comes p line es reads =
             ((codes "drained " ++ decimal (length es)) ∷ []))
             (sym (more-is p.eras.log (eras_after p.eras es).log more.0 grows))
             (subst (λ (t : List ℕ). TellsLines era_entry_text (era_entries_text more.0 ++ t) more.0 ((codes "drained " ++ decimal (length es)) ∷ []))
-            (append_assoc (codes "drained ") (decimal (length es)) (codes "\n")) (said-last (codes "drained " ++ decimal (length es)) more.0 refl)));
+            (append_assoc (codes "drained ") (decimal (length es)) (codes "\n"))
+            (lines.said-last era_entry_text entry-marked (codes "drained " ++ decimal (length es)) more.0 refl)));
       };
       play = record { eras = eras_after p.eras es; moment = p.moment };
       is = refl;
@@ -241,7 +218,8 @@ carry-comes p line s =
             ((codes "regrouped " ++ decimal n) ∷ []))
             (sym (more-is p.eras.log (carried p.eras s).log more.0 more.1))
             (subst (λ (t : List ℕ). TellsLines era_entry_text t more.0 ((codes "regrouped " ++ decimal n) ∷ []))
-            (append_assoc (codes "regrouped ") (decimal n) (10 ∷ era_entries_text more.0)) (said-first (codes "regrouped " ++ decimal n) more.0 refl));
+            (append_assoc (codes "regrouped ") (decimal n) (10 ∷ era_entries_text more.0))
+            (lines.said-first era_entry_text entry-marked (codes "regrouped " ++ decimal n) more.0 refl));
       };
       play = record { eras = carried p.eras s; moment = p.moment };
       is = refl;
@@ -271,7 +249,8 @@ then-comes p line (Trace caller call partition from) reads = trace-comes p line 
 then-comes p line Drain reads = drain-comes p line (draining_unless_down p.eras.world) reads
 then-comes p line (Show from run) reads =
     idle p p line (look p.eras from (held p.eras.world from run) ++ 10 ∷ []) refl
-    (one-line (look p.eras from (held p.eras.world from run)) (look-other p.eras from (held p.eras.world from run)))
+    (one-line (look p.eras from (held p.eras.world from run))
+    (lines.look-other (stamp_in p.eras from) p.eras.world from (held p.eras.world from run)))
 then-comes p line Places reads = idle p p line (placed_text p.eras.bases p.eras.world) refl (placed-said p.eras.bases p.eras.world)
 then-comes p line (Time moment) reads = idle p (record { eras = p.eras; moment = moment }) line [] refl silent
 then-comes p line Stop reads = tt
@@ -307,95 +286,43 @@ record Whole (e : Eras) (moves : List EraMove) (text : List ℕ) : Type 0 where
 nothing : (e : Eras) → Whole e [] []
 nothing e = record { said = []; logged = []; grows = sym (append-nil e.log); tells = tells-none era_entry_text }
 
+-- each line goes on, and prolongs what is written
+onward : (p : EraPlay) (line : List ℕ) (next : Option EraPlay) (moves : List EraMove) (text : List ℕ) → Unit {0}
+    → next_of (Some p) line ≡ Goes next moves text → Onward (λ q. Unit {0}) (λ q ds us. Whole q.eras ds us) p next moves
+    text
+onward p line next moves text ready is = record { state = come.play; is = come.is; ready = tt; comes = more } where
+  come : Comes p line next moves text
+  come = subst (ComesTo p line) is (comes p line)
+
+  more : (ds : List EraMove) (us : List ℕ) → Whole come.play.eras ds us → Whole p.eras (moves ++ ds) (text ++ us)
+  more ds us rest = let one = come.tells in record {
+    said = one.said ++ rest.said;
+    logged = one.logged ++ rest.logged;
+    grows = ap (λ (e : Eras). e.log) (done-append p.eras moves ds)
+        ∙ ap (λ (e : Eras). (all_done e ds).log) (sym come.to)
+        ∙ rest.grows
+        ∙ ap (λ (e : Eras). e.log ++ rest.logged) come.to
+        ∙ ap (λ (log : List EraEntry). log ++ rest.logged) one.grows
+        ∙ append_assoc p.eras.log one.logged rest.logged;
+    tells = tells-append era_entry_text text us one.logged rest.logged one.said rest.said one.tells rest.tells;
+  }
+
 whole : (p : EraPlay) (lines : List (List ℕ)) → Whole p.eras (turns_of_lines next_of (Some p) lines) (text_in next_of (Some p) lines)
-whole p [] = nothing p.eras
-whole p (line ∷ lines) = by (next_of (Some p) line) (comes p line) (λ q. whole q lines) where
-  by : (next : EraNext) → ComesTo p line next → ((q : EraPlay) → Whole q.eras (turns_of_lines next_of (Some q) lines) (text_in next_of (Some q) lines))
-      → Whole p.eras (turns_after next_of next lines) (text_after next_of next lines)
-  by Ends come later = nothing p.eras
-  by (Refused fault) come later = nothing p.eras
-  by (Goes next moves text) come later =
-      let one = come.tells in
-      let rest : Whole come.play.eras (turns_of_lines next_of next lines) (text_in next_of next lines)
-      = subst (λ (q : Option EraPlay). Whole come.play.eras (turns_of_lines next_of q lines) (text_in next_of q lines)) (sym come.is) (later come.play) in
-      record {
-        said = one.said ++ rest.said;
-        logged = one.logged ++ rest.logged;
-        grows = ap (λ (e : Eras). e.log) (done-append p.eras moves (turns_of_lines next_of next lines))
-            ∙ ap (λ (e : Eras). (all_done e (turns_of_lines next_of next lines)).log) (sym come.to)
-            ∙ rest.grows
-            ∙ ap (λ (e : Eras). e.log ++ rest.logged) come.to
-            ∙ ap (λ (log : List EraEntry). log ++ rest.logged) one.grows
-            ∙ append_assoc p.eras.log one.logged rest.logged;
-        tells = tells-append era_entry_text text (text_in next_of next lines) one.logged rest.logged one.said rest.said one.tells rest.tells;
-      }
-
--- from the group line on
-record Begun (lines : List (List ℕ)) : Type 0 where
-  pub shape : Dimensions
-  pub named : shape_in (named_in next_of None lines) ≡ Some shape
-  pub said : List (List ℕ)
-  pub tells : TellsLines era_entry_text (text_in next_of None lines) (all_done (first_era (opening shape)) (turns_of_lines next_of None lines)).log said
-
-begins : (n : ℕ) (lines : List (List ℕ)) → fault_in next_of BadLine n None lines ≡ None → Begun lines
-begins n [] ends = absurd (cc ends)
-begins n (line ∷ lines) ends = by (next_of None line) refl ends (begins (n + 1) lines) where
-  begun : (next : Option EraPlay) (moves : List EraMove) (text : List ℕ) → next_of None line ≡ Goes next moves text
-      → Opens next moves text → fault_in next_of BadLine (n + 1) next lines ≡ None
-      → (fault_in next_of BadLine (n + 1) None lines ≡ None → Begun lines) → Begun (line ∷ lines)
-  begun next moves text is opens rest later = either opens.is where
-    moves_are : (q : Option EraPlay) → next ≡ q → turns_of_lines next_of None (line ∷ lines) ≡ turns_of_lines next_of q lines
-    moves_are q same = ap (λ (x : EraNext). turns_after next_of x lines) is
-        ∙ ap (λ (ts : List EraMove). ts ++ turns_of_lines next_of next lines) opens.quiet
-        ∙ ap (λ (x : Option EraPlay). turns_of_lines next_of x lines) same
-
-    text_is : (q : Option EraPlay) → next ≡ q → text_in next_of None (line ∷ lines) ≡ text_in next_of q lines
-    text_is q same = ap (λ (x : EraNext). text_after next_of x lines) is
-        ∙ ap (λ (t : List ℕ). t ++ text_in next_of next lines) opens.silent
-        ∙ ap (λ (x : Option EraPlay). text_in next_of x lines) same
-
-    shape_is : (q : Option EraPlay) → next ≡ q → shape_in (named_in next_of None (line ∷ lines)) ≡ shape_in (named_in next_of q lines)
-    shape_is q same = ap shape_in (named-line next_of line lines (Goes next moves text) is ∙ ap (λ (x : Option EraPlay). named_in next_of x lines) same)
-
-    into : (s : Dimensions) (said : List (List ℕ)) (q : Option EraPlay) → next ≡ q
-        → TellsLines era_entry_text (text_in next_of q lines)
-        (all_done (first_era (opening s)) (turns_of_lines next_of q lines)).log said
-        → TellsLines era_entry_text (text_in next_of None (line ∷ lines))
-        (all_done (first_era (opening s)) (turns_of_lines next_of None (line ∷ lines))).log said
-    into s said q same tells =
-        subst (λ (t : List ℕ). TellsLines era_entry_text t (all_done (first_era (opening s)) (turns_of_lines next_of None (line ∷ lines))).log said)
-        (sym (text_is q same))
-        (subst (λ (ds : List EraMove). TellsLines era_entry_text (text_in next_of q lines)
-        (all_done (first_era (opening s)) ds).log said) (sym (moves_are q same)) tells)
-
-    either : (next ≡ None) ⊎ ((s : Dimensions) × IsShape s × (next ≡ Some (record { eras = first_era (opening s); moment = 0 }))) → Begun (line ∷ lines)
-    either (inl nothing) =
-        let behind = later (subst (λ (q : Option EraPlay). fault_in next_of BadLine (n + 1) q lines ≡ None) nothing rest) in
-        record {
-          shape = behind.shape;
-          named = shape_is None nothing ∙ behind.named;
-          said = behind.said;
-          tells = into behind.shape behind.said None nothing behind.tells;
-        }
-    either (inr (s, limits, some)) =
-        let p : EraPlay = record { eras = first_era (opening s); moment = 0 } in
-        let all = whole p lines in
-        record {
-          shape = s;
-          named = shape_is (Some p) some;
-          said = all.said;
-          tells = into s all.said (Some p) some
-              (subst (λ (log : List EraEntry). TellsLines era_entry_text (text_in next_of (Some p) lines) log all.said)
-              (sym all.grows) all.tells);
-        }
-
-  by : (next : EraNext) → next_of None line ≡ next → fault_in next_of BadLine n None (line ∷ lines) ≡ None
-      → (fault_in next_of BadLine (n + 1) None lines ≡ None → Begun lines) → Begun (line ∷ lines)
-  by Ends is ends later = absurd (never-ends line is)
-  by (Refused fault) is ends later = absurd (cc (sym (ap (λ (x : EraNext). fault_after next_of BadLine n x lines) is) ∙ ends))
-  by (Goes next moves text) is ends later = begun next moves text is (line-opens line next moves text is)
-      (sym (ap (λ (x : EraNext). fault_after next_of BadLine n x lines) is) ∙ ends) later
+whole p lines = along next_of (λ q. Unit {0}) (λ q ds us. Whole q.eras ds us) (λ q. nothing q.eras) onward p lines tt
 
 pub era_transcripts_tell : EraTranscriptsTell
-era_transcripts_tell text ends = let begun = begins 1 (lines_of text) ends in
-    record { shape = begun.shape; named = begun.named; said = begun.said; tells = begun.tells }
+era_transcripts_tell text ends = record { shape = s; named = ap shape_in begun.named; said = all.said; tells = tells } where
+  begun : Begins next_of IsShape eras_from (lines_of text)
+  begun = begins next_of BadLine IsShape eras_from line-opens never-ends 1 (lines_of text) ends
+
+  s : Dimensions
+  s = begun.start
+
+  all : Whole (first_era (opening s)) (turns_of_lines next_of (Some (eras_from s)) begun.rest) (text_in next_of (Some (eras_from s)) begun.rest)
+  all = whole (eras_from s) begun.rest
+
+  tells : TellsLines era_entry_text (transcript text) (all_done (first_era (opening s)) (era_moves_of text)).log all.said
+  tells = subst (λ (t : List ℕ). TellsLines era_entry_text t (all_done (first_era (opening s)) (era_moves_of text)).log all.said) (sym begun.text)
+      (subst (λ (log : List EraEntry). TellsLines era_entry_text (text_in next_of (Some (eras_from s)) begun.rest) log
+      all.said) (sym (ap (λ (ds : List EraMove). (all_done (first_era (opening s)) ds).log) begun.turns ∙ all.grows))
+      all.tells)

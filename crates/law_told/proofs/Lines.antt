@@ -1,11 +1,18 @@
 -- Lines of a log and others, in texts that are put together.
-use Rattle.std.proofs.Common.{ℕ, ◌≡◌, Bool, true, false, cond, not, List, [], ◌∷◌, ◌++◌, map, refl, sym, ap, ap₂, subst, ◌∙◌, append_assoc}
+use Rattle.std.proofs.Common.{ℕ, ◌≡◌, Bool, true, false, cond, not, codes, if◌then◌else◌, List, [], ◌∷◌, ◌++◌, map}
+use Rattle.std.proofs.Common.{refl, sym, ap, ap₂, subst, ◌∙◌, append_assoc}
 use Rattle.std.proofs.lemmas.List.{append-nil}
 use Rattle.std.specs.Prelude.{filter}
 use Rattle.group_calls.specs.declared.event.Answer.{Answer}
 use Rattle.group_calls.specs.declared.event.Answer.TheVariants as says
 use Rattle.group_calls.specs.declared.event.Cause.TheVariants.{Block, Pending}
-use Rattle.scenario_text.specs.Texts.{answer_text}
+use Rattle.group_types.specs.declared.process.ProcessId.{ProcessId}
+use Rattle.group_run.specs.Meaning.{is_dead}
+use Rattle.group_run.specs.Shown.{is_down}
+use Rattle.group_run.specs.World.{World}
+use Rattle.scenario_text.specs.Texts.{answer_text, shown_text}
+use Rattle.scenario_run.specs.Marks.{entries_by}
+use Rattle.scenario_run.specs.Playing.{look_with}
 use Rattle.law_told.specs.Lines.{TellsLines, is_log_line, text_of}
 
 abbrev pub is_other : List ℕ → Bool
@@ -49,20 +56,17 @@ others-kept (line ∷ lines) all =
 -- an answer is on no line of a log
 pub answer-other : (a : Answer) → is_log_line (answer_text a) ≡ false
 answer-other (says.Reply r) = refl
-answer-other (says.Ticket n) = refl
 answer-other (says.Retry (Pending d n)) = refl
 answer-other (says.Retry (Block b)) = refl
-answer-other (says.Stale call) = refl
-answer-other says.NotYet = refl
-answer-other says.NoSpace = refl
-answer-other says.Moved = refl
-answer-other says.Lost = refl
-answer-other says.Down = refl
-answer-other says.Idle = refl
-answer-other says.Stranger = refl
-answer-other says.Done = refl
-answer-other says.AlreadyDead = refl
-answer-other says.Gone = refl
+answer-other answer = refl
+
+-- nor is what a process shows
+pub look-other : (stamp : List ℕ) (w : World) (p : ProcessId) (bytes : List ℕ) → is_log_line (look_with stamp w p bytes) ≡ false
+look-other stamp w p bytes = by (is_down w) (is_dead w p) where
+  by : (down dead : Bool) → is_log_line (if down then codes "down" else (if dead then codes "lost" else shown_text stamp bytes)) ≡ false
+  by true dead = refl
+  by false true = refl
+  by false false = refl
 
 module _ {E : Type 0} (entry_text : E → List ℕ) where
   -- nothing
@@ -72,11 +76,11 @@ module _ {E : Type 0} (entry_text : E → List ℕ) where
   -- one text behind another
   pub tells-append : (t u : List ℕ) (es fs : List E) (said more : List (List ℕ)) → TellsLines entry_text t es said
       → TellsLines entry_text u fs more → TellsLines entry_text (t ++ u) (es ++ fs) (said ++ more)
-  tells-append t u es fs said more first then = record {
-    lines = first.lines ++ then.lines;
-    written = ap₂ (λ (a b : List ℕ). a ++ b) first.written then.written ∙ sym (text-append first.lines then.lines);
-    log = filter-append is_log_line first.lines then.lines ∙ ap₂ (λ (a b : List (List ℕ)). a ++ b) first.log then.log ∙ sym (map-append entry_text es fs);
-    others = filter-append is_other first.lines then.lines ∙ ap₂ (λ (a b : List (List ℕ)). a ++ b) first.others then.others;
+  tells-append t u es fs said more first next = record {
+    lines = first.lines ++ next.lines;
+    written = ap₂ (λ (a b : List ℕ). a ++ b) first.written next.written ∙ sym (text-append first.lines next.lines);
+    log = filter-append is_log_line first.lines next.lines ∙ ap₂ (λ (a b : List (List ℕ)). a ++ b) first.log next.log ∙ sym (map-append entry_text es fs);
+    others = filter-append is_other first.lines next.lines ∙ ap₂ (λ (a b : List (List ℕ)). a ++ b) first.others next.others;
   }
 
   -- lines that say something
@@ -85,7 +89,7 @@ module _ {E : Type 0} (entry_text : E → List ℕ) where
 
   -- entries, whose texts are lines of a log
   module _ (marked : (e : E) → is_log_line (entry_text e) ≡ true) where
-    pub tells-entries : (es : List E) → TellsLines entry_text (text_of (map entry_text es)) es []
+    pub tells-entries : (es : List E) → TellsLines entry_text (entries_by entry_text es) es []
     tells-entries [] = tells-none
     tells-entries (e ∷ es) = let rest = tells-entries es in record {
       lines = entry_text e ∷ rest.lines;
@@ -96,13 +100,13 @@ module _ {E : Type 0} (entry_text : E → List ℕ) where
     }
 
     -- a line that is said, and entries behind it or in front of it
-    pub said-first : (line : List ℕ) (es : List E) → is_log_line line ≡ false → TellsLines entry_text (line ++ 10 ∷ text_of (map entry_text es)) es (line ∷ [])
+    pub said-first : (line : List ℕ) (es : List E) → is_log_line line ≡ false → TellsLines entry_text (line ++ 10 ∷ entries_by entry_text es) es (line ∷ [])
     said-first line es other =
-        subst (λ (t : List ℕ). TellsLines entry_text t es (line ∷ [])) (append_assoc line (10 ∷ []) (text_of (map entry_text es)))
-        (tells-append (line ++ 10 ∷ []) (text_of (map entry_text es)) [] es (line ∷ []) [] (tells-said (line ∷ []) (other, tt)) (tells-entries es))
+        subst (λ (t : List ℕ). TellsLines entry_text t es (line ∷ [])) (append_assoc line (10 ∷ []) (entries_by entry_text es))
+        (tells-append (line ++ 10 ∷ []) (entries_by entry_text es) [] es (line ∷ []) [] (tells-said (line ∷ []) (other, tt)) (tells-entries es))
 
     pub said-last : (line : List ℕ) (es : List E) → is_log_line line ≡ false
-        → TellsLines entry_text (text_of (map entry_text es) ++ (line ++ 10 ∷ [])) es (line ∷ [])
+        → TellsLines entry_text (entries_by entry_text es ++ (line ++ 10 ∷ [])) es (line ∷ [])
     said-last line es other =
-        subst (λ (xs : List E). TellsLines entry_text (text_of (map entry_text es) ++ (line ++ 10 ∷ [])) xs (line ∷ [])) (append-nil es)
-        (tells-append (text_of (map entry_text es)) (line ++ 10 ∷ []) es [] [] (line ∷ []) (tells-entries es) (tells-said (line ∷ []) (other, tt)))
+        subst (λ (xs : List E). TellsLines entry_text (entries_by entry_text es ++ (line ++ 10 ∷ [])) xs (line ∷ [])) (append-nil es)
+        (tells-append (entries_by entry_text es) (line ++ 10 ∷ []) es [] [] (line ∷ []) (tells-entries es) (tells-said (line ∷ []) (other, tt)))

@@ -120,20 +120,9 @@ record Adds (line : List ℕ) (a b : Account) : Type 0 where
 -- an answer shows no bytes
 answer-silent : (a : Answer) → is_shown_line (answer_text a) ≡ false
 answer-silent (says.Reply r) = refl
-answer-silent (says.Ticket n) = refl
 answer-silent (says.Retry (Pending d n)) = refl
 answer-silent (says.Retry (Block b)) = refl
-answer-silent (says.Stale call) = refl
-answer-silent says.NotYet = refl
-answer-silent says.NoSpace = refl
-answer-silent says.Moved = refl
-answer-silent says.Lost = refl
-answer-silent says.Down = refl
-answer-silent says.Idle = refl
-answer-silent says.Stranger = refl
-answer-silent says.Done = refl
-answer-silent says.AlreadyDead = refl
-answer-silent says.Gone = refl
+answer-silent answer = refl
 
 -- one more where a test holds, and none where it doesn't
 plus-one : (n m : ℕ) (b : Bool) → b ≡ true → m ≡ n + 1 → m ≡ cond b 1 0 + n
@@ -172,19 +161,11 @@ none line text a b plain is silent entries shown = record {
 -- an event's answer leaves the numbers
 entries-stay : (a : Account) (event : Event) (taken : Bool) → (after_event a event taken).entries ≡ a.entries
 entries-stay a (happens.Ask caller op p) taken = refl
-entries-stay a (happens.Collect caller call p) taken = refl
-entries-stay a (happens.Trace caller call d p) taken = refl
-entries-stay a (happens.Deliver from to) taken = refl
-entries-stay a (happens.Fail p keep) taken = refl
-entries-stay a (happens.Flush p) taken = refl
+entries-stay a e taken = refl
 
 shown-stays : (a : Account) (event : Event) (taken : Bool) → (after_event a event taken).shown ≡ a.shown
 shown-stays a (happens.Ask caller op p) taken = refl
-shown-stays a (happens.Collect caller call p) taken = refl
-shown-stays a (happens.Trace caller call d p) taken = refl
-shown-stays a (happens.Deliver from to) taken = refl
-shown-stays a (happens.Fail p keep) taken = refl
-shown-stays a (happens.Flush p) taken = refl
+shown-stays a e taken = refl
 
 -- lines of the places
 place-adds : (sheet : Sheet) (a : Account) (steps : List Step) (dues : List DuePlace) (line : List ℕ) (next : JudgingState)

@@ -43,73 +43,53 @@ leaves-none w moment key h leaves = by (live_at moment ((table_now w).items key)
 
 -- an update of any act is answered as its kind may be
 store : (w after : World) (p : ProcessId) (op : Asked) (a : Answer) → AskCause w after p op a → MayAnswer kind.Store a
-store w after p op (says.Reply x) cause = refl
-store w after p op (says.Ticket x) cause = refl
 store w after p op says.NotYet cause = absurd cause.2
-store w after p op says.NoSpace cause = refl
-store w after p op (says.Retry x) cause = refl
-store w after p op says.Moved cause = refl
-store w after p op says.Lost cause = refl
-store w after p op says.Down cause = refl
 store w after p op says.Idle cause = absurd cause.2
 store w after p op says.Stranger cause = absurd cause.2
 store w after p op says.Done cause = absurd cause.2
 store w after p op says.AlreadyDead cause = absurd cause.2
 store w after p op says.Gone cause = absurd cause.2
 store w after p op (says.Stale x) cause = absurd cause.2
+store w after p op answer cause = refl
 
 -- a get
 get : (w after : World) (p : ProcessId) (moment : ℕ) (key : List ℕ) (a : Answer)
     → AskCause w after p (record { moment = moment; act = Get key }) a → MayAnswer kind.Read a
-get w after p moment key (says.Reply x) cause = refl
 get w after p moment key (says.Ticket x) cause = absurd (cc (sym (refused-get (table_now w) moment key) ∙ cause.2.accepted))
 get w after p moment key says.NotYet cause = absurd cause.2
 get w after p moment key says.NoSpace cause = absurd (cc (sym (refused-get (table_now w) moment key) ∙ cause.2.leaves.0))
-get w after p moment key (says.Retry x) cause = refl
-get w after p moment key says.Moved cause = refl
-get w after p moment key says.Lost cause = refl
-get w after p moment key says.Down cause = refl
 get w after p moment key says.Idle cause = absurd cause.2
 get w after p moment key says.Stranger cause = absurd cause.2
 get w after p moment key says.Done cause = absurd cause.2
 get w after p moment key says.AlreadyDead cause = absurd cause.2
 get w after p moment key says.Gone cause = absurd cause.2
 get w after p moment key (says.Stale x) cause = absurd cause.2
+get w after p moment key answer cause = refl
 
 -- a delete, and a touch
 delete : (w after : World) (p : ProcessId) (moment : ℕ) (key : List ℕ) (a : Answer)
     → AskCause w after p (record { moment = moment; act = Delete key }) a → MayAnswer kind.Alter a
-delete w after p moment key (says.Reply x) cause = refl
-delete w after p moment key (says.Ticket x) cause = refl
 delete w after p moment key says.NotYet cause = absurd cause.2
 delete w after p moment key says.NoSpace cause = absurd (leaves-none w moment key cause.2.value cause.2.leaves)
-delete w after p moment key (says.Retry x) cause = refl
-delete w after p moment key says.Moved cause = refl
-delete w after p moment key says.Lost cause = refl
-delete w after p moment key says.Down cause = refl
 delete w after p moment key says.Idle cause = absurd cause.2
 delete w after p moment key says.Stranger cause = absurd cause.2
 delete w after p moment key says.Done cause = absurd cause.2
 delete w after p moment key says.AlreadyDead cause = absurd cause.2
 delete w after p moment key says.Gone cause = absurd cause.2
 delete w after p moment key (says.Stale x) cause = absurd cause.2
+delete w after p moment key answer cause = refl
 
 touch : (w after : World) (p : ProcessId) (moment : ℕ) (key : List ℕ) (expiry : ℤ) (a : Answer)
     → AskCause w after p (record { moment = moment; act = Touch key expiry }) a → MayAnswer kind.Alter a
-touch w after p moment key expiry (says.Reply x) cause = refl
-touch w after p moment key expiry (says.Ticket x) cause = refl
 touch w after p moment key expiry says.NotYet cause = absurd cause.2
 touch w after p moment key expiry says.NoSpace cause = absurd (cc cause.2.written)
-touch w after p moment key expiry (says.Retry x) cause = refl
-touch w after p moment key expiry says.Moved cause = refl
-touch w after p moment key expiry says.Lost cause = refl
-touch w after p moment key expiry says.Down cause = refl
 touch w after p moment key expiry says.Idle cause = absurd cause.2
 touch w after p moment key expiry says.Stranger cause = absurd cause.2
 touch w after p moment key expiry says.Done cause = absurd cause.2
 touch w after p moment key expiry says.AlreadyDead cause = absurd cause.2
 touch w after p moment key expiry says.Gone cause = absurd cause.2
 touch w after p moment key expiry (says.Stale x) cause = absurd cause.2
+touch w after p moment key expiry answer cause = refl
 
 -- an ask of any act
 asked : (w after : World) (p : ProcessId) (moment : ℕ) (act : Act) (a : Answer)
@@ -128,83 +108,38 @@ asked w after p moment (Decr key by) a cause = store w after p (record { moment 
 
 collected : (w : World) (p : ProcessId) (caller call : ℕ) (a : Answer) → CollectCause w p caller call a → MayAnswer kind.Collect a
 collected w p caller call (says.Reply x) cause = refl
-collected w p caller call (says.Ticket x) cause = absurd cause
 collected w p caller call says.NotYet cause = refl
-collected w p caller call says.NoSpace cause = absurd cause
-collected w p caller call (says.Retry x) cause = absurd cause
-collected w p caller call says.Moved cause = absurd cause
 collected w p caller call says.Lost cause = refl
 collected w p caller call says.Down cause = refl
-collected w p caller call says.Idle cause = absurd cause
 collected w p caller call says.Stranger cause = refl
-collected w p caller call says.Done cause = absurd cause
-collected w p caller call says.AlreadyDead cause = absurd cause
-collected w p caller call says.Gone cause = absurd cause
-collected w p caller call (says.Stale x) cause = absurd cause
+collected w p caller call answer cause = absurd cause
 
 delivered : (w : World) (from to : ProcessId) (a : Answer) → DeliverCause w from to a → MayAnswer kind.Deliver a
-delivered w from to (says.Reply x) cause = absurd cause
-delivered w from to (says.Ticket x) cause = absurd cause
-delivered w from to says.NotYet cause = absurd cause
-delivered w from to says.NoSpace cause = absurd cause
-delivered w from to (says.Retry x) cause = absurd cause
-delivered w from to says.Moved cause = absurd cause
-delivered w from to says.Lost cause = absurd cause
 delivered w from to says.Down cause = refl
 delivered w from to says.Idle cause = refl
-delivered w from to says.Stranger cause = absurd cause
 delivered w from to says.Done cause = refl
-delivered w from to says.AlreadyDead cause = absurd cause
-delivered w from to says.Gone cause = absurd cause
-delivered w from to (says.Stale x) cause = absurd cause
+delivered w from to answer cause = absurd cause
 
 failed : (w : World) (p : ProcessId) (a : Answer) → FailCause w p a → MayAnswer kind.Fail a
-failed w p (says.Reply x) cause = absurd cause
-failed w p (says.Ticket x) cause = absurd cause
-failed w p says.NotYet cause = absurd cause
-failed w p says.NoSpace cause = absurd cause
-failed w p (says.Retry x) cause = absurd cause
-failed w p says.Moved cause = absurd cause
-failed w p says.Lost cause = absurd cause
-failed w p says.Down cause = absurd cause
-failed w p says.Idle cause = absurd cause
-failed w p says.Stranger cause = absurd cause
 failed w p says.Done cause = refl
 failed w p says.AlreadyDead cause = refl
-failed w p says.Gone cause = absurd cause
-failed w p (says.Stale x) cause = absurd cause
+failed w p answer cause = absurd cause
 
 flushed : (w : World) (p : ProcessId) (a : Answer) → FlushCause w p a → MayAnswer kind.Flush a
-flushed w p (says.Reply x) cause = absurd cause
-flushed w p (says.Ticket x) cause = absurd cause
-flushed w p says.NotYet cause = absurd cause
-flushed w p says.NoSpace cause = absurd cause
-flushed w p (says.Retry x) cause = absurd cause
-flushed w p says.Moved cause = absurd cause
 flushed w p says.Lost cause = refl
 flushed w p says.Down cause = refl
-flushed w p says.Idle cause = absurd cause
-flushed w p says.Stranger cause = absurd cause
 flushed w p says.Done cause = refl
-flushed w p says.AlreadyDead cause = absurd cause
-flushed w p says.Gone cause = absurd cause
-flushed w p (says.Stale x) cause = absurd cause
+flushed w p answer cause = absurd cause
 
 traced : (w : World) (p : ProcessId) (caller call d : ℕ) (a : Answer) → TraceCause w p caller call d a → MayAnswer kind.Trace a
-traced w p caller call d (says.Reply x) cause = refl
 traced w p caller call d (says.Ticket x) cause = absurd cause.2
-traced w p caller call d says.NotYet cause = refl
 traced w p caller call d says.NoSpace cause = absurd cause.2
 traced w p caller call d (says.Retry x) cause = absurd cause.2
-traced w p caller call d says.Moved cause = refl
-traced w p caller call d says.Lost cause = refl
-traced w p caller call d says.Down cause = refl
 traced w p caller call d says.Idle cause = absurd cause.2
 traced w p caller call d says.Stranger cause = absurd cause.2
 traced w p caller call d says.Done cause = absurd cause.2
 traced w p caller call d says.AlreadyDead cause = absurd cause.2
-traced w p caller call d says.Gone cause = refl
-traced w p caller call d (says.Stale x) cause = refl
+traced w p caller call d answer cause = refl
 
 pub may-answer : (s : Dimensions) (es : List Event) (e : Event) → IsRun s es → MayCome (after s es) e
     → MayAnswer (kind_of_event e) (step (after s es) e).turn.answer

@@ -38,11 +38,7 @@ FineTurn t = IsFine t.event
 
 delivery-fine : (e : Event) → IsDelivery e → IsFine e
 delivery-fine (happens.Deliver from to) is = tt
-delivery-fine (happens.Ask caller op p) is = absurd is
-delivery-fine (happens.Collect caller call p) is = absurd is
-delivery-fine (happens.Fail p keep) is = absurd is
-delivery-fine (happens.Flush p) is = absurd is
-delivery-fine (happens.Trace caller call d p) is = absurd is
+delivery-fine e is = absurd is
 
 deliveries-fine : (w : World) (es : List Event) → All IsDelivery es → All FineTurn (turns_from w es)
 deliveries-fine w [] all = All-nil FineTurn
@@ -84,17 +80,7 @@ then-fine p line Stop is = tt
 first-fine : (l : Line) → MakesFine (first_by l)
 first-fine Skipped = All-nil FineTurn
 first-fine (Group shape) = All-nil FineTurn
-first-fine (Ask caller from a) = tt
-first-fine (Collect caller call from) = tt
-first-fine (Deliver from to) = tt
-first-fine (Fail from keep) = tt
-first-fine (Flush from) = tt
-first-fine (Trace caller call d from) = tt
-first-fine Drain = tt
-first-fine (Show from run) = tt
-first-fine Places = tt
-first-fine (Time moment) = tt
-first-fine Stop = tt
+first-fine l = tt
 
 line-fine : (p : Option Play) (line : List ℕ) → MakesFine (next_of p line)
 line-fine p line = by p (line_meaning (shape_in p) line) refl

@@ -42,11 +42,7 @@ set-put (x ∷ xs) (suc i) v within = ap (λ (ys : List ℕ). x ∷ ys) (set-put
 
 delivery-asks : (w : World) (e : Event) → IsDelivery e → (step w e).world.asked ≡ w.asked
 delivery-asks w (happens.Deliver from to) is = refl
-delivery-asks w (happens.Ask caller op p) is = absurd is
-delivery-asks w (happens.Collect caller call p) is = absurd is
-delivery-asks w (happens.Fail p keep) is = absurd is
-delivery-asks w (happens.Flush p) is = absurd is
-delivery-asks w (happens.Trace caller call d p) is = absurd is
+delivery-asks w e is = absurd is
 
 deliveries-ask : (w : World) (es : List Event) → All IsDelivery es → (world_after w es).asked ≡ w.asked
 deliveries-ask w [] all = refl
@@ -139,20 +135,9 @@ then-beside s p Stop within same = tt
 
 -- a line before the group line, or that line
 first-beside : (r : Result Line LineFault) → SameNext None (verify.steps_by_meaning None r) (next_by None r) (steps_on None r)
-first-beside (Err fault) = tt
 first-beside (Ok Skipped) = (tt, refl, tt)
 first-beside (Ok (Group shape)) = (record { shape = refl; moment = refl; asked = refl; many = length-replicate {A = ℕ} callers 0 }, refl, tt)
-first-beside (Ok (Ask caller from act)) = tt
-first-beside (Ok (Collect caller call from)) = tt
-first-beside (Ok (Deliver from to)) = tt
-first-beside (Ok (Fail from keep)) = tt
-first-beside (Ok (Flush from)) = tt
-first-beside (Ok (Trace caller call d from)) = tt
-first-beside (Ok Drain) = tt
-first-beside (Ok (Show from run)) = tt
-first-beside (Ok Places) = tt
-first-beside (Ok (Time moment)) = tt
-first-beside (Ok Stop) = tt
+first-beside l = tt
 
 pub line-beside : (s : Option Setting) (p : Option Play) (line : List ℕ) → Beside s p
     → SameNext p (verify.steps_of_line s line) (next_of p line) (steps_on p (line_meaning (shape_in p) line))

@@ -132,11 +132,7 @@ module _ (k : ℕ) (ts : List Turn) (within : AnswersWithin k ts) where
 
 asks-one : (caller : ℕ) (event : Event) → asks_in caller event ≤ 1
 asks-one caller (happens.Ask who op p) = grind (arith, nat_tests)
-asks-one caller (happens.Collect who call p) = omega arith
-asks-one caller (happens.Deliver from to) = omega arith
-asks-one caller (happens.Fail p keep) = omega arith
-asks-one caller (happens.Flush p) = omega arith
-asks-one caller (happens.Trace who call d p) = omega arith
+asks-one caller event = omega arith
 
 asks-few : (caller n : ℕ) (ts : List Turn) → asks_of caller (take n ts) ≤ length ts
 asks-few caller zero ts = omega arith

@@ -131,17 +131,8 @@ module _ (s : Dimensions) (es : List Event) (ran : IsRun s es) (few : (after s e
         (omega (arith, low, most), omega (arith, last, within, few))
     asked-fits (says.Retry (cause.Block b)) is (up, ready, why) replies =
         let low = block-low s es ran p op up ready home-low (may.1, up.process) b why.0 in let most = space-few in omega (arith, low, most)
-    asked-fits says.Lost is why replies = tt
-    asked-fits says.Down is why replies = tt
-    asked-fits says.Moved is why replies = tt
-    asked-fits says.NotYet is why replies = tt
-    asked-fits says.NoSpace is why replies = tt
-    asked-fits says.Idle is why replies = tt
-    asked-fits says.Stranger is why replies = tt
-    asked-fits says.Done is why replies = tt
-    asked-fits says.AlreadyDead is why replies = tt
-    asked-fits says.Gone is why replies = tt
     asked-fits (says.Stale n) is why replies = absurd why.2
+    asked-fits answer is why replies = tt
 
   -- a trace's
   module _ (caller call : ℕ) (d : Partition) (p : ProcessId) (may : MayCome (after s es) (Trace caller call d p)) where
@@ -154,16 +145,7 @@ module _ (s : Dimensions) (es : List Event) (ran : IsRun s es) (few : (after s e
         omega (arith, low, same, few)
     traced-fits (says.Ticket n) why replies = absurd why.2
     traced-fits (says.Retry c) why replies = absurd why.2
-    traced-fits says.Lost why replies = tt
-    traced-fits says.Down why replies = tt
-    traced-fits says.Moved why replies = tt
-    traced-fits says.NotYet why replies = tt
-    traced-fits says.NoSpace why replies = tt
-    traced-fits says.Idle why replies = tt
-    traced-fits says.Stranger why replies = tt
-    traced-fits says.Done why replies = tt
-    traced-fits says.AlreadyDead why replies = tt
-    traced-fits says.Gone why replies = tt
+    traced-fits answer why replies = tt
 
   -- a kind of event whose answers have no number but a reply's
   plain-fits : (k : Kind) → can_have k form.Ticket ≡ false → can_have k form.Retry ≡ false → can_have k form.Stale ≡ false → (a : Answer) → MayAnswer k a
@@ -172,16 +154,7 @@ module _ (s : Dimensions) (es : List Event) (ran : IsRun s es) (few : (after s e
   plain-fits k ticket retry stale (says.Ticket n) may replies = absurd (cc (sym ticket ∙ may))
   plain-fits k ticket retry stale (says.Retry c) may replies = absurd (cc (sym retry ∙ may))
   plain-fits k ticket retry stale (says.Stale n) may replies = absurd (cc (sym stale ∙ may))
-  plain-fits k ticket retry stale says.Lost may replies = tt
-  plain-fits k ticket retry stale says.Down may replies = tt
-  plain-fits k ticket retry stale says.Moved may replies = tt
-  plain-fits k ticket retry stale says.NotYet may replies = tt
-  plain-fits k ticket retry stale says.NoSpace may replies = tt
-  plain-fits k ticket retry stale says.Idle may replies = tt
-  plain-fits k ticket retry stale says.Stranger may replies = tt
-  plain-fits k ticket retry stale says.Done may replies = tt
-  plain-fits k ticket retry stale says.AlreadyDead may replies = tt
-  plain-fits k ticket retry stale says.Gone may replies = tt
+  plain-fits k ticket retry stale answer may replies = tt
 
   pub answer-fits : (e : Event) → MayCome (after s es) e → Replies (step (after s es) e).turn.answer → FitsAnswer (step (after s es) e).turn.answer
   answer-fits (Ask caller op p) may replies = asked-fits caller op p may (step (after s es) (Ask caller op p)).turn.answer refl

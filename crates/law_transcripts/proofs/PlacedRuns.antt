@@ -104,16 +104,7 @@ updates-are s w d led low = ap (λ (r : List (Option Run)). updates_from s.k d (
 
 brings-gives : (act : Act) → gives_value act ≡ brings_value act
 brings-gives (Get key) = refl
-brings-gives (Set key flags expiry value) = refl
-brings-gives (Add key flags expiry value) = refl
-brings-gives (Replace key flags expiry value) = refl
-brings-gives (Cas key flags expiry cas value) = refl
-brings-gives (Delete key) = refl
-brings-gives (Touch key expiry) = refl
-brings-gives (Append key value) = refl
-brings-gives (Prepend key value) = refl
-brings-gives (Incr key by') = refl
-brings-gives (Decr key by') = refl
+brings-gives a = refl
 
 -- an update that has a run exactly where it brings a value, the run written where it is clear
 stands-right : (w : World) (d n : ℕ) (u : Logged) → ValuesWritten w → RunsAreOfValues w → d < w.shape.k → slice_get (updates_of w d) n ≡ Some u

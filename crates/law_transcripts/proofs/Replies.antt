@@ -40,9 +40,7 @@ module _ (k : ℕ) (ts : List Turn) (within : AnswersWithin k ts) (logged : All 
   by-event i t (happens.Trace caller call d p) r is event answer may =
       let name : CallName = record { caller = caller; call = call } in
       of-since i name r (within.later i t name r is (subst (λ (x : Event). Fetches x name) (sym event) (refl, refl)) answer)
-  by-event i t (happens.Deliver from to) r is event answer may = absurd (cc may)
-  by-event i t (happens.Fail p keep) r is event answer may = absurd (cc may)
-  by-event i t (happens.Flush p) r is event answer may = absurd (cc may)
+  by-event i t e r is event answer may = absurd (cc may)
 
   pub turns-fit : All FitsIfReply ts
   turns-fit = all-each FitsIfReply ts (λ i t is r answer may. by-event i t t.event r is refl answer (subst (MayAnswer (kind_of_event t.event)) answer may))

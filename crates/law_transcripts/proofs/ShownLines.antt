@@ -32,18 +32,7 @@ use Rattle.law_transcripts.proofs.Turns.{told_after}
 
 lengths-by : (p : Play) (l : Line) → length (steps_by p l) ≡ length (told_by p l)
 lengths-by p Skipped = refl
-lengths-by p (Group shape) = refl
-lengths-by p (Ask caller from act) = refl
-lengths-by p (Collect caller call from) = refl
-lengths-by p (Deliver from to) = refl
-lengths-by p (Fail from keep) = refl
-lengths-by p (Flush from) = refl
-lengths-by p (Trace caller call d from) = refl
-lengths-by p Drain = refl
-lengths-by p (Show from run) = refl
-lengths-by p Places = refl
-lengths-by p (Time moment) = refl
-lengths-by p Stop = refl
+lengths-by p l = refl
 
 lengths-on : (play : Option Play) (l : Result Line LineFault) → length (steps_on play l) ≡ length (told_on play l)
 lengths-on None l = refl
@@ -90,21 +79,10 @@ pub record IsOther (p : Play) (l : Result Line LineFault) : Type 0 where
   pub ends : (steps : List Step) → EndsPlacing (steps_on (Some p) l ++ steps) → EndsPlacing steps
 
 pub places-or-other : (p : Play) (l : Result Line LineFault) → (l ≡ Ok Places) ⊎ IsOther p l
-places-or-other p (Err fault) = inr (record { runs = refl; ends = λ steps ends. ends })
-places-or-other p (Ok Skipped) = inr (record { runs = refl; ends = λ steps ends. ends })
-places-or-other p (Ok (Group shape)) = inr (record { runs = refl; ends = λ steps ends. ends })
-places-or-other p (Ok (Ask caller from act)) = inr (record { runs = refl; ends = λ steps ends. ends })
-places-or-other p (Ok (Collect caller call from)) = inr (record { runs = refl; ends = λ steps ends. ends })
-places-or-other p (Ok (Deliver from to)) = inr (record { runs = refl; ends = λ steps ends. ends })
-places-or-other p (Ok (Fail from keep)) = inr (record { runs = refl; ends = λ steps ends. ends })
-places-or-other p (Ok (Flush from)) = inr (record { runs = refl; ends = λ steps ends. ends })
-places-or-other p (Ok (Trace caller call d from)) = inr (record { runs = refl; ends = λ steps ends. ends })
-places-or-other p (Ok Drain) = inr (record { runs = refl; ends = λ steps ends. ends })
 places-or-other p (Ok (Show from run)) = inr
     (record { runs = append-nil (runs_told_in (looked p.world from run)) ∙ runs-looked p from run; ends = λ steps ends. ends })
 places-or-other p (Ok Places) = inl refl
-places-or-other p (Ok (Time moment)) = inr (record { runs = refl; ends = λ steps ends. ends })
-places-or-other p (Ok Stop) = inr (record { runs = refl; ends = λ steps ends. ends })
+places-or-other p l = inr (record { runs = refl; ends = λ steps ends. ends })
 
 pub runs-append : (xs ys : List ToldStep) → runs_told (xs ++ ys) ≡ runs_told xs ++ runs_told ys
 runs-append [] ys = refl
@@ -126,9 +104,6 @@ module _ (s : Dimensions) (runs : List (List (Option Run))) (log : List Entry) (
       → ((from : ProcessId) (run : Run) → l ≡ Ok (Show from run) → IsWellShown s runs log (Look from run) (looked p.world from run))
       → AreWellShown s runs (log ++ log_of (turns_told (told_on (Some p) l))) steps more
       → AreWellShown s runs log (steps_on (Some p) l ++ steps) (told_on (Some p) l ++ more)
-  line-shown p (Err fault) look rest = none-shown rest
-  line-shown p (Ok Skipped) look rest = none-shown rest
-  line-shown p (Ok (Group shape)) look rest = none-shown rest
   line-shown p (Ok (Ask caller from act)) look rest =
       let e : Event = happens.Ask caller (record { moment = p.moment; act = act }) from in one-shown (Make e) (Made (step p.world e).turn) tt rest
   line-shown p (Ok (Collect caller call from)) look rest = let e : Event = happens.Collect caller call from in
@@ -142,5 +117,4 @@ module _ (s : Dimensions) (runs : List (List (Option Run))) (log : List Entry) (
       turns_from p.world (draining_unless_down p.world) in one-shown Deliveries (Drained ts (length ts)) tt rest
   line-shown p (Ok (Show from run)) look rest = one-shown (Look from run) (looked p.world from run) (look from run refl) rest
   line-shown p (Ok Places) look rest = one-shown Placing (Placed (places_of p.world)) tt rest
-  line-shown p (Ok (Time moment)) look rest = none-shown rest
-  line-shown p (Ok Stop) look rest = none-shown rest
+  line-shown p l look rest = none-shown rest

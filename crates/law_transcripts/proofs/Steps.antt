@@ -70,12 +70,7 @@ from-next line lines onward n s p script same (Goes t steps text) (Goes q turns 
     )
 from-next line lines onward n s p script same Ends Ends is next skipped well skips_it ok = ends n s p (line ∷ lines) script same ok
 from-next line lines onward n s p script same (Refused a) (Refused b) is next skipped well skips_it ok = cc ok
-from-next line lines onward n s p script same (Goes t steps text) Ends is next skipped well skips_it ok = absurd next
-from-next line lines onward n s p script same (Goes t steps text) (Refused b) is next skipped well skips_it ok = absurd next
-from-next line lines onward n s p script same Ends (Goes q turns written) is next skipped well skips_it ok = absurd next
-from-next line lines onward n s p script same Ends (Refused b) is next skipped well skips_it ok = absurd next
-from-next line lines onward n s p script same (Refused a) (Goes q turns written) is next skipped well skips_it ok = absurd next
-from-next line lines onward n s p script same (Refused a) Ends is next skipped well skips_it ok = absurd next
+from-next line lines onward n s p script same other another is next skipped well skips_it ok = absurd next
 
 is-script : (lines : List (List ℕ)) → Goal lines
 is-script [] n s p script same ok = ends n s p [] script same ok

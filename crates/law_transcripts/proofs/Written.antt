@@ -120,17 +120,7 @@ then-writes p Stop = tt
 first-writes : (l : Line) → Writes (first_by l) []
 first-writes Skipped = refl
 first-writes (Group shape) = refl
-first-writes (Ask caller from act) = tt
-first-writes (Collect caller call from) = tt
-first-writes (Deliver from to) = tt
-first-writes (Fail from keep) = tt
-first-writes (Flush from) = tt
-first-writes (Trace caller call d from) = tt
-first-writes Drain = tt
-first-writes (Show from run) = tt
-first-writes Places = tt
-first-writes (Time moment) = tt
-first-writes Stop = tt
+first-writes l = tt
 
 line-writes : (p : Option Play) (r : Result Line LineFault) → Writes (next_by p r) (told_on p r)
 line-writes None (Err fault) = tt

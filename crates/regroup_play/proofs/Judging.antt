@@ -27,11 +27,11 @@ use Rattle.group_eras.specs.Refusal.{CanCarry, IsFirstTooLong, IsRefused}
 use Rattle.group_eras.specs.declared.fault.CarryFault.{CarryFault}
 use Rattle.group_eras.specs.declared.fault.CarryFault.TheVariants.{Down, NoSpace, NotDrained, Want}
 use Rattle.group_eras.proofs.Promises.{eras_are_runs}
-use Rattle.scenario_run.specs.Course.{Ends, Goes, Refused}
+use Rattle.scenario_run.specs.Course.{Goes}
 use Rattle.regroup_run.specs.Playing.{EraNext, EraPlay, by_carry, by_regroup, has_space, logged_since, refuses}
 use Rattle.regroup_run.specs.Texts.{era_entries_text}
+use Rattle.scenario_play.specs.Script.{HasDone}
 use Rattle.regroup_play.specs.Carrying.{HasCarriedOn, HasToldRefusal, IsWrittenAs, carried_text}
-use Rattle.regroup_play.specs.Doing.{HasDone}
 use Rattle.regroup_play.proofs.Logged.{carried-era, carry-written}
 
 is-down : (w : World) → IsDown w → is_down w ≡ true
@@ -126,27 +126,21 @@ module _ (p : EraPlay) (s : Dimensions) where
       ∙ ap (λ (b : Bool). asks down b (has_space p.eras.world s)) iswaits
       ∙ ap (asks down waits) isspace
 
-  -- after want of memory anything goes
-  want-done : (next : EraNext) (now : Option EraPlay) → HasDone (Some p) next now (Err line.Want)
-  want-done (Goes play turns text) now = tt
-  want-done Ends now = tt
-  want-done (Refused fault) now = tt
-
   written-done : (next : EraNext) (now : EraPlay) (turns : List EraMove) (text wanted : List ℕ)
       (r : Result (Option (List ℕ)) LineFault) → next ≡ Goes (Some now) turns text → wanted ≡ text
       → IsWrittenAs wanted r
-      → HasDone (Some p) next (Some now) r
-  written-done next now turns text wanted r is same written = subst (λ (x : EraNext). HasDone (Some p) x (Some now) r) (sym is) (by r written) where
-    by : (r : Result (Option (List ℕ)) LineFault) → IsWrittenAs wanted r → HasDone (Some p) (Goes (Some now) turns text) (Some now) r
+      → HasDone line.Want (Some p) next (Some now) r
+  written-done next now turns text wanted r is same written = subst (λ (x : EraNext). HasDone line.Want (Some p) x (Some now) r) (sym is) (by r written) where
+    by : (r : Result (Option (List ℕ)) LineFault) → IsWrittenAs wanted r → HasDone line.Want (Some p) (Goes (Some now) turns text) (Some now) r
     by (Ok (Some t)) written = (refl, written ∙ same)
     by (Ok None) written = absurd written
-    by (Err line.Want) written = tt
+    by (Err line.Want) written = inl refl
     by (Err line.BadLine) written = absurd written
     by (Err (line.BadShape field)) written = absurd written
 
   pub carry-done : (f : Eras) (n era from : ℕ) (r : Result (Option (List ℕ)) LineFault) → IsLed p.eras
       → HasCarriedOn p.eras f s (Ok n) → era ≡ p.eras.era → from ≡ length p.eras.world.log
-      → IsWrittenAs (carried_text f era from n) r → HasDone (Some p) (by_regroup p s) (Some (record { eras = f; moment = p.moment })) r
+      → IsWrittenAs (carried_text f era from n) r → HasDone line.Want (Some p) (by_regroup p s) (Some (record { eras = f; moment = p.moment })) r
   carry-done f n era from r led (can, is, many) era_is from_is written =
       written-done (by_regroup p s) (record { eras = f; moment = p.moment }) (Carries s ∷ []) wanted (carried_text f era from n) r
       (asked false false true (not-down p.eras.world can.rest.up) (at-rest p.eras led can.rest.drained) (fits p.eras.world s can.space)
@@ -162,14 +156,14 @@ module _ (p : EraPlay) (s : Dimensions) where
 
   refusal-at : (text : List ℕ) (f : Eras) (wanted : List ℕ) (r : Result (Option (List ℕ)) LineFault)
       → by_regroup p s ≡ refuses p text → f ≡ p.eras → wanted ≡ text ++ 10 ∷ [] → IsWrittenAs wanted r
-      → HasDone (Some p) (by_regroup p s) (Some (record { eras = f; moment = p.moment })) r
+      → HasDone line.Want (Some p) (by_regroup p s) (Some (record { eras = f; moment = p.moment })) r
   refusal-at text f wanted r next same is written =
-      subst (λ (g : Eras). HasDone (Some p) (by_regroup p s) (Some (record { eras = g; moment = p.moment })) r)
-      (sym same) (written-done (by_regroup p s) p [] (text ++ 10 ∷ []) wanted r next is written)
+      subst (λ (g : Eras). HasDone line.Want (Some p) (by_regroup p s) (Some (record { eras = g; moment = p.moment }))
+      r) (sym same) (written-done (by_regroup p s) p [] (text ++ 10 ∷ []) wanted r next is written)
 
   pub refusal-done : (f : Eras) (fault : CarryFault) (r : Result (Option (List ℕ)) LineFault) → IsLed p.eras
       → HasCarriedOn p.eras f s (Err fault) → HasToldRefusal fault r
-      → HasDone (Some p) (by_regroup p s) (Some (record { eras = f; moment = p.moment })) r
+      → HasDone line.Want (Some p) (by_regroup p s) (Some (record { eras = f; moment = p.moment })) r
   refusal-done f Down r led (down, same) told = refusal-at (codes "down") f (codes "down\n") r
       (asked true _ _ (is-down p.eras.world down) refl refl) same refl told
   refusal-done f NotDrained r led (moving, same) told =
@@ -178,7 +172,5 @@ module _ (p : EraPlay) (s : Dimensions) where
   refusal-done f (NoSpace d) r led (long, same) told =
       refusal-at (codes "no_space") f (codes "no_space\n") r
       (asked false false false (not-down p.eras.world long.0.up) (at-rest p.eras led long.0.drained) (too-long p.eras.world s d.0 long.1)) same refl told
-  refusal-done f Want (Err line.Want) led carried told = want-done (by_regroup p s) (Some (record { eras = f; moment = p.moment }))
-  refusal-done f Want (Err line.BadLine) led carried told = absurd told
-  refusal-done f Want (Err (line.BadShape field)) led carried told = absurd told
-  refusal-done f Want (Ok text) led carried told = absurd told
+  refusal-done f Want (Err line.Want) led carried told = inl refl
+  refusal-done f fault r led carried told = absurd told

@@ -5,5 +5,4 @@ pub mod Lines
 pub mod Logged
 pub mod Shapes
 pub mod Stamps
-pub mod Whole
 pub mod Written

@@ -8,6 +8,7 @@ use Rattle.group_types.specs.Each.{Each}
 use Rattle.group_calls.specs.declared.entry.Entry.{Entry}
 use Rattle.group_calls.specs.declared.event.Event.{Event}
 use Rattle.group_run.specs.World.{opening}
+use Rattle.scenario_run.proofs.Entries as texts
 use Rattle.scenario_run.specs.Marks.{marked, marked_entries}
 use Rattle.group_eras.specs.Carry.{carried, read_era, reading, setting}
 use Rattle.group_eras.specs.Eras.{EraEntry, Eras, era_step, eras_after, logged_in_era, next_era, turn_in}
@@ -16,7 +17,7 @@ use Rattle.group_eras.specs.Told.{Bases}
 use Rattle.group_eras.proofs.Promises.{eras_are_runs}
 use Rattle.group_regroup.specs.Last.{entries_of_era}
 use Rattle.regroup_run.specs.Playing.{logged_since}
-use Rattle.regroup_run.specs.Texts.{era_entries_text, era_mark}
+use Rattle.regroup_run.specs.Texts.{era_entries_text, era_entry_text, era_mark}
 
 -- all are of an era, or none is
 abbrev pub AllOf : ℕ → List EraEntry → Type 0
@@ -59,11 +60,6 @@ own-text era [] own = refl
 own-text era (x ∷ xs) own =
     ap (λ (n : ℕ). marked (era_mark n) x.1 ++ 10 ∷ marked_entries (era_mark era) (plain xs)) (sym own.0)
     ∙ ap (λ (ys : List ℕ). marked (era_mark x.0) x.1 ++ 10 ∷ ys) (own-text era xs own.1)
-
-text-append : (a b : List EraEntry) → era_entries_text (a ++ b) ≡ era_entries_text a ++ era_entries_text b
-text-append [] b = refl
-text-append (x ∷ a) b = ap (λ (ys : List ℕ). marked (era_mark x.0) x.1 ++ 10 ∷ ys) (text-append a b)
-    ∙ sym (append_assoc (marked (era_mark x.0) x.1) (10 ∷ era_entries_text a) (era_entries_text b))
 
 each-append : (P : EraEntry → Type 0) (a b : List EraEntry) → Each P a → Each P b → Each P (a ++ b)
 each-append P [] b all more = more
@@ -212,5 +208,5 @@ module _ (e : Eras) (s : Dimensions) where
       ∙ ap (λ (n : ℕ). marked_entries (era_mark e.era) (drop from (entries_of_era e.era (carried e s).log))
       ++ marked_entries (era_mark n) (entries_of_era n (carried e s).log)) (later ∙ carried-era)
       ∙ ap (λ (xs : List ℕ). xs ++ marked_entries (era_mark (suc e.era)) (entries_of_era (suc e.era) (carried e s).log)) (old-text from led at)
-      ∙ ap (λ (xs : List ℕ). era_entries_text read.more ++ xs) (new-text led) ∙ sym (text-append read.more set.more)
+      ∙ ap (λ (xs : List ℕ). era_entries_text read.more ++ xs) (new-text led) ∙ sym (texts.entries-append era_entry_text read.more set.more)
       ∙ sym (ap era_entries_text (ap (logged_since e.log) whole ∙ behind e.log (read.more ++ set.more)))

@@ -11,7 +11,8 @@ use Rattle.group_eras.specs.Promise.{IsLed}
 use Rattle.group_regroup.specs.Last.{entries_of_era}
 use Rattle.regroup_run.specs.Playing.{EraPlay, by_drain, by_event, logged_since}
 use Rattle.regroup_run.specs.Texts.{era_entries_text, era_mark}
-use Rattle.regroup_play.specs.Doing.{HasDone}
+use Rattle.scenario_play.specs.Script.{HasDone}
+use Rattle.scenario_text.specs.declared.line.LineFault.TheVariants.{Want}
 use Rattle.regroup_play.proofs.Logged.{Grown, grown, since-event, since-written}
 
 -- an era's entries from a place on
@@ -22,7 +23,7 @@ module _ (p : EraPlay) (f : Eras) (era from : ℕ) (led : IsLed p.eras) where
   pub event-done : (x : Event) (answer : Answer) (line text : List ℕ) → f ≡ (era_step p.eras x).eras
       → answer ≡ (era_step p.eras x).answer → line ≡ answer_text answer ++ 10 ∷ [] → era ≡ f.era
       → from ≡ length p.eras.world.log → text ≡ line ++ since f era from
-      → HasDone (Some p) (by_event p x) (Some (record { eras = f; moment = p.moment })) (Ok (Some text))
+      → HasDone Want (Some p) (by_event p x) (Some (record { eras = f; moment = p.moment })) (Ok (Some text))
   event-done x answer line text is told line_is era_is from_is text_is = (
     ap (λ (g : Eras). Some (record { eras = g; moment = p.moment })) is,
     text_is ∙ ap (λ (xs : List ℕ). xs ++ since f era from) line_is ∙ append_assoc (answer_text answer) (10 ∷ []) (since f era from)
@@ -39,7 +40,7 @@ module _ (p : EraPlay) (f : Eras) (era from : ℕ) (led : IsLed p.eras) where
   pub drain-done : (count : ℕ) (start middle text : List ℕ) → f ≡ eras_after p.eras (draining_unless_down p.eras.world)
       → count ≡ length (draining_unless_down p.eras.world) → era ≡ f.era → from ≡ length p.eras.world.log → start ≡ []
       → middle ≡ start ++ since f era from → text ≡ middle ++ (codes "drained " ++ (decimal count ++ codes "\n"))
-      → HasDone (Some p) (by_drain p (draining_unless_down p.eras.world)) (Some (record { eras = f; moment = p.moment })) (Ok (Some text))
+      → HasDone Want (Some p) (by_drain p (draining_unless_down p.eras.world)) (Some (record { eras = f; moment = p.moment })) (Ok (Some text))
   drain-done count start middle text is many era_is from_is none middle_is text_is = (
     ap (λ (g : Eras). Some (record { eras = g; moment = p.moment })) is,
     text_is ∙ ap (λ (xs : List ℕ). xs ++ end count) (middle_is ∙ ap (λ (xs : List ℕ). xs ++ since f era from) none

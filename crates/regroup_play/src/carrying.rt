@@ -2,9 +2,9 @@ ghost use Rattle.std.specs.Prelude.{◌≤◌, ◌<◌, ◌^◌, Some, All, IsTr
 ghost use Rattle.group_eras.specs.Promise.{IsLed};
 ghost use Rattle.group_eras.specs.Refusal.{IsSuccessor};
 ghost use Rattle.scenario_play.specs.Player.{bytes_in_text};
+ghost use Rattle.scenario_play.specs.Script.{HasDone};
 ghost use Rattle.regroup_run.specs.Playing.{by_regroup};
 ghost use Rattle.regroup_play.specs.Carrying.{HasCarriedOn, HasToldRefusal, IsWrittenAs, carried_text};
-ghost use Rattle.regroup_play.specs.Doing.{HasDone};
 
 use crate::playing::EraPlay;
 use crate::writing::write_since;
@@ -28,7 +28,8 @@ pub(crate) fn follow_regroup(
 ) -> Result<Option<Vec<u8>>, LineFault>
     requires led { IsLed play.old.eras }
     requires successor { IsSuccessor play.old.eras.world shape }
-    ensures { HasDone (Some play.old) (by_regroup play.old shape) (Some play.new) (bytes_in_text result) }
+    ensures { HasDone LineFault.Want (Some play.old) (by_regroup play.old shape) (Some play.new)
+        (bytes_in_text result) }
 {
     let era = play.regroup.era();
     let from = play.regroup.world().log().len();

@@ -9,10 +9,10 @@ pub mod laws;
 mod next;
 mod placing;
 pub mod play;
-mod player;
 mod playing;
 mod reading;
 mod showing;
+mod subject;
 mod writing;
 
 pub use play::play_regroup;

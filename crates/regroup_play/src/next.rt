@@ -1,29 +1,27 @@
-ghost use Rattle.std.specs.Prelude.{◌≡◌, ◌++◌, ◌<◌, ◌≤◌, ◌+◌, ◌^◌, codes, Some, None, IfSome, IfOk, OnOk};
-ghost use Rattle.std.specs.Fmt.{decimal};
-ghost use Rattle.group_types.specs.Dimensions.{space_of};
-ghost use Rattle.group_types.specs.Names.{IsProcess};
+ghost use Rattle.std.specs.Prelude.{◌≡◌, ◌<◌, Some, None, IfSome, IfOk};
 ghost use Rattle.group_eras.specs.Eras.{MayMake, carrier};
 ghost use Rattle.group_eras.specs.Promise.{IsLed};
-ghost use Rattle.group_eras.specs.Range.{HasLowExpiry};
 ghost use Rattle.scenario_text.specs.Meaning.{IsLineOf};
 ghost use Rattle.scenario_text.specs.Words as text;
 ghost use Rattle.scenario_text.specs.declared.line.Line.TheVariants as line;
 ghost use Rattle.scenario_run.specs.Playing.{draining_unless_down};
 ghost use Rattle.scenario_play.specs.Player.{bytes_in_text};
+ghost use Rattle.scenario_play.specs.Script.{HasBegun, HasDone};
 ghost use Rattle.regroup_run.specs.Meaning.{IsLowLine, regroup_line};
-ghost use Rattle.regroup_run.specs.Playing.{by_call, by_drain, by_event, by_places, by_show, first_by, next_of, regroup_by, regroups, then_by};
-ghost use Rattle.regroup_play.specs.Doing.{HasBegun, HasDone};
+ghost use Rattle.regroup_run.specs.Playing.{by_call, by_drain, by_event, first_by, next_of, regroup_by, regroups, then_by};
 
 use crate::carrying::follow_regroup;
 use crate::deliveries::{drain, make};
 use crate::placing::write_placed;
 use crate::playing::EraPlay;
-use crate::reading::{is_regroup, is_skipped, read_regroup, words_of};
+use crate::reading::{is_regroup, read_regroup};
 use crate::showing::write_look_line;
-use crate::writing::{answer_line, write_since};
+use crate::writing::write_since;
 use group_calls::Event;
-use group_types::{Partition, ProcessId, Run};
-use memc_table::Act;
+use group_types::{Partition, ProcessId};
+use scenario_play::entries::write_count;
+use scenario_play::making::answer_line;
+use scenario_play::words::{is_skipped, words_of};
 use scenario_text::read_line::read_line;
 use scenario_text::{Line, LineFault};
 use std::alloc::{AllocError, Global};
@@ -38,7 +36,7 @@ pub(crate) fn treat(
     line: &[u8],
 ) -> Result<Option<Vec<u8>>, LineFault>
     requires { IfSome play.old (λ p. IsLed p.eras) }
-    ensures { HasDone play.old (next_of play.old line.now) play.new (bytes_in_text result) }
+    ensures { HasDone LineFault.Want play.old (next_of play.old line.now) play.new (bytes_in_text result) }
 {
     match play {
         None => {
@@ -52,7 +50,7 @@ pub(crate) fn treat(
 /// The group after a line before which it was not named.
 fn begin(alloc: Global, line: Line) -> Result<Option<EraPlay>, LineFault>
     requires { IsLineOf None line }
-    ensures { HasBegun (first_by line) result }
+    ensures { HasBegun LineFault.Want (first_by line) result }
 {
     match line {
         Line::Skipped => Ok(None),
@@ -64,15 +62,14 @@ fn begin(alloc: Global, line: Line) -> Result<Option<EraPlay>, LineFault>
 /// Treats a line behind the group line.
 fn follow(alloc: Global, play: &mut EraPlay, line: &[u8]) -> Result<Option<Vec<u8>>, LineFault>
     requires { IsLed play.old.eras }
-    ensures { HasDone (Some play.old) (next_of (Some play.old) line.now) (Some play.new) (bytes_in_text result) }
+    ensures { HasDone LineFault.Want (Some play.old) (next_of (Some play.old) line.now) (Some play.new)
+        (bytes_in_text result) }
 {
     if regroups(alloc, line)? {
         follow_words(alloc, play, line)
     } else {
         let line = read_line(alloc, Some(play.shape()), line)?;
-        let done = follow_line(alloc, play, &line);
-        drop(line);
-        done
+        follow_line(alloc, play, line)
     }
 }
 
@@ -93,7 +90,7 @@ fn follow_words(
     line: &[u8],
 ) -> Result<Option<Vec<u8>>, LineFault>
     requires { IsLed play.old.eras }
-    ensures { HasDone (Some play.old) (regroup_by play.old
+    ensures { HasDone LineFault.Want (Some play.old) (regroup_by play.old
         (regroup_line play.old.eras.world.shape.k (text.split_words line.now))) (Some play.new) (bytes_in_text result) }
 {
     let shape = read_regroup(play.shape().k(), &words_of(alloc, line)?)?;
@@ -101,101 +98,40 @@ fn follow_words(
 }
 
 /// Treats a line as in a script of one group.
-fn follow_line(alloc: Global, play: &mut EraPlay, line: &Line) -> Result<Option<Vec<u8>>, LineFault>
-    requires line { IsLineOf (Some play.old.eras.world.shape) line.now }
-    requires low { IsLowLine line.now }
+fn follow_line(alloc: Global, play: &mut EraPlay, line: Line) -> Result<Option<Vec<u8>>, LineFault>
+    requires line { IsLineOf (Some play.old.eras.world.shape) line }
+    requires low { IsLowLine line }
     requires led { IsLed play.old.eras }
-    ensures { HasDone (Some play.old) (then_by play.old line.now) (Some play.new) (bytes_in_text result) }
+    ensures { HasDone LineFault.Want (Some play.old) (then_by play.old line) (Some play.new) (bytes_in_text result) }
 {
     match line {
         Line::Skipped => Ok(Some(Vec::new(alloc))),
         Line::Group { .. } => Err(LineFault::BadLine),
-        Line::Ask { caller, at, act } => follow_ask(alloc, play, *caller, *at, act),
-        Line::Collect { caller, call, at } => follow_collect(alloc, play, *caller, *call, *at),
-        Line::Deliver { from, to } => follow_deliver(alloc, play, *from, *to),
-        Line::Fail { at, keep } => follow_fail(alloc, play, *at, *keep),
-        Line::Flush { at } => follow_flush(alloc, play, *at),
+        Line::Ask { caller, at, act } => {
+            let op = play.op(act);
+            follow_call(alloc, play, caller, Event::Ask { caller, op, at })
+        }
+        Line::Collect { caller, call, at } => {
+            follow_call(alloc, play, caller, Event::Collect { caller, call, at })
+        }
+        Line::Deliver { from, to } => follow_event(alloc, play, Event::Deliver { from, to }),
+        Line::Fail { at, keep } => follow_event(alloc, play, Event::Fail { at, keep }),
+        Line::Flush { at } => follow_event(alloc, play, Event::Flush { at }),
         Line::Trace {
             caller,
             call,
             partition,
             at,
-        } => follow_trace(alloc, play, *caller, *call, *partition, *at),
+        } => follow_trace(alloc, play, caller, call, partition, at),
         Line::Drain => follow_drain(alloc, play),
-        Line::Show { at, run } => follow_show(alloc, play, *at, *run),
-        Line::Places => follow_places(alloc, play),
-        Line::Time { moment } => follow_time(alloc, play, *moment),
+        Line::Show { at, run } => Ok(Some(write_look_line(alloc, &play.regroup, at, run)?)),
+        Line::Places => Ok(Some(write_placed(alloc, &play.regroup)?)),
+        Line::Time { moment } => {
+            play.set_moment(moment);
+            Ok(Some(Vec::new(alloc)))
+        }
         Line::Stop => Ok(None),
     }
-}
-
-fn follow_ask(
-    alloc: Global,
-    play: &mut EraPlay,
-    caller: u32,
-    at: ProcessId,
-    act: &Act,
-) -> Result<Option<Vec<u8>>, LineFault>
-    requires line { IsLineOf (Some play.old.eras.world.shape) (line.Ask caller at act.now) }
-    requires low { HasLowExpiry act.now }
-    requires led { IsLed play.old.eras }
-    ensures { HasDone (Some play.old) (then_by play.old (line.Ask caller at act.now)) (Some play.new) (bytes_in_text result) }
-{
-    let op = play.op(act.clone()?);
-    follow_call(alloc, play, caller, Event::Ask { caller, op, at })
-}
-
-fn follow_collect(
-    alloc: Global,
-    play: &mut EraPlay,
-    caller: u32,
-    call: u64,
-    at: ProcessId,
-) -> Result<Option<Vec<u8>>, LineFault>
-    requires line { IsLineOf (Some play.old.eras.world.shape) (line.Collect caller call at) }
-    requires led { IsLed play.old.eras }
-    ensures { HasDone (Some play.old) (then_by play.old (line.Collect caller call at)) (Some play.new)
-        (bytes_in_text result) }
-{
-    follow_call(alloc, play, caller, Event::Collect { caller, call, at })
-}
-
-fn follow_deliver(
-    alloc: Global,
-    play: &mut EraPlay,
-    from: ProcessId,
-    to: ProcessId,
-) -> Result<Option<Vec<u8>>, LineFault>
-    requires line { IsLineOf (Some play.old.eras.world.shape) (line.Deliver from to) }
-    requires led { IsLed play.old.eras }
-    ensures { HasDone (Some play.old) (then_by play.old (line.Deliver from to)) (Some play.new) (bytes_in_text result) }
-{
-    follow_event(alloc, play, Event::Deliver { from, to })
-}
-
-fn follow_fail(
-    alloc: Global,
-    play: &mut EraPlay,
-    at: ProcessId,
-    keep: u32,
-) -> Result<Option<Vec<u8>>, LineFault>
-    requires line { IsLineOf (Some play.old.eras.world.shape) (line.Fail at keep) }
-    requires led { IsLed play.old.eras }
-    ensures { HasDone (Some play.old) (then_by play.old (line.Fail at keep)) (Some play.new) (bytes_in_text result) }
-{
-    follow_event(alloc, play, Event::Fail { at, keep })
-}
-
-fn follow_flush(
-    alloc: Global,
-    play: &mut EraPlay,
-    at: ProcessId,
-) -> Result<Option<Vec<u8>>, LineFault>
-    requires line { IsLineOf (Some play.old.eras.world.shape) (line.Flush at) }
-    requires led { IsLed play.old.eras }
-    ensures { HasDone (Some play.old) (then_by play.old (line.Flush at)) (Some play.new) (bytes_in_text result) }
-{
-    follow_event(alloc, play, Event::Flush { at })
 }
 
 fn follow_trace(
@@ -208,8 +144,8 @@ fn follow_trace(
 ) -> Result<Option<Vec<u8>>, LineFault>
     requires line { IsLineOf (Some play.old.eras.world.shape) (line.Trace caller call partition at) }
     requires led { IsLed play.old.eras }
-    ensures { HasDone (Some play.old) (then_by play.old (line.Trace caller call partition at)) (Some play.new)
-        (bytes_in_text result) }
+    ensures { HasDone LineFault.Want (Some play.old) (then_by play.old (line.Trace caller call partition at))
+        (Some play.new) (bytes_in_text result) }
 {
     if play.regroup.world().asks(caller) <= call {
         return Err(LineFault::BadLine);
@@ -223,14 +159,6 @@ fn follow_trace(
     follow_call(alloc, play, caller, event)
 }
 
-fn follow_time(alloc: Global, play: &mut EraPlay, moment: u64) -> Result<Option<Vec<u8>>, LineFault>
-    requires { moment ≤ 2 ^ 62 }
-    ensures { HasDone (Some play.old) (then_by play.old (line.Time moment)) (Some play.new) (bytes_in_text result) }
-{
-    play.set_moment(moment);
-    Ok(Some(Vec::new(alloc)))
-}
-
 /// Treats a call of a caller, which is refused of the one that carries.
 fn follow_call(
     alloc: Global,
@@ -240,7 +168,8 @@ fn follow_call(
 ) -> Result<Option<Vec<u8>>, LineFault>
     requires led { IsLed play.old.eras }
     requires may { caller < carrier → MayMake play.old.eras event }
-    ensures { HasDone (Some play.old) (by_call play.old caller event) (Some play.new) (bytes_in_text result) }
+    ensures { HasDone LineFault.Want (Some play.old) (by_call play.old caller event) (Some play.new)
+        (bytes_in_text result) }
 {
     if CARRIER <= caller {
         drop(event);
@@ -257,7 +186,7 @@ fn follow_event(
 ) -> Result<Option<Vec<u8>>, LineFault>
     requires led { IsLed play.old.eras }
     requires may { MayMake play.old.eras event }
-    ensures { HasDone (Some play.old) (by_event play.old event) (Some play.new) (bytes_in_text result) }
+    ensures { HasDone LineFault.Want (Some play.old) (by_event play.old event) (Some play.new) (bytes_in_text result) }
 {
     let from = play.regroup.world().log().len();
     let out = make(&mut play.regroup, event)?;
@@ -269,8 +198,8 @@ fn follow_event(
 /// Delivers messages until none is left: what that logged, and how many there were.
 fn follow_drain(alloc: Global, play: &mut EraPlay) -> Result<Option<Vec<u8>>, LineFault>
     requires led { IsLed play.old.eras }
-    ensures { HasDone (Some play.old) (by_drain play.old (draining_unless_down play.old.eras.world)) (Some play.new)
-        (bytes_in_text result) }
+    ensures { HasDone LineFault.Want (Some play.old) (by_drain play.old (draining_unless_down play.old.eras.world))
+        (Some play.new) (bytes_in_text result) }
 {
     let from = play.regroup.world().log().len();
     let count = drain(&mut play.regroup)?;
@@ -278,32 +207,4 @@ fn follow_drain(alloc: Global, play: &mut EraPlay) -> Result<Option<Vec<u8>>, Li
     write_since(alloc, &play.regroup, play.regroup.era(), from, &mut text)?;
     write_count(alloc, count, &mut text)?;
     Ok(Some(text))
-}
-
-/// How many messages were delivered, on a line.
-fn write_count(alloc: Global, count: u64, text: &mut Vec<u8>) -> Result<(), AllocError>
-    ensures { OnOk result (text.new.items ≡ text.old.items ++ (codes "drained " ++ (decimal count ++ codes "\n"))) }
-{
-    text.extend_from_slice(format!(in alloc; "drained {count}\n")?.as_bytes())
-}
-
-/// The bytes of a run of a process of the current era, with its stamp.
-fn follow_show(
-    alloc: Global,
-    play: &EraPlay,
-    at: ProcessId,
-    run: Run,
-) -> Result<Option<Vec<u8>>, LineFault>
-    requires process { IsProcess play.now.eras.world.shape at }
-    requires run { run.at + run.len ≤ space_of play.now.eras.world.shape }
-    ensures { HasDone (Some play.now) (by_show play.now at run) (Some play.now) (bytes_in_text result) }
-{
-    Ok(Some(write_look_line(alloc, &play.regroup, at, run)?))
-}
-
-/// The runs of the updates that the current era has logged.
-fn follow_places(alloc: Global, play: &EraPlay) -> Result<Option<Vec<u8>>, LineFault>
-    ensures { HasDone (Some play.now) (by_places play.now) (Some play.now) (bytes_in_text result) }
-{
-    Ok(Some(write_placed(alloc, &play.regroup)?))
 }

@@ -4,7 +4,7 @@ ghost use Rattle.scenario_play.specs.Outside.{outside};
 ghost use Rattle.scenario_play.specs.Played.{IsPlayed};
 ghost use Rattle.regroup_play.specs.Language.{era_scripts};
 
-use crate::player::EraPlayer;
+use crate::playing::EraPlay;
 use edge_io::{Sink, Source};
 use scenario_play::Status;
 use scenario_play::play::play_on;
@@ -20,5 +20,5 @@ pub fn play_regroup<S: Source, K: Sink>(alloc: Global, source: &mut S, sink: &mu
     ensures read { result ≡ Status.ReadFault → Rose (S.faults source.old) (S.faults source.new) }
     ensures write { result ≡ Status.WriteFault → Rose (K.faults sink.old) (K.faults sink.new) }
 {
-    play_on(alloc, &mut EraPlayer::new(), source, sink)
+    play_on::<EraPlay, S, K>(alloc, source, sink)
 }

@@ -1,31 +1,11 @@
-ghost use Rattle.std.specs.Prelude.{◌≡◌, ◌==◌, map, IfOk};
-ghost use Rattle.std.specs.List.{slice_split};
+ghost use Rattle.std.specs.Prelude.{◌≡◌, map, IfOk};
 ghost use Rattle.group_types.specs.Shape.{IsShape};
-ghost use Rattle.scenario_text.specs.Meaning.{is_skipped};
 ghost use Rattle.scenario_text.specs.Reads.{IsMeaning};
 ghost use Rattle.regroup_run.specs.Meaning.{is_regroup, regroup_line, shape_within};
 
 use group_types::Shape;
 use scenario_text::LineFault;
 use scenario_text::read_word::read_u32;
-use std::alloc::{AllocError, Global};
-
-/// The words of a line.
-pub(crate) fn words_of(alloc: Global, line: &[u8]) -> Result<Vec<&[u8]>, AllocError>
-    ensures { IfOk result (λ words. map (λ word. word.now) words.items ≡ slice_split (λ b. b == 32) line.now) }
-{
-    line.split(|byte| *byte == b' ').collect(alloc)
-}
-
-/// Whether a line is skipped.
-pub(crate) fn is_skipped(line: &[u8]) -> bool
-    ensures { result ≡ is_skipped line.now }
-{
-    match line {
-        [] => true,
-        [first, ..] => *first == b'#',
-    }
-}
 
 /// Whether the first word is `regroup`.
 pub(crate) fn is_regroup(words: &[&[u8]]) -> bool

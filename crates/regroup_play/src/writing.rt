@@ -1,32 +1,11 @@
-ghost use Rattle.std.specs.Prelude.{◌≡◌, ◌≤◌, ◌++◌, ◌∷◌, [], drop, IfOk, OnOk};
+ghost use Rattle.std.specs.Prelude.{◌≡◌, ◌≤◌, ◌++◌, drop, IfOk, OnOk};
 ghost use Rattle.group_regroup.specs.Last.{entries_of_era};
 ghost use Rattle.scenario_run.specs.Marks.{marked_entries};
-ghost use Rattle.scenario_text.specs.Texts.{answer_text};
 ghost use Rattle.regroup_run.specs.Texts.{era_mark};
 
-use group_calls::{Answer, Out};
 use group_regroup::Regroup;
 use scenario_play::entries::write_last;
-use scenario_text::write_answer::write_answer;
 use std::alloc::{AllocError, Global};
-
-/// The answer of an event on a line.
-pub(crate) fn answer_line(alloc: Global, out: Out) -> Result<Vec<u8>, AllocError>
-    ensures { IfOk result (λ text. text.items ≡ answer_text out.answer ++ 10 ∷ []) }
-{
-    let line = write_answer_line(alloc, &out.answer);
-    drop(out);
-    line
-}
-
-/// An answer on a line.
-fn write_answer_line(alloc: Global, answer: &Answer) -> Result<Vec<u8>, AllocError>
-    ensures { IfOk result (λ text. text.items ≡ answer_text answer.now ++ 10 ∷ []) }
-{
-    let mut text = write_answer(alloc, answer)?;
-    text.push(b'\n')?;
-    Ok(text)
-}
 
 /// Writes the entries of an era's log from a place on, as they are told, each on a line.
 pub(crate) fn write_since(

@@ -20,11 +20,7 @@ use Rattle.regroup_run.proofs.Leading.{MayAllMake}
 -- a delivery is made as it was asked
 delivers : (e : Eras) (x : Event) → IsDelivery x → MayCome e.world x → MayMake e x × ((era_step e x).eras.world ≡ (step e.world x).world)
 delivers e (Deliver from to) delivery may = (record { may = may; others = tt; range = tt }, refl)
-delivers e (Ask caller op p) delivery may = absurd delivery
-delivers e (Collect caller call p) delivery may = absurd delivery
-delivers e (Fail p keep) delivery may = absurd delivery
-delivers e (Flush p) delivery may = absurd delivery
-delivers e (Trace caller call d p) delivery may = absurd delivery
+delivers e another delivery may = absurd delivery
 
 abbrev behind : ℕ → World → Option Event → List Event
 behind n w None = []

@@ -14,7 +14,7 @@ use Rattle.group_calls.specs.declared.event.Event.TheVariants as happens
 use Rattle.group_run.specs.Draining.{next_delivery}
 use Rattle.group_run.specs.Meaning.{IsDrained}
 use Rattle.group_run.specs.Shown.{is_down}
-use Rattle.group_run.specs.World.{World, opening}
+use Rattle.group_run.specs.World.{World}
 use Rattle.law_causes.specs.Drained.{NextTellsDrained}
 use Rattle.law_causes.proofs.Drained.{next_always}
 use Rattle.memc_table.specs.Asked.{Asked}
@@ -28,17 +28,18 @@ use Rattle.scenario_text.proofs.Limits.{shape-of}
 use Rattle.scenario_text.proofs.Lines.{line_of-within}
 use Rattle.scenario_run.specs.Course.{Ends, Goes, Refused}
 use Rattle.scenario_run.specs.Playing.{draining_unless_down}
-use Rattle.scenario_run.proofs.Running.{parts}
+use Rattle.scenario_run.proofs.Beginning.{Opens}
+use Rattle.scenario_run.proofs.Running.{parts, read-never-ends, read-opens}
 use Rattle.scenario_run.proofs.Truth.{up}
 use Rattle.group_eras.specs.Carry.{carried}
-use Rattle.group_eras.specs.Eras.{Eras, MayMake, carrier, era_step, eras_after, first_era}
+use Rattle.group_eras.specs.Eras.{Eras, MayMake, carrier, era_step, eras_after}
 use Rattle.group_eras.specs.Items.{bytes_in_partition}
 use Rattle.group_eras.specs.Promise.{EraMove, Carries, IsLed, Makes}
 use Rattle.group_eras.specs.Refusal.{CanCarry}
 use Rattle.group_eras.proofs.Promises.{eras_are_runs}
 use Rattle.regroup_run.specs.Meaning.{IsLowLine, regroup_line, shape_of_numbers, shape_unless, shape_within}
-use Rattle.regroup_run.specs.Playing.{EraNext, EraPlay, by_call, by_carry, by_event, by_regroup, by_trace, first_by}
-use Rattle.regroup_run.specs.Playing.{has_space, next_by, next_of, refuses, regroup_by, regroups, then_by}
+use Rattle.regroup_run.specs.Playing.{EraNext, EraPlay, by_call, by_carry, by_event, by_regroup, by_trace, has_space}
+use Rattle.regroup_run.specs.Playing.{next_by, next_of, refuses, regroup_by, regroups, eras_from, then_by}
 use Rattle.regroup_run.proofs.Draining.{drains}
 use Rattle.regroup_run.proofs.Leading.{IsLedTo, Leads, is-led, makes-lead, world-led}
 use Rattle.regroup_run.proofs.Ranges.{line_of-low}
@@ -242,18 +243,12 @@ within-named k m blocks block t is = by (first_out_of_range s) refl is where
   by (Some field) some reads = absurd (cc reads)
 
 numbers-named : (k : ℕ) (m blocks block : Option ℕ) (t : Dimensions) → shape_of_numbers k m blocks block ≡ Ok t → Named k t
-numbers-named k None blocks block t is = absurd (cc is)
-numbers-named k (Some m) None block t is = absurd (cc is)
-numbers-named k (Some m) (Some blocks) None t is = absurd (cc is)
 numbers-named k (Some m) (Some blocks) (Some block) t is = within-named k m blocks block t is
+numbers-named k o blocks block t is = absurd (cc is)
 
 line-named : (k : ℕ) (words : List (List ℕ)) (t : Dimensions) → regroup_line k words ≡ Ok t → Named k t
-line-named k [] t is = absurd (cc is)
-line-named k (a ∷ []) t is = absurd (cc is)
-line-named k (a ∷ b ∷ []) t is = absurd (cc is)
-line-named k (a ∷ b ∷ c ∷ []) t is = absurd (cc is)
 line-named k (name ∷ m ∷ blocks ∷ block ∷ []) t is = numbers-named k _ _ _ t is
-line-named k (a ∷ b ∷ c ∷ d ∷ e ∷ ws) t is = absurd (cc is)
+line-named k xs t is = absurd (cc is)
 
 regroup-leads : (s : Dimensions) (p : EraPlay) (r : Result Dimensions LineFault) (next : Option EraPlay) (moves : List EraMove) (text : List ℕ) → IsReady s p
     → ((t : Dimensions) → r ≡ Ok t → Named p.eras.world.shape.k t) → regroup_by p r ≡ Goes next moves text → GoesOn p next moves
@@ -272,56 +267,10 @@ line-leads s p line next moves text ready is = by (regroups line) is where
       (λ l reads. (line_of-within (Some p.eras.world.shape) line l reads, line_of-low p.eras.world.shape line l reads)) goes
 
 -- the group line, or a line before it
-pub record Opens (next : Option EraPlay) (moves : List EraMove) (text : List ℕ) : Type 0 where
-  pub quiet : moves ≡ []
-  pub silent : text ≡ []
-  pub is : (next ≡ None) ⊎ ((s : Dimensions) × IsShape s × (next ≡ Some (record { eras = first_era (opening s); moment = 0 })))
+pub line-opens : (line : List ℕ) (next : Option EraPlay) (moves : List EraMove) (text : List ℕ)
+    → next_of None line ≡ Goes next moves text → Opens IsShape eras_from next moves text
+line-opens line next moves text is = read-opens eras_from line (next_by None) (λ fault. refl) (λ l. refl) next moves text is
 
-first-opens : (l : Line) (next : Option EraPlay) (moves : List EraMove) (text : List ℕ) → IsLineOf None l
-    → first_by l ≡ Goes next moves text → Opens next moves text
-first-opens Skipped next moves text within is = let both = parts None next [] moves [] text is in record { quiet = both.1; silent = both.2; is = inl both.0 }
-first-opens (Group s) next moves text within is =
-    let both = parts (Some (record { eras = first_era (opening s); moment = 0 })) next [] moves [] text is in
-    record { quiet = both.1; silent = both.2; is = inr (s, within, both.0) }
-first-opens (Ask caller from act) next moves text within is = absurd within
-first-opens (Collect caller call from) next moves text within is = absurd within
-first-opens (Deliver from to) next moves text within is = absurd within
-first-opens (Fail from keep) next moves text within is = absurd within
-first-opens (Flush from) next moves text within is = absurd within
-first-opens (Trace caller call d from) next moves text within is = absurd within
-first-opens Drain next moves text within is = absurd within
-first-opens (Show from run) next moves text within is = absurd within
-first-opens Places next moves text within is = absurd within
-first-opens (Time moment) next moves text within is = absurd within
-first-opens Stop next moves text within is = absurd within
-
-next-opens : (l : Result Line LineFault) (next : Option EraPlay) (moves : List EraMove) (text : List ℕ)
-    → ((l' : Line) → l ≡ Ok l' → IsLineOf None l') → next_by None l ≡ Goes next moves text → Opens next moves text
-next-opens (Err fault) next moves text within is = absurd (cc is)
-next-opens (Ok l) next moves text within is = first-opens l next moves text (within l refl) is
-
-pub line-opens : (line : List ℕ) (next : Option EraPlay) (moves : List EraMove) (text : List ℕ) → next_of None line ≡ Goes next moves text → Opens next moves text
-line-opens line next moves text is = next-opens (line_meaning None line) next moves text (λ l reads. line_of-within None line l reads) is
-
--- before the group line no line is the last
-never-ends-by : (l : Line) → IsLineOf None l → first_by l ≡ Ends → ⊥
-never-ends-by Skipped within is = cc is
-never-ends-by (Group s) within is = cc is
-never-ends-by (Ask caller from act) within is = within
-never-ends-by (Collect caller call from) within is = within
-never-ends-by (Deliver from to) within is = within
-never-ends-by (Fail from keep) within is = within
-never-ends-by (Flush from) within is = within
-never-ends-by (Trace caller call d from) within is = within
-never-ends-by Drain within is = within
-never-ends-by (Show from run) within is = within
-never-ends-by Places within is = within
-never-ends-by (Time moment) within is = within
-never-ends-by Stop within is = within
-
-never-ends-in : (l : Result Line LineFault) → ((l' : Line) → l ≡ Ok l' → IsLineOf None l') → next_by None l ≡ Ends → ⊥
-never-ends-in (Err fault) within is = cc is
-never-ends-in (Ok l) within is = never-ends-by l (within l refl) is
-
+-- before it no line is the last
 pub never-ends : (line : List ℕ) → next_of None line ≡ Ends → ⊥
-never-ends line is = never-ends-in (line_meaning None line) (λ l reads. line_of-within None line l reads) is
+never-ends line is = read-never-ends eras_from line (next_by None) (λ fault. refl) (λ l. refl) is

@@ -11,11 +11,10 @@ use Rattle.group_types.specs.declared.run.Run.{Run}
 use Rattle.group_calls.specs.declared.event.Event.{Event}
 use Rattle.group_calls.specs.declared.event.Event.TheVariants as happens
 use Rattle.group_run.specs.Draining.{next_delivery}
-use Rattle.group_run.specs.Meaning.{is_dead}
 use Rattle.group_run.specs.Shown.{held, is_down}
 use Rattle.group_run.specs.World.{World, opening}
 use Rattle.scenario_text.specs.Meaning.{is_skipped, line_meaning}
-use Rattle.scenario_text.specs.Texts.{answer_text, shown_text}
+use Rattle.scenario_text.specs.Texts.{answer_text}
 use Rattle.scenario_text.specs.Words.{split_words}
 use Rattle.scenario_text.specs.declared.line.Line.{Line}
 use Rattle.scenario_text.specs.declared.line.Line.TheVariants.{Skipped, Group, Ask, Collect, Deliver, Fail, Flush, Trace, Drain, Show, Places, Time, Stop}
@@ -23,7 +22,7 @@ use Rattle.scenario_text.specs.declared.line.LineFault.{LineFault}
 use Rattle.scenario_text.specs.declared.line.LineFault.TheVariants.{BadLine}
 use Rattle.scenario_run.specs.Course.{Next, Goes, Ends, Refused}
 use Rattle.scenario_run.specs.Placing.{placed_text}
-use Rattle.scenario_run.specs.Playing.{draining_unless_down}
+use Rattle.scenario_run.specs.Playing.{draining_unless_down, look_with, opens_by}
 use Rattle.group_eras.specs.Carry.{carried, many_carried}
 use Rattle.group_eras.specs.Eras.{EraEntry, Eras, carrier, era_step, eras_after, first_era, stamp_in}
 use Rattle.group_eras.specs.Items.{bytes_in_partition}
@@ -66,9 +65,9 @@ abbrev pub by_drain : EraPlay → List Event → EraNext
 by_drain p es = Goes (Some (record { eras = eras_after p.eras es; moment = p.moment })) (map Makes es)
     (era_entries_text (logged_since p.eras.log (eras_after p.eras es).log) ++ (codes "drained " ++ (decimal (length es) ++ codes "\n")))
 
--- bytes that a process of the current era shows with its stamp, unless the group is down or the process dead
+-- bytes that a process of the current era shows with its stamp
 abbrev pub look : Eras → ProcessId → List ℕ → List ℕ
-look e p bytes = if is_down e.world then codes "down" else (if is_dead e.world p then codes "lost" else shown_text (stamp_in e p) bytes)
+look e p bytes = look_with (stamp_in e p) e.world p bytes
 
 abbrev pub by_show : EraPlay → ProcessId → Run → EraNext
 by_show p from run = Goes (Some p) [] (look p.eras from (held p.eras.world from run) ++ 10 ∷ [])
@@ -97,11 +96,12 @@ by_regroup p s =
     else (if is_some (next_delivery p.eras.world) then refuses p (codes "not_drained")
     else (if has_space p.eras.world s then by_carry p s else refuses p (codes "no_space")))
 
--- what a line of this meaning does where the group isn't named yet
+-- a group at its start
+abbrev pub eras_from : Dimensions → EraPlay
+eras_from shape = record { eras = first_era (opening shape); moment = 0 }
+
 abbrev pub first_by : Line → EraNext
-first_by Skipped = quietly None
-first_by (Group shape) = quietly (Some (record { eras = first_era (opening shape); moment = 0 }))
-first_by _ = Refused BadLine
+first_by line = opens_by eras_from line
 
 -- what a line of this meaning does behind the group line
 abbrev pub then_by : EraPlay → Line → EraNext

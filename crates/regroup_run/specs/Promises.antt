@@ -1,6 +1,6 @@
 -- What holds of every script over eras: its moves may be done, so the laws of eras are about it; and the lines that show
 -- bytes show what the log tells.
-use Rattle.std.specs.Prelude.{ℕ, ◌≡◌, List, [], ◌∷◌, ◌++◌, Option, Some, None, Result, Ok}
+use Rattle.std.specs.Prelude.{ℕ, ◌≡◌, List, [], ◌∷◌, ◌++◌, Option, Some, None, Result}
 use Rattle.group_types.specs.Dimensions.{Dimensions}
 use Rattle.group_types.specs.Shape.{IsShape}
 use Rattle.group_types.specs.declared.process.ProcessId.{ProcessId}
@@ -9,10 +9,10 @@ use Rattle.group_run.specs.Shown.{told_bytes}
 use Rattle.group_run.specs.World.{opening}
 use Rattle.scenario_text.specs.Meaning.{line_meaning}
 use Rattle.scenario_text.specs.declared.line.Line.{Line}
-use Rattle.scenario_text.specs.declared.line.Line.TheVariants.{Show}
 use Rattle.scenario_text.specs.declared.line.LineFault.{LineFault}
-use Rattle.scenario_run.specs.Course.{Goes, Ends, Refused}
+use Rattle.scenario_run.specs.Course.{AllLines}
 use Rattle.scenario_run.specs.Lines.{lines_of}
+use Rattle.scenario_run.specs.Promises.{IsTrueShow}
 use Rattle.group_eras.specs.Eras.{Eras, first_era}
 use Rattle.group_eras.specs.Promise.{EraMove, Carries, HasCarried, HasPromise, MayAllBeDone, done}
 use Rattle.regroup_run.specs.Playing.{EraPlay, look, next_of, shape_in}
@@ -34,17 +34,12 @@ ShowsTruth e p run text = text ≡ look e p (told_bytes e.world p run) ++ 10 ∷
 
 -- so it is with what is written for a line that shows bytes
 abbrev pub IsTrueLine : Option EraPlay → Result Line LineFault → List ℕ → Type 0
-IsTrueLine (Some p) (Ok (Show from run)) text = ShowsTruth p.eras from run text
-IsTrueLine _ _ text = Unit {0}
+IsTrueLine (Some p) read text = IsTrueShow (ShowsTruth p.eras) read text
+IsTrueLine None read text = Unit {0}
 
 -- and with all lines
 abbrev pub AreTrueLines : Option EraPlay → List (List ℕ) → Type 0
-AreTrueLines play [] = Unit {0}
-AreTrueLines play (line ∷ lines) = elim (next_of play line) [
-  | Goes next turns text ↦ IsTrueLine play (line_meaning (shape_in play) line) text × AreTrueLines next lines
-  | Ends ↦ Unit {0}
-  | Refused fault ↦ Unit {0}
-]
+AreTrueLines play lines = AllLines next_of (λ p line text. IsTrueLine p (line_meaning (shape_in p) line) text) play lines
 
 -- a script's eras keep their promises
 pub record KeepsPromises (text : List ℕ) : Type 0 where

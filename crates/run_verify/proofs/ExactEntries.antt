@@ -79,17 +79,9 @@ pub record Now (sheet : Sheet) (runs : List (List (Option Run))) (a : Account) (
 
 -- an act brings a value where it writes one
 told-run : (act : Act) (value : List ℕ) (run : Option Run) → (brings_value act ≡ false → run ≡ None) → run_told (effect_of act value run) ≡ run
-told-run (Get key) value run none = refl
-told-run (Set key flags expiry v) value run none = refl
-told-run (Add key flags expiry v) value run none = refl
-told-run (Replace key flags expiry v) value run none = refl
-told-run (Cas key flags expiry cas v) value run none = refl
 told-run (Delete key) value run none = sym (none refl)
 told-run (Touch key expiry) value run none = sym (none refl)
-told-run (Append key v) value run none = refl
-told-run (Prepend key v) value run none = refl
-told-run (Incr key n) value run none = refl
-told-run (Decr key n) value run none = refl
+told-run a value run none = refl
 
 no-run : (s : Dimensions) (us : List Logged) (u : Logged) (b : Bool) → StandsRight s us u b → b ≡ false → u.run ≡ None
 no-run s us u true stands is = cc is

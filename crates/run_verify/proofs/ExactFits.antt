@@ -106,31 +106,22 @@ lowered-fits n h by None fn fh fv = tt
 lowered-fits n h by (Some v) fn fh fv = counted-fits n h (v - by) fn fh (let f = fv v refl in omega (arith, f))
 
 ruling-fits : (t n : ℕ) (act : Act) (live : Option Holding) → n < 2 ^ 64 → FitsAct act → FitsLive live → FitsRuling (ruling_of t n act live)
-ruling-fits t n (Get key) None fn fa fh = tt
 ruling-fits t n (Get key) (Some h) fn fa fh = fh
 ruling-fits t n (Set key flags expiry value) live fn fa fh = anew-fits t n flags expiry value fn fa.0 fa.1
 ruling-fits t n (Add key flags expiry value) None fn fa fh = anew-fits t n flags expiry value fn fa.0 fa.1
-ruling-fits t n (Add key flags expiry value) (Some h) fn fa fh = tt
-ruling-fits t n (Replace key flags expiry value) None fn fa fh = tt
 ruling-fits t n (Replace key flags expiry value) (Some h) fn fa fh = anew-fits t n flags expiry value fn fa.0 fa.1
-ruling-fits t n (Cas key flags expiry cas value) None fn fa fh = tt
 ruling-fits t n (Cas key flags expiry cas value) (Some h) fn fa fh = by (h.item.cas == cas)
   where
     by : (b : Bool) → FitsRuling (if b then anew t n flags expiry value else Refused replied.Exists)
     by true = anew-fits t n flags expiry value fn fa.0 fa.1
     by false = tt
-ruling-fits t n (Delete key) None fn fa fh = tt
 ruling-fits t n (Delete key) (Some h) fn fa fh = (tt, tt)
-ruling-fits t n (Touch key expiry) None fn fa fh = tt
 ruling-fits t n (Touch key expiry) (Some h) fn fa fh = (tt, fh)
-ruling-fits t n (Append key value) None fn fa fh = tt
 ruling-fits t n (Append key value) (Some h) fn fa fh = joined-fits n h (h.item.value ++ value) fn fh (All-append (λ b. b < 256) h.item.value value fh.2 fa)
-ruling-fits t n (Prepend key value) None fn fa fh = tt
 ruling-fits t n (Prepend key value) (Some h) fn fa fh = joined-fits n h (value ++ h.item.value) fn fh (All-append (λ b. b < 256) value h.item.value fa fh.2)
-ruling-fits t n (Incr key by) None fn fa fh = tt
 ruling-fits t n (Incr key by) (Some h) fn fa fh = raised-fits n h by (number_of h.item.value) fn fh
-ruling-fits t n (Decr key by) None fn fa fh = tt
 ruling-fits t n (Decr key by) (Some h) fn fa fh = lowered-fits n h by (number_of h.item.value) fn fh (λ x is. number-fits h.item.value x is)
+ruling-fits t n a o fn fa fh = tt
 
 -- ---- tables
 

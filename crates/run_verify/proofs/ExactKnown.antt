@@ -38,9 +38,7 @@ event-fits : (event : Event) → FitsAsk event → IsEventInRange event
 event-fits (happens.Ask caller op p) fits = fits.0
 event-fits (happens.Collect caller call p) fits = fits
 event-fits (happens.Trace caller call d p) fits = fits
-event-fits (happens.Deliver from to) fits = tt
-event-fits (happens.Fail p keep) fits = tt
-event-fits (happens.Flush p) fits = tt
+event-fits e fits = tt
 
 step-fits : (s : Dimensions) (step : Step) → FitsFully s step → FitsStep s step
 step-fits s (Make event) fits = event-fits event fits
@@ -62,26 +60,17 @@ delivery-fits t is = by t.event is
   where
     by : (event : Event) → IsDelivery event → FitsAsk event
     by (happens.Deliver from to) is = tt
-    by (happens.Ask caller op p) is = absurd is
-    by (happens.Collect caller call p) is = absurd is
-    by (happens.Fail p keep) is = absurd is
-    by (happens.Flush p) is = absurd is
-    by (happens.Trace caller call d p) is = absurd is
+    by event is = absurd is
 
 -- the turns that are told for a step
 told-fits : (s : Dimensions) (step : Step) (told : ToldStep) → FitsFully s step → CanBeTold step told → All FitsTurn (turns_told_in told)
 told-fits s (Make event) (Made t) fits tells = All-cons FitsTurn t [] (subst FitsAsk (sym tells.0) fits) (All-nil FitsTurn)
-told-fits s Deliveries (Made t) fits tells = absurd tells
-told-fits s (Look p run) (Made t) fits tells = absurd tells
-told-fits s Placing (Made t) fits tells = absurd tells
 told-fits s Deliveries (Drained ts n) fits tells = All-weaker (λ t. IsDelivery t.event) FitsTurn delivery-fits ts tells.0
-told-fits s (Make event) (Drained ts n) fits tells = absurd tells
-told-fits s (Look p run) (Drained ts n) fits tells = absurd tells
-told-fits s Placing (Drained ts n) fits tells = absurd tells
 told-fits s step (Shown stamp bytes) fits tells = All-nil FitsTurn
 told-fits s step Lost fits tells = All-nil FitsTurn
 told-fits s step Down fits tells = All-nil FitsTurn
 told-fits s step (Placed runs) fits tells = All-nil FitsTurn
+told-fits s asked told fits tells = absurd tells
 
 turns-fit : (s : Dimensions) (steps : List Step) (told : List ToldStep) → FitAll s steps → TellAll steps told → All FitsTurn (turns_told told)
 turns-fit s [] [] fit tells = All-nil FitsTurn
@@ -100,19 +89,11 @@ all-get (u ∷ ts) (suc j) t all is = all-get ts j t (All-tail FitsTurn u ts all
 
 asks-one : (caller : ℕ) (event : Event) → asks_in caller event ≤ 1
 asks-one caller (happens.Ask who op p) = grind (arith, nat_tests)
-asks-one caller (happens.Collect who call p) = omega arith
-asks-one caller (happens.Deliver from to) = omega arith
-asks-one caller (happens.Fail p keep) = omega arith
-asks-one caller (happens.Flush p) = omega arith
-asks-one caller (happens.Trace who call d p) = omega arith
+asks-one caller event = omega arith
 
 asks-none : (caller : ℕ) (event : Event) → IsDelivery event → asks_in caller event ≡ 0
 asks-none caller (happens.Deliver from to) is = refl
-asks-none caller (happens.Ask who op p) is = absurd is
-asks-none caller (happens.Collect who call p) is = absurd is
-asks-none caller (happens.Fail p keep) is = absurd is
-asks-none caller (happens.Flush p) is = absurd is
-asks-none caller (happens.Trace who call d p) is = absurd is
+asks-none caller e is = absurd is
 
 drained-none : (caller : ℕ) (ts : List Turn) → All (λ t. IsDelivery t.event) ts → asks_of caller ts ≡ 0
 drained-none caller [] all = refl
@@ -128,13 +109,11 @@ asks-append caller (x ∷ xs) ys = let rest = asks-append caller xs ys in omega 
 asks-told : (caller : ℕ) (step : Step) (told : ToldStep) → CanBeTold step told → asks_of caller (turns_told_in told) ≤ 1
 asks-told caller step (Made t) tells = let one = asks-one caller t.event in omega (arith, one)
 asks-told caller Deliveries (Drained ts n) tells = let none = drained-none caller ts tells.0 in omega (arith, none)
-asks-told caller (Make event) (Drained ts n) tells = absurd tells
-asks-told caller (Look p run) (Drained ts n) tells = absurd tells
-asks-told caller Placing (Drained ts n) tells = absurd tells
 asks-told caller step (Shown stamp bytes) tells = omega arith
 asks-told caller step Lost tells = omega arith
 asks-told caller step Down tells = omega arith
 asks-told caller step (Placed runs) tells = omega arith
+asks-told caller asked told tells = absurd tells
 
 asks-few : (caller : ℕ) (steps : List Step) (told : List ToldStep) → TellAll steps told → asks_of caller (turns_told told) ≤ length steps
 asks-few caller [] [] tells = omega arith
@@ -156,10 +135,7 @@ asks-take caller (suc j) (t ∷ ts) = let rest = asks-take caller j ts in omega 
 told-long : (told : ToldStep) → length (log_of (turns_told_in told)) ≤ length (told_lines told)
 told-long (Made t) = let log = ap length (append-nil t.logged) in omega (arith, log, length-map t.logged entry_text)
 told-long (Drained ts n) = omega (arith, length-append (map entry_text (log_of ts)) (drained_line n ∷ []), length-map (log_of ts) entry_text)
-told-long (Shown stamp bytes) = omega arith
-told-long Lost = omega arith
-told-long Down = omega arith
-told-long (Placed runs) = omega arith
+told-long told = omega arith
 
 log-long : (told : List ToldStep) → length (log_of (turns_told told)) ≤ length (lines_told told)
 log-long [] = omega arith

@@ -51,17 +51,13 @@ act-flags (act.Cas key flags expiry cas value) read = store-flags flags expiry v
 act-flags a read = tt
 
 pub act-fits : (a : Act) → FlagsFit a → AreBytes (act_value a) → FitsAct a
-act-fits (act.Get key) flags bytes = tt
 act-fits (act.Set key f expiry value) flags bytes = (flags, bytes)
 act-fits (act.Add key f expiry value) flags bytes = (flags, bytes)
 act-fits (act.Replace key f expiry value) flags bytes = (flags, bytes)
 act-fits (act.Cas key f expiry cas value) flags bytes = (flags, bytes)
-act-fits (act.Delete key) flags bytes = tt
-act-fits (act.Touch key expiry) flags bytes = tt
 act-fits (act.Append key value) flags bytes = bytes
 act-fits (act.Prepend key value) flags bytes = bytes
-act-fits (act.Incr key n) flags bytes = tt
-act-fits (act.Decr key n) flags bytes = tt
+act-fits a flags bytes = tt
 
 -- ---- lines
 

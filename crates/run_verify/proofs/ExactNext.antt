@@ -45,27 +45,14 @@ AreFew m changes = (d : ℕ) → length (at [] changes d) ≤ m
 
 -- whether the text of an answer is that of a call which takes effect, or may
 abbrev taken_by : List ℕ → Bool
-taken_by [] = false
-taken_by (a ∷ []) = false
-taken_by (a ∷ b ∷ []) = false
 taken_by (a ∷ b ∷ c ∷ more) = if a == 116 then true else (if a == 114 then c == 112 else false)
+taken_by xs = false
 
 taken-text : (answer : Answer) → taken_by (answer_text answer) ≡ takes_effect answer
 taken-text (answered.Reply reply) = refl
-taken-text (answered.Ticket n) = refl
-taken-text answered.NotYet = refl
-taken-text answered.NoSpace = refl
 taken-text (answered.Retry (Pending d n)) = refl
 taken-text (answered.Retry (Block b)) = refl
-taken-text answered.Moved = refl
-taken-text answered.Lost = refl
-taken-text answered.Down = refl
-taken-text answered.Idle = refl
-taken-text answered.Stranger = refl
-taken-text answered.Done = refl
-taken-text answered.AlreadyDead = refl
-taken-text answered.Gone = refl
-taken-text (answered.Stale call) = refl
+taken-text answer = refl
 
 -- ---- entries
 
@@ -206,11 +193,7 @@ few-change m true d c changes few e = elim (cases_eq e d) [
 
 few-answer : (m : ℕ) (a : Account) (event : Event) (b : Bool) → AreFew m a.changes → AreFew (m + 1) (after_event a event b).changes
 few-answer m a (happens.Ask caller op p) b few = few-more m a.changes few
-few-answer m a (happens.Collect caller call p) b few = few-more m a.changes few
-few-answer m a (happens.Deliver from to) b few = few-more m a.changes few
-few-answer m a (happens.Fail p keep) b few = few-more m a.changes few
-few-answer m a (happens.Flush p) b few = few-more m a.changes few
-few-answer m a (happens.Trace caller call d p) b few = few-more m a.changes few
+few-answer m a event b few = few-more m a.changes few
 
 few-as : (m : ℕ) (s next : JudgingState) → next ≡ s → AreFew m s.account.changes → AreFew m next.account.changes
 few-as m s next is few = subst (λ (x : JudgingState). AreFew m x.account.changes) (sym is) few

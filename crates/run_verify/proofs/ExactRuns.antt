@@ -71,10 +71,8 @@ no-told d n step (Drained turns m) other tells = (
 no-told d n step (Shown stamp bytes) other tells = (refl, (starts-other d n (shown_text stamp bytes) refl, tt))
 no-told d n step Lost other tells = (refl, (starts-other d n _ refl, tt))
 no-told d n step Down other tells = (refl, (starts-other d n _ refl, tt))
-no-told d n (Make event) (Placed runs) other tells = absurd tells
-no-told d n Deliveries (Placed runs) other tells = absurd tells
-no-told d n (Look p run) (Placed runs) other tells = absurd tells
 no-told d n Placing (Placed runs) other tells = absurd (other refl)
+no-told d n asked told other tells = absurd tells
 
 -- ---- the lines of the places
 
@@ -171,8 +169,4 @@ module _ (s : Dimensions) (d len : ℕ) (run : Run) (fd : d < 2 ^ 64) (fits : Ru
       (sym (ap (λ (r : List (List (Option Run))). at [] r d) same) ∙ is) in
       subst (λ (t : List (List ℕ)). IsRunIn t s d (suc (length front)) len (Some run))
       (sym (append-nil (place_lines 0 runs ++ placed_line (count_placed runs) ∷ []))) found
-  run_found (Placing ∷ []) (Made turn ∷ []) front ends (tell, tells) few short is = absurd tell
-  run_found (Placing ∷ []) (Drained turns m ∷ []) front ends (tell, tells) few short is = absurd tell
-  run_found (Placing ∷ []) (Shown stamp bytes ∷ []) front ends (tell, tells) few short is = absurd tell
-  run_found (Placing ∷ []) (Lost ∷ []) front ends (tell, tells) few short is = absurd tell
-  run_found (Placing ∷ []) (Down ∷ []) front ends (tell, tells) few short is = absurd tell
+  run_found (Placing ∷ []) (told ∷ []) front ends (tell, tells) few short is = absurd tell

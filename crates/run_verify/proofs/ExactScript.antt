@@ -73,20 +73,9 @@ good-line : (setting : Option Setting) (line : List ℕ) → Good setting → Go
 good-line None line good = by (line_meaning None line) refl
   where
     by : (r : Result Line LineFault) → line_meaning None line ≡ r → GoodLine None (steps_by_meaning None r)
-    by (Err fault) is = tt
     by (Ok Skipped) is = (tt, refl)
     by (Ok (Group shape)) is = (line_of-within None line (Group shape) is, refl)
-    by (Ok (Ask caller p a)) is = tt
-    by (Ok (Collect caller call p)) is = tt
-    by (Ok (Deliver from to)) is = tt
-    by (Ok (Fail p keep)) is = tt
-    by (Ok (Flush p)) is = tt
-    by (Ok (Trace caller call d p)) is = tt
-    by (Ok Drain) is = tt
-    by (Ok (Show p run)) is = tt
-    by (Ok Places) is = tt
-    by (Ok (Time moment)) is = tt
-    by (Ok Stop) is = tt
+    by r is = tt
 good-line (Some s) line good = by (line_meaning (Some s.shape) line) refl
   where
     by : (r : Result Line LineFault) → line_meaning (Some s.shape) line ≡ r → GoodLine (Some s) (steps_by_meaning (Some s) r)

@@ -50,29 +50,14 @@ use Rattle.run_verify.proofs.ExactUpdates.{drop-none}
 
 answer-begins : (answer : Answer) → begins_entry (answer_text answer) ≡ false
 answer-begins (answered.Reply reply) = refl
-answer-begins (answered.Ticket m) = refl
-answer-begins answered.NotYet = refl
-answer-begins answered.NoSpace = refl
-answer-begins (answered.Retry (Pending p m)) = refl
+answer-begins (answered.Retry (Pending d n)) = refl
 answer-begins (answered.Retry (Block b)) = refl
-answer-begins answered.Moved = refl
-answer-begins answered.Lost = refl
-answer-begins answered.Down = refl
-answer-begins answered.Idle = refl
-answer-begins answered.Stranger = refl
-answer-begins answered.Done = refl
-answer-begins answered.AlreadyDead = refl
-answer-begins answered.Gone = refl
-answer-begins (answered.Stale call) = refl
+answer-begins answer = refl
 
 -- a delivery leaves the account
 delivery-same : (a : Account) (event : Event) (answer : Answer) → IsDelivery event → after_answer a event answer ≡ a
 delivery-same a (happens.Deliver from to) answer is = refl
-delivery-same a (happens.Ask caller op p) answer is = absurd is
-delivery-same a (happens.Collect caller call p) answer is = absurd is
-delivery-same a (happens.Fail p keep) answer is = absurd is
-delivery-same a (happens.Flush p) answer is = absurd is
-delivery-same a (happens.Trace caller call d p) answer is = absurd is
+delivery-same a e answer is = absurd is
 
 -- a log has no more updates than entries
 pub updates-few : (k d : ℕ) (es : List Entry) (t : Contents) (runs : List (Option Run)) → length (updates_from k d t runs es) ≤ length es
@@ -266,20 +251,10 @@ module _ (sheet : Sheet) (turns : List Turn) (runs : List (List (Option Run))) (
       made-passes event t steps more before a logging is event_is may fit now
       (steps_pass steps more (before ++ t ∷ []) (is ∙ sym (append_assoc before (t ∷ []) (turns_told more))) runs_are
       tells ends fits (shown-behind before (t ∷ []) steps more shown))
-  steps_pass (Make event ∷ steps) (Drained ts n ∷ more) before is runs_are (tell, tells) ends fits shown a logging now = absurd tell
-  steps_pass (Make event ∷ steps) (Shown stamp bytes ∷ more) before is runs_are (tell, tells) ends fits shown a logging now = absurd tell
-  steps_pass (Make event ∷ steps) (Lost ∷ more) before is runs_are (tell, tells) ends fits shown a logging now = absurd tell
-  steps_pass (Make event ∷ steps) (Down ∷ more) before is runs_are (tell, tells) ends fits shown a logging now = absurd tell
-  steps_pass (Make event ∷ steps) (Placed rs ∷ more) before is runs_are (tell, tells) ends fits shown a logging now = absurd tell
   steps_pass (Deliveries ∷ steps) (Drained ts n ∷ more) before is runs_are ((all, few), tells) ends (fe, fits) (here, shown) a logging now =
       drained-passes ts n steps more before a logging is all few now
       (steps_pass steps more (before ++ ts) (is ∙ sym (append_assoc before ts (turns_told more))) runs_are tells ends
       fits (shown-behind before ts steps more shown))
-  steps_pass (Deliveries ∷ steps) (Made t ∷ more) before is runs_are (tell, tells) ends fits shown a logging now = absurd tell
-  steps_pass (Deliveries ∷ steps) (Shown stamp bytes ∷ more) before is runs_are (tell, tells) ends fits shown a logging now = absurd tell
-  steps_pass (Deliveries ∷ steps) (Lost ∷ more) before is runs_are (tell, tells) ends fits shown a logging now = absurd tell
-  steps_pass (Deliveries ∷ steps) (Down ∷ more) before is runs_are (tell, tells) ends fits shown a logging now = absurd tell
-  steps_pass (Deliveries ∷ steps) (Placed rs ∷ more) before is runs_are (tell, tells) ends fits shown a logging now = absurd tell
   steps_pass (Look p run ∷ steps) (Shown stamp bytes ∷ more) before is runs_are (tell, tells) ends (within, fits) (here, shown) a logging now =
       let rest = steps_pass steps more before is runs_are tells ends fits
       (subst (λ (es : List Entry). AreWellShown s runs es steps more) (append-nil (log_of before)) shown)
@@ -295,9 +270,6 @@ module _ (sheet : Sheet) (turns : List Turn) (runs : List (List (Option Run))) (
       (subst (λ (es : List Entry). AreWellShown s runs es steps more) (append-nil (log_of before)) shown) a false
       now in
       (rest.0, (on_to a steps, inr (inr refl, refl), rest.1))
-  steps_pass (Look p run ∷ steps) (Made t ∷ more) before is runs_are (tell, tells) ends fits shown a logging now = absurd tell
-  steps_pass (Look p run ∷ steps) (Drained ts n ∷ more) before is runs_are (tell, tells) ends fits shown a logging now = absurd tell
-  steps_pass (Look p run ∷ steps) (Placed rs ∷ more) before is runs_are (tell, tells) ends fits shown a logging now = absurd tell
   steps_pass (Placing ∷ (step ∷ steps)) (told ∷ more) before is runs_are tells ends fits shown a logging now = absurd (cc ends)
   steps_pass (Placing ∷ []) (told ∷ (next ∷ more)) before is runs_are (tell, tells) ends fits shown a logging now = absurd tells
   steps_pass (Placing ∷ []) (Placed rs ∷ []) before is runs_are (tell, tells) ends fits shown a logging now =
@@ -306,8 +278,4 @@ module _ (sheet : Sheet) (turns : List Turn) (runs : List (List (Option Run))) (
         subst (λ (ls : List (List ℕ)). PassAll sheet (state a (Placing ∷ []) logging) ls end.0)
             (sym (append-nil (place_lines 0 rs ++ placed_line (count_placed rs) ∷ []))) end.1,
       )
-  steps_pass (Placing ∷ []) (Made t ∷ []) before is runs_are (tell, tells) ends fits shown a logging now = absurd tell
-  steps_pass (Placing ∷ []) (Drained ts n ∷ []) before is runs_are (tell, tells) ends fits shown a logging now = absurd tell
-  steps_pass (Placing ∷ []) (Shown stamp bytes ∷ []) before is runs_are (tell, tells) ends fits shown a logging now = absurd tell
-  steps_pass (Placing ∷ []) (Lost ∷ []) before is runs_are (tell, tells) ends fits shown a logging now = absurd tell
-  steps_pass (Placing ∷ []) (Down ∷ []) before is runs_are (tell, tells) ends fits shown a logging now = absurd tell
+  steps_pass (asked ∷ steps) (told ∷ more) before is runs_are (tell, tells) ends fits shown a logging now = absurd tell

@@ -230,26 +230,12 @@ module _ (sheet : Sheet) (turns : List Turn) (runs : List (List (Option Run))) (
         later (record { caller = caller; call = call }) reply
         (subst (λ (e : Event). Fetches e (record { caller = caller; call = call })) (sym event) (refl, refl)) answer
         fits.0 fits.1
-    reply-right (happens.Deliver from to) reply event answer may = cc may
-    reply-right (happens.Fail p keep) reply event answer may = cc may
-    reply-right (happens.Flush p) reply event answer may = cc may
+    reply-right e reply event answer may = cc may
 
     pub answer_right : (event : Event) (answer : Answer) → t.event ≡ event → t.answer ≡ answer → MayAnswer (kind_of_event event) answer
         → IsAnswerRight a event answer ahead
     answer_right event (answered.Reply reply) event_is answer_is may = reply-right event reply event_is answer_is may
-    answer_right event (answered.Ticket n) event_is answer_is may = tt
-    answer_right event answered.NotYet event_is answer_is may = tt
-    answer_right event answered.NoSpace event_is answer_is may = tt
-    answer_right event (answered.Retry cause) event_is answer_is may = tt
-    answer_right event answered.Moved event_is answer_is may = tt
-    answer_right event answered.Lost event_is answer_is may = tt
-    answer_right event answered.Down event_is answer_is may = tt
-    answer_right event answered.Idle event_is answer_is may = tt
-    answer_right event answered.Stranger event_is answer_is may = tt
-    answer_right event answered.Done event_is answer_is may = tt
-    answer_right event answered.AlreadyDead event_is answer_is may = tt
-    answer_right event answered.Gone event_is answer_is may = tt
-    answer_right event (answered.Stale call) event_is answer_is may = tt
+    answer_right event answer event_is answer_is may = tt
 
   -- behind the answer
   answered-for : (a : Account) (event : Event) (answer : Answer) (gs : List Head)

@@ -103,11 +103,9 @@ reply-here (c ∷ calls) zero r call is = let e : c ≡ call = cc is in rw e ref
 reply-here (c ∷ calls) (suc n) r call is = reply-here calls n r call is
 
 reply-other : (calls : List Call) (n m : ℕ) (r : Reply) → m ≢ n → slice_get (with_reply calls n r) m ≡ slice_get calls m
-reply-other [] n m r other = refl
 reply-other (c ∷ calls) zero zero r other = absurd (other refl)
-reply-other (c ∷ calls) zero (suc m) r other = refl
-reply-other (c ∷ calls) (suc n) zero r other = refl
 reply-other (c ∷ calls) (suc n) (suc m) r other = reply-other calls n m r (λ e. other (cc e))
+reply-other xs n m r other = refl
 
 pub entry-there : (sheet : Sheet) (a : Account) (e : Entry) (run : Option Run)
     → call_named a (name_of e) ≡ Some (call_with e None) → call_named (account_after_entry sheet a e run) (name_of e)

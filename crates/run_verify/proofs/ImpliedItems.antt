@@ -51,32 +51,23 @@ lowered-left act n h by (Some v) left is = left _
 lowered-left act n h by None left is = cc is
 
 ruled : (t n : ℕ) (act : Act) (live : Option Holding) → accepts (reply_in (ruling_of t n act live)) ≡ true → LeftBy act (ruling_of t n act live)
-ruled t n (Get key) None is = cc is
-ruled t n (Get key) (Some h) is = cc is
 ruled t n (Set key flags expiry value) live is = (_, refl)
 ruled t n (Add key flags expiry value) None is = (_, refl)
-ruled t n (Add key flags expiry value) (Some h) is = cc is
-ruled t n (Replace key flags expiry value) None is = cc is
 ruled t n (Replace key flags expiry value) (Some h) is = (_, refl)
-ruled t n (Cas key flags expiry cas value) None is = cc is
 ruled t n (Cas key flags expiry cas value) (Some h) is = by (h.item.cas == cas) is
   where
     by : (b : Bool) → accepts (reply_in (if b then anew t n flags expiry value else Refused replied.Exists)) ≡ true
         → LeftBy (Cas key flags expiry cas value) (if b then anew t n flags expiry value else Refused replied.Exists)
     by true is = (_, refl)
     by false is = cc is
-ruled t n (Delete key) None is = cc is
 ruled t n (Delete key) (Some h) is = refl
-ruled t n (Touch key expiry) None is = cc is
 ruled t n (Touch key expiry) (Some h) is = (_, refl)
-ruled t n (Append key value) None is = cc is
 ruled t n (Append key value) (Some h) is = joined-left (Append key value) n h (h.item.value ++ value) (λ l. (l, refl)) is
-ruled t n (Prepend key value) None is = cc is
 ruled t n (Prepend key value) (Some h) is = joined-left (Prepend key value) n h (value ++ h.item.value) (λ l. (l, refl)) is
-ruled t n (Incr key by) None is = cc is
 ruled t n (Incr key by) (Some h) is = raised-left (Incr key by) n h by (number_of h.item.value) (λ l. (l, refl)) is
-ruled t n (Decr key by) None is = cc is
 ruled t n (Decr key by) (Some h) is = lowered-left (Decr key by) n h by (number_of h.item.value) (λ l. (l, refl)) is
+ruled t n (Get key) None is = cc is
+ruled t n a o is = cc is
 
 pub same_key-refl : (key : List ℕ) → is_eq (slice_cmp nat_cmp key key) ≡ true
 same_key-refl key = is_eq-slice_cmp key key ∙ (bytes_eq-Decides key key).1 refl

@@ -97,11 +97,7 @@ grow k d (e ∷ es) t changes u after (run, reply, rest) =
 table-kept : (a : Account) (event : Event) (answer : Answer) → ((after_answer a event answer).table ≡ a.table)
     × ((after_answer a event answer).changes ≡ a.changes)
 table-kept a (happens.Ask caller op p) answer = (refl, refl)
-table-kept a (happens.Collect caller call p) answer = (refl, refl)
-table-kept a (happens.Deliver from to) answer = (refl, refl)
-table-kept a (happens.Fail p keep) answer = (refl, refl)
-table-kept a (happens.Flush p) answer = (refl, refl)
-table-kept a (happens.Trace caller call d p) answer = (refl, refl)
+table-kept a event answer = (refl, refl)
 
 -- so do those of a step
 pub shadow-step : (sheet : Sheet) (a : Account) (step : Step) (told : ToldStep) (next : Account) → StepTold sheet a step told next
@@ -111,32 +107,15 @@ shadow-step sheet a (Make event) (Made t) next by =
     let logs = shadow-logs sheet t.logged (after_answer a event t.answer) next by.logs in
     rw (append-nil t.logged) (subst (λ (x : Contents). Shadow sheet.script.shape.k x a.changes t.logged next.table next.changes) kept.0
     (subst (λ (x : List (List Change)). Shadow sheet.script.shape.k (after_answer a event t.answer).table x t.logged next.table next.changes) kept.1 logs))
-shadow-step sheet a (Make event) (Drained turns n) next by = absurd by
-shadow-step sheet a (Make event) (Shown stamp bytes) next by = absurd by
-shadow-step sheet a (Make event) Lost next by = absurd by
-shadow-step sheet a (Make event) Down next by = absurd by
-shadow-step sheet a (Make event) (Placed runs) next by = absurd by
-shadow-step sheet a Deliveries (Made t) next by = absurd by
 shadow-step sheet a Deliveries (Drained turns n) next (entries, same, fits, logs) =
     subst (λ (ts : List Turn). Shadow sheet.script.shape.k a.table a.changes (log_of ts) next.table next.changes)
     (sym same) (rw (append-nil entries) (shadow-logs sheet entries a next logs))
-shadow-step sheet a Deliveries (Shown stamp bytes) next by = absurd by
-shadow-step sheet a Deliveries Lost next by = absurd by
-shadow-step sheet a Deliveries Down next by = absurd by
-shadow-step sheet a Deliveries (Placed runs) next by = absurd by
-shadow-step sheet a (Look p run) (Made t) next by = absurd by
-shadow-step sheet a (Look p run) (Drained turns n) next by = absurd by
 shadow-step sheet a (Look p run) (Shown stamp bytes) next by =
     (sym (ap (λ (c : Account). c.table) by.next_is), sym (ap (λ (c : Account). c.changes) by.next_is))
 shadow-step sheet a (Look p run) Lost next by = (sym (ap (λ (c : Account). c.table) by), sym (ap (λ (c : Account). c.changes) by))
 shadow-step sheet a (Look p run) Down next by = (sym (ap (λ (c : Account). c.table) by), sym (ap (λ (c : Account). c.changes) by))
-shadow-step sheet a (Look p run) (Placed runs) next by = absurd by
-shadow-step sheet a Placing (Made t) next by = absurd by
-shadow-step sheet a Placing (Drained turns n) next by = absurd by
-shadow-step sheet a Placing (Shown stamp bytes) next by = absurd by
-shadow-step sheet a Placing Lost next by = absurd by
-shadow-step sheet a Placing Down next by = absurd by
 shadow-step sheet a Placing (Placed runs) next by = (sym (ap (λ (c : Account). c.table) by.next_is), sym (ap (λ (c : Account). c.changes) by.next_is))
+shadow-step sheet a asked told next by = absurd by
 
 pub log-append : (xs ys : List Turn) → log_of (xs ++ ys) ≡ log_of xs ++ log_of ys
 log-append [] ys = refl

@@ -104,14 +104,7 @@ well-step : (sheet : Sheet) (a : Account) (step : Step) (told : ToldStep) (next 
     (log : List Entry) → FitsStep sheet.script.shape step
     → StandsSoFar sheet.script.shape runs log a → StepTold sheet a step told next → IsWellShown sheet.script.shape runs log step told
 well-step sheet a (Look p run) (Shown stamp bytes) next runs log fits stands by = well-look sheet a next p run stamp bytes runs log fits stands by
-well-step sheet a (Look p run) (Made t) next runs log fits stands by = tt
-well-step sheet a (Look p run) (Drained turns n) next runs log fits stands by = tt
-well-step sheet a (Look p run) Lost next runs log fits stands by = tt
-well-step sheet a (Look p run) Down next runs log fits stands by = tt
-well-step sheet a (Look p run) (Placed rs) next runs log fits stands by = tt
-well-step sheet a (Make event) told next runs log fits stands by = tt
-well-step sheet a Deliveries told next runs log fits stands by = tt
-well-step sheet a Placing told next runs log fits stands by = tt
+well-step sheet a asked told next runs log fits stands by = tt
 
 pub well-shown : (sheet : Sheet) (steps : List Step) (told : List ToldStep) (a final : Account) (log : List Entry) → FitSteps sheet.script.shape steps
     → Shadow sheet.script.shape.k (empty_table sheet.script.shape.k) (replicate sheet.script.shape.k []) log a.table a.changes → Course sheet a steps told final
@@ -195,32 +188,14 @@ runs-course sheet a [] told final ends course = absurd ends
 runs-course sheet a (step ∷ steps) [] final ends course = absurd course
 runs-course sheet a (Make event ∷ steps) (Made t ∷ more) final ends (next, by, course) = let r =
     runs-course sheet next steps more final ends course in record { runs_are = r.runs_are; clear = r.clear }
-runs-course sheet a (Make event ∷ steps) (Drained turns n ∷ more) final ends (next, by, course) = absurd by
-runs-course sheet a (Make event ∷ steps) (Shown stamp bytes ∷ more) final ends (next, by, course) = absurd by
-runs-course sheet a (Make event ∷ steps) (Lost ∷ more) final ends (next, by, course) = absurd by
-runs-course sheet a (Make event ∷ steps) (Down ∷ more) final ends (next, by, course) = absurd by
-runs-course sheet a (Make event ∷ steps) (Placed runs ∷ more) final ends (next, by, course) = absurd by
-runs-course sheet a (Deliveries ∷ steps) (Made t ∷ more) final ends (next, by, course) = absurd by
 runs-course sheet a (Deliveries ∷ steps) (Drained turns n ∷ more) final ends (next, by, course) = let r =
     runs-course sheet next steps more final ends course in record { runs_are = r.runs_are; clear = r.clear }
-runs-course sheet a (Deliveries ∷ steps) (Shown stamp bytes ∷ more) final ends (next, by, course) = absurd by
-runs-course sheet a (Deliveries ∷ steps) (Lost ∷ more) final ends (next, by, course) = absurd by
-runs-course sheet a (Deliveries ∷ steps) (Down ∷ more) final ends (next, by, course) = absurd by
-runs-course sheet a (Deliveries ∷ steps) (Placed runs ∷ more) final ends (next, by, course) = absurd by
-runs-course sheet a (Look p run ∷ steps) (Made t ∷ more) final ends (next, by, course) = absurd by
-runs-course sheet a (Look p run ∷ steps) (Drained turns n ∷ more) final ends (next, by, course) = absurd by
 runs-course sheet a (Look p run ∷ steps) (Shown stamp bytes ∷ more) final ends (next, by, course) = let r =
     runs-course sheet next steps more final ends course in record { runs_are = r.runs_are; clear = r.clear }
 runs-course sheet a (Look p run ∷ steps) (Lost ∷ more) final ends (next, by, course) = let r =
     runs-course sheet next steps more final ends course in record { runs_are = r.runs_are; clear = r.clear }
 runs-course sheet a (Look p run ∷ steps) (Down ∷ more) final ends (next, by, course) = let r =
     runs-course sheet next steps more final ends course in record { runs_are = r.runs_are; clear = r.clear }
-runs-course sheet a (Look p run ∷ steps) (Placed runs ∷ more) final ends (next, by, course) = absurd by
-runs-course sheet a (Placing ∷ steps) (Made t ∷ more) final ends (next, by, course) = absurd by
-runs-course sheet a (Placing ∷ steps) (Drained turns n ∷ more) final ends (next, by, course) = absurd by
-runs-course sheet a (Placing ∷ steps) (Shown stamp bytes ∷ more) final ends (next, by, course) = absurd by
-runs-course sheet a (Placing ∷ steps) (Lost ∷ more) final ends (next, by, course) = absurd by
-runs-course sheet a (Placing ∷ steps) (Down ∷ more) final ends (next, by, course) = absurd by
 runs-course sheet a (Placing ∷ (step ∷ steps)) (Placed runs ∷ more) final ends (next, by, course) = absurd (cc ends)
 runs-course sheet a (Placing ∷ []) (Placed runs ∷ (told ∷ more)) final ends (next, by, course) = absurd course
 runs-course sheet a (Placing ∷ []) (Placed runs ∷ []) final ends (next, by, course) =
@@ -230,3 +205,4 @@ runs-course sheet a (Placing ∷ []) (Placed runs ∷ []) final ends (next, by, 
       clear = λ d below. subst (λ (c : Account). AreClear sheet.script.shape [] (changes_at c d)) same
           (by.clear d below);
     }
+runs-course sheet a (asked ∷ steps) (answer ∷ more) final ends (next, by, course) = absurd by

@@ -83,11 +83,7 @@ placed-logs sheet (e ∷ es) a b (run, tells, logs) none = placed-logs sheet es 
 
 placed-answer : (a : Account) (event : Event) (answer : Answer) → a.placed ≡ 0 → (after_answer a event answer).placed ≡ 0
 placed-answer a (happens.Ask caller op p) answer none = none
-placed-answer a (happens.Collect caller call p) answer none = none
-placed-answer a (happens.Deliver from to) answer none = none
-placed-answer a (happens.Fail p keep) answer none = none
-placed-answer a (happens.Flush p) answer none = none
-placed-answer a (happens.Trace caller call d p) answer none = none
+placed-answer a e answer none = none
 
 abbrev Onward : Sheet → List Step → Type 0
 Onward sheet steps = (a : Account) (logging : Bool) (lines : List (List ℕ)) (final : Account) → a.placed ≡ 0
@@ -227,33 +223,16 @@ course_of sheet (Placing ∷ steps) ends = placing sheet steps ends
 -- what is told can be told for the steps
 tells-step : (sheet : Sheet) (a : Account) (step : Step) (told : ToldStep) (next : Account) → StepTold sheet a step told next → CanBeTold step told
 tells-step sheet a (Make event) (Made turn) next by = (by.event_is, by.can, by.fits)
-tells-step sheet a (Make event) (Drained turns n) next by = absurd by
-tells-step sheet a (Make event) (Shown stamp bytes) next by = absurd by
-tells-step sheet a (Make event) Lost next by = absurd by
-tells-step sheet a (Make event) Down next by = absurd by
-tells-step sheet a (Make event) (Placed runs) next by = absurd by
-tells-step sheet a Deliveries (Made turn) next by = absurd by
 tells-step sheet a Deliveries (Drained turns n) next (entries, same, fits, logs) = (
   subst (λ (ts : List Turn). All (λ turn. IsDelivery turn.event) ts) (sym same)
       (All-cons (λ turn. IsDelivery turn.event) (delivered entries) [] tt (All-nil (λ turn. IsDelivery turn.event))),
   fits,
 )
-tells-step sheet a Deliveries (Shown stamp bytes) next by = absurd by
-tells-step sheet a Deliveries Lost next by = absurd by
-tells-step sheet a Deliveries Down next by = absurd by
-tells-step sheet a Deliveries (Placed runs) next by = absurd by
-tells-step sheet a (Look p run) (Made turn) next by = absurd by
-tells-step sheet a (Look p run) (Drained turns n) next by = absurd by
 tells-step sheet a (Look p run) (Shown stamp bytes) next by = tt
 tells-step sheet a (Look p run) Lost next by = tt
 tells-step sheet a (Look p run) Down next by = tt
-tells-step sheet a (Look p run) (Placed runs) next by = absurd by
-tells-step sheet a Placing (Made turn) next by = absurd by
-tells-step sheet a Placing (Drained turns n) next by = absurd by
-tells-step sheet a Placing (Shown stamp bytes) next by = absurd by
-tells-step sheet a Placing Lost next by = absurd by
-tells-step sheet a Placing Down next by = absurd by
 tells-step sheet a Placing (Placed runs) next by = tt
+tells-step sheet a asked told next by = absurd by
 
 pub tells_all : (sheet : Sheet) (a : Account) (steps : List Step) (told : List ToldStep) (final : Account) → Course sheet a steps told final
     → TellAll steps told

@@ -149,11 +149,7 @@ asks-le caller (t ∷ turns) = let e = asks-le caller turns in let one = asks-on
   where
     asks-one : (caller : ℕ) (event : Event) → asks_in caller event ≤ 1
     asks-one caller (happens.Ask who op p) = grind (arith, nat_tests)
-    asks-one caller (happens.Collect who call p) = omega arith
-    asks-one caller (happens.Deliver from to) = omega arith
-    asks-one caller (happens.Fail p keep) = omega arith
-    asks-one caller (happens.Flush p) = omega arith
-    asks-one caller (happens.Trace who call d p) = omega arith
+    asks-one caller event = omega arith
 
 -- the call of a reply that is there
 pub record Replied (b : Account) (name : CallName) (reply : Reply) : Type 0 where
@@ -263,7 +259,4 @@ turn-right sheet a t next before fits few s by = record {
         subst (λ (n : CallName). LoggedSince before t n reply) same
         (there (record { caller = caller; call = call }) reply (ap (λ (e : Event). after_answer a e t.answer) is)
         answer_is f.0 f.1 (answer-right (happens.Trace caller call d p) reply is answer_is))
-    later name reply (happens.Ask caller op p) is fetches answer_is = absurd fetches
-    later name reply (happens.Deliver from to) is fetches answer_is = absurd fetches
-    later name reply (happens.Fail p keep) is fetches answer_is = absurd fetches
-    later name reply (happens.Flush p) is fetches answer_is = absurd fetches
+    later name reply e is fetches answer_is = absurd fetches

@@ -36,11 +36,7 @@ legal-logs sheet (e ∷ es) more a b (run, tells, logs) legal = (tells.reply, le
 
 table-answer : (a : Account) (event : Event) (answer : Answer) → (after_answer a event answer).table ≡ a.table
 table-answer a (happens.Ask caller op p) answer = refl
-table-answer a (happens.Collect caller call p) answer = refl
-table-answer a (happens.Deliver from to) answer = refl
-table-answer a (happens.Fail p keep) answer = refl
-table-answer a (happens.Flush p) answer = refl
-table-answer a (happens.Trace caller call d p) answer = refl
+table-answer a e answer = refl
 
 pub legal-course : (sheet : Sheet) (a : Account) (steps : List Step) (told : List ToldStep) (final : Account)
     → Course sheet a steps told final → IsLegalFrom a.table (log_of (turns_told told))
@@ -51,22 +47,10 @@ legal-course sheet a (Make event ∷ steps) (Made t ∷ more) final (next, by, c
     let onward = legal-course sheet next steps more final course in
     subst (λ (c : Contents). IsLegalFrom c (t.logged ++ log_of (turns_told more))) (table-answer a event t.answer)
     (legal-logs sheet t.logged (log_of (turns_told more)) (after_answer a event t.answer) next by.logs onward)
-legal-course sheet a (Make event ∷ steps) (Drained turns n ∷ more) final (next, by, course) = absurd by
-legal-course sheet a (Make event ∷ steps) (Shown stamp bytes ∷ more) final (next, by, course) = absurd by
-legal-course sheet a (Make event ∷ steps) (Lost ∷ more) final (next, by, course) = absurd by
-legal-course sheet a (Make event ∷ steps) (Down ∷ more) final (next, by, course) = absurd by
-legal-course sheet a (Make event ∷ steps) (Placed runs ∷ more) final (next, by, course) = absurd by
-legal-course sheet a (Deliveries ∷ steps) (Made t ∷ more) final (next, by, course) = absurd by
 legal-course sheet a (Deliveries ∷ steps) (Drained turns n ∷ more) final (next, (entries, same, fits, logs), course) =
     let onward = legal-course sheet next steps more final course in
     subst (λ (ts : List Turn). IsLegalFrom a.table (log_of (ts ++ turns_told more))) (sym same)
     (legal-logs sheet entries (log_of (turns_told more)) a next logs onward)
-legal-course sheet a (Deliveries ∷ steps) (Shown stamp bytes ∷ more) final (next, by, course) = absurd by
-legal-course sheet a (Deliveries ∷ steps) (Lost ∷ more) final (next, by, course) = absurd by
-legal-course sheet a (Deliveries ∷ steps) (Down ∷ more) final (next, by, course) = absurd by
-legal-course sheet a (Deliveries ∷ steps) (Placed runs ∷ more) final (next, by, course) = absurd by
-legal-course sheet a (Look p run ∷ steps) (Made t ∷ more) final (next, by, course) = absurd by
-legal-course sheet a (Look p run ∷ steps) (Drained turns n ∷ more) final (next, by, course) = absurd by
 legal-course sheet a (Look p run ∷ steps) (Shown stamp bytes ∷ more) final (next, by, course) =
     subst (λ (c : Account). IsLegalFrom c.table (log_of (turns_told more))) by.next_is
     (legal-course sheet next steps more final course)
@@ -76,15 +60,10 @@ legal-course sheet a (Look p run ∷ steps) (Lost ∷ more) final (next, by, cou
 legal-course sheet a (Look p run ∷ steps) (Down ∷ more) final (next, by, course) =
     subst (λ (c : Account). IsLegalFrom c.table (log_of (turns_told more))) by
     (legal-course sheet next steps more final course)
-legal-course sheet a (Look p run ∷ steps) (Placed runs ∷ more) final (next, by, course) = absurd by
-legal-course sheet a (Placing ∷ steps) (Made t ∷ more) final (next, by, course) = absurd by
-legal-course sheet a (Placing ∷ steps) (Drained turns n ∷ more) final (next, by, course) = absurd by
-legal-course sheet a (Placing ∷ steps) (Shown stamp bytes ∷ more) final (next, by, course) = absurd by
-legal-course sheet a (Placing ∷ steps) (Lost ∷ more) final (next, by, course) = absurd by
-legal-course sheet a (Placing ∷ steps) (Down ∷ more) final (next, by, course) = absurd by
 legal-course sheet a (Placing ∷ steps) (Placed runs ∷ more) final (next, by, course) =
     subst (λ (c : Account). IsLegalFrom c.table (log_of (turns_told more))) by.next_is
     (legal-course sheet next steps more final course)
+legal-course sheet a (asked ∷ steps) (answer ∷ more) final (next, by, course) = absurd by
 
 -- ---- every turn is right
 
@@ -124,12 +103,6 @@ right-course sheet a (Make event ∷ steps) (Made t ∷ more) final before (fit,
     (omega (arith, few)) s mine)
     (right-course sheet next steps more final (before ++ t ∷ []) fits (few-more before t (length steps) few)
     (stands-turn sheet a t.event t.answer t.logged next before s mine.logs) course)
-right-course sheet a (Make event ∷ steps) (Drained turns n ∷ more) final before fits few s (next, by, course) = absurd by
-right-course sheet a (Make event ∷ steps) (Shown stamp bytes ∷ more) final before fits few s (next, by, course) = absurd by
-right-course sheet a (Make event ∷ steps) (Lost ∷ more) final before fits few s (next, by, course) = absurd by
-right-course sheet a (Make event ∷ steps) (Down ∷ more) final before fits few s (next, by, course) = absurd by
-right-course sheet a (Make event ∷ steps) (Placed runs ∷ more) final before fits few s (next, by, course) = absurd by
-right-course sheet a (Deliveries ∷ steps) (Made t ∷ more) final before fits few s (next, by, course) = absurd by
 right-course sheet a (Deliveries ∷ steps) (Drained turns n ∷ more) final before (fit, fits) few s (next, (entries, same, small, logs), course) =
     let t : Turn = delivered entries in
     let mine : MadeBy sheet a t.event t next = record { event_is = refl; can = refl; fits = tt; rest = []; plain = tt; right = tt; logs = logs } in
@@ -137,12 +110,6 @@ right-course sheet a (Deliveries ∷ steps) (Drained turns n ∷ more) final bef
     (one-right before t (turns_told more) (turn-right sheet a t next before tt (omega (arith, few)) s mine)
     (right-course sheet next steps more final (before ++ t ∷ []) fits (few-more before t (length steps) few)
     (stands-turn sheet a t.event t.answer t.logged next before s mine.logs) course))
-right-course sheet a (Deliveries ∷ steps) (Shown stamp bytes ∷ more) final before fits few s (next, by, course) = absurd by
-right-course sheet a (Deliveries ∷ steps) (Lost ∷ more) final before fits few s (next, by, course) = absurd by
-right-course sheet a (Deliveries ∷ steps) (Down ∷ more) final before fits few s (next, by, course) = absurd by
-right-course sheet a (Deliveries ∷ steps) (Placed runs ∷ more) final before fits few s (next, by, course) = absurd by
-right-course sheet a (Look p run ∷ steps) (Made t ∷ more) final before fits few s (next, by, course) = absurd by
-right-course sheet a (Look p run ∷ steps) (Drained turns n ∷ more) final before fits few s (next, by, course) = absurd by
 right-course sheet a (Look p run ∷ steps) (Shown stamp bytes ∷ more) final before (fit, fits) few s (next, by, course) =
     right-course sheet next steps more final before fits (fewer before (length steps) few) (shown-stands a next before by.next_is s) course
   where
@@ -162,15 +129,10 @@ right-course sheet a (Look p run ∷ steps) (Lost ∷ more) final before (fit, f
     right-course sheet next steps more final before fits (fewer before (length steps) few) (subst (λ (c : Account). StandsFor c before) (sym by) s) course
 right-course sheet a (Look p run ∷ steps) (Down ∷ more) final before (fit, fits) few s (next, by, course) =
     right-course sheet next steps more final before fits (fewer before (length steps) few) (subst (λ (c : Account). StandsFor c before) (sym by) s) course
-right-course sheet a (Look p run ∷ steps) (Placed runs ∷ more) final before fits few s (next, by, course) = absurd by
-right-course sheet a (Placing ∷ steps) (Made t ∷ more) final before fits few s (next, by, course) = absurd by
-right-course sheet a (Placing ∷ steps) (Drained turns n ∷ more) final before fits few s (next, by, course) = absurd by
-right-course sheet a (Placing ∷ steps) (Shown stamp bytes ∷ more) final before fits few s (next, by, course) = absurd by
-right-course sheet a (Placing ∷ steps) (Lost ∷ more) final before fits few s (next, by, course) = absurd by
-right-course sheet a (Placing ∷ steps) (Down ∷ more) final before fits few s (next, by, course) = absurd by
 right-course sheet a (Placing ∷ steps) (Placed runs ∷ more) final before (fit, fits) few s (next, by, course) =
     right-course sheet next steps more final before fits (fewer before (length steps) few)
     (subst (λ (c : Account). StandsFor c before) (sym by.next_is) s) course
+right-course sheet a (asked ∷ steps) (answer ∷ more) final before fits few s (next, by, course) = absurd by
 
 -- ---- within their time
 
@@ -220,18 +182,7 @@ ask-take turns n j t name op ask =
 not-taken : (answer : Answer) → ¬ (IsTaken answer) → takes_effect answer ≡ false
 not-taken (answered.Reply reply) never = absurd (never (inl (reply, refl)))
 not-taken (answered.Ticket n) never = absurd (never (inr (n, refl)))
-not-taken answered.NotYet never = refl
-not-taken answered.NoSpace never = refl
-not-taken (answered.Retry cause) never = refl
-not-taken answered.Moved never = refl
-not-taken answered.Lost never = refl
-not-taken answered.Down never = refl
-not-taken answered.Idle never = refl
-not-taken answered.Stranger never = refl
-not-taken answered.Done never = refl
-not-taken answered.AlreadyDead never = refl
-not-taken answered.Gone never = refl
-not-taken (answered.Stale call) never = refl
+not-taken answer never = refl
 
 pub replies-within : (turns : List Turn) → AllRight [] turns → RepliesWithin turns
 replies-within turns all = record {

@@ -54,10 +54,8 @@ judged_lacks sheet a steps logging lines done ends none =
     (sym none) (1, refl, some-steps steps ends)
 
 ends-behind : (step : Step) (steps : List Step) → step ≢ Placing → EndsPlacing (step ∷ steps) → EndsPlacing steps
-ends-behind (Make event) steps other ends = ends
-ends-behind Deliveries steps other ends = ends
-ends-behind (Look p run) steps other ends = ends
 ends-behind Placing steps other ends = absurd (other refl)
+ends-behind asked steps other ends = ends
 
 -- a line passed that isn't for the places
 module _ (is_log : Bool) (sheet : Sheet) (a : Account) (step : Step) (steps : List Step) (logging : Bool)
@@ -79,18 +77,14 @@ module _ (is_log : Bool) (sheet : Sheet) (a : Account) (step : Step) (steps : Li
 
   pub goes_ends : (p : Found) → Goes p → HasFoundBy is_log sheet a step steps logging line ahead now p
       → EndsPlacing (step ∷ steps) → EndsPlacing (turn_by p (step ∷ steps) steps)
-  goes_ends found.Entry goes is ends = ends
   goes_ends found.Answer goes is ends = ends-behind step steps is.0 ends
   goes_ends found.Over goes is ends = ends-behind step steps is.0 ends
-  goes_ends found.Places goes is ends = ends
-  goes_ends found.Fails goes is ends = ends
+  goes_ends l goes is ends = ends
 
   pub goes_fit : (s : Dimensions) (p : Found) → All (IsStepOf s) (step ∷ steps) → All (IsStepOf s) (turn_by p (step ∷ steps) steps)
-  goes_fit s found.Entry all = all
   goes_fit s found.Answer all = All-tail (IsStepOf s) step steps all
   goes_fit s found.Over all = All-tail (IsStepOf s) step steps all
-  goes_fit s found.Places all = all
-  goes_fit s found.Fails all = all
+  goes_fit s l all = all
 
   pub goes_within : (n : ℕ) (p : Found) → Goes p → HasFoundBy is_log sheet a step steps logging line ahead now p
       → IsShape sheet.script.shape → IsAccountWithin sheet.script.shape n a → IsAccountWithin sheet.script.shape (n + 1) now

@@ -41,17 +41,9 @@ module _ (s : Dimensions) (places : List Place) (a : Account) (e : Entry) where
   -- an act that isn't a deletion or a touch writes
   writes : (act : Act) → ((key : List ℕ) → act ≢ Delete key) → ((key : List ℕ) (expiry : _) → act ≢ Touch key expiry)
       → (value : List ℕ) (run : Option Run) → effect_of act value run ≡ Writes value run
-  writes (Get key) d t value run = refl
-  writes (Set key flags expiry bytes) d t value run = refl
-  writes (Add key flags expiry bytes) d t value run = refl
-  writes (Replace key flags expiry bytes) d t value run = refl
-  writes (Cas key flags expiry cas bytes) d t value run = refl
   writes (Delete key) d t value run = absurd (d key refl)
   writes (Touch key expiry) d t value run = absurd (t key expiry refl)
-  writes (Append key bytes) d t value run = refl
-  writes (Prepend key bytes) d t value run = refl
-  writes (Incr key by) d t value run = refl
-  writes (Decr key by) d t value run = refl
+  writes a d t value run = refl
 
   pub written_has : (d : ℕ) (change : Change) → ((key : List ℕ) → e.op.act ≢ Delete key)
       → ((key : List ℕ) (expiry : _) → e.op.act ≢ Touch key expiry) → IsValueWritten s places a (key_of e.op.act) d change

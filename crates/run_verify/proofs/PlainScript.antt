@@ -196,20 +196,9 @@ DoesFirst Ends = ⊥
 DoesFirst (Refused cause) = ⊤
 
 does-first : (r : Result Line LineFault) → DoesFirst (steps_by_meaning None r)
-does-first (Err cause) = tt
 does-first (Ok Skipped) = refl
 does-first (Ok (Group shape)) = refl
-does-first (Ok (Ask caller p act)) = tt
-does-first (Ok (Collect caller call p)) = tt
-does-first (Ok (Deliver from to)) = tt
-does-first (Ok (Fail p keep)) = tt
-does-first (Ok (Flush p)) = tt
-does-first (Ok (Trace caller call d p)) = tt
-does-first (Ok Drain) = tt
-does-first (Ok (Show p run)) = tt
-does-first (Ok Places) = tt
-does-first (Ok (Time moment)) = tt
-does-first (Ok Stop) = tt
+does-first l = tt
 
 places-first : steps_of_line None (codes "places") ≡ Refused BadLine
 places-first = refl

@@ -43,9 +43,7 @@ tells-of a (happens.Collect caller call at) r text ahead fits same is =
 tells-of a (happens.Trace caller call partition at) r text ahead fits same is =
     there-of (logged_reply a (record { caller = caller; call = call })) (record { caller = caller; call = call }) r text
     ahead fits same is
-tells-of a (happens.Deliver from to) r text ahead fits same is = absurd is
-tells-of a (happens.Fail at keep) r text ahead fits same is = absurd is
-tells-of a (happens.Flush at) r text ahead fits same is = absurd is
+tells-of a e r text ahead fits same is = absurd is
 
 -- a reply with this text that is right
 abbrev HasRight : Account → Event → List ℕ → List (List ℕ) → Type 0
@@ -67,9 +65,7 @@ has-right a (happens.Collect caller call at) r text ahead fits same is =
 has-right a (happens.Trace caller call partition at) r text ahead fits same is =
     right-there (logged_reply a (record { caller = caller; call = call })) (record { caller = caller; call = call }) r
     text ahead fits same is
-has-right a (happens.Deliver from to) r text ahead fits same is = absurd is
-has-right a (happens.Fail at keep) r text ahead fits same is = absurd is
-has-right a (happens.Flush at) r text ahead fits same is = absurd is
+has-right a e r text ahead fits same is = absurd is
 
 -- no answer that the event can have has the line
 pub none_said : (a : Account) (e : Event) (line : List ℕ) (ahead : List (List ℕ)) → IsSaid (kind_of_event e) line None
@@ -82,20 +78,9 @@ only_reply : (a : Account) (e : Event) (line text : List ℕ) (ahead : List (Lis
 only_reply a e line text ahead (answered.Reply r) l is =
     tells-of a e r text ahead is.fits (append_cancel_left (codes "reply ") (reply_words r) text (sym is.text ∙ l))
     is.right
-only_reply a e line text ahead (answered.Ticket n) l is = absurd (no_reply line text _ is.text l (λ same. omega (arith, same)))
 only_reply a e line text ahead (answered.Retry (Pending d n)) l is = absurd (no_reply line text _ is.text l (λ same. omega (arith, same)))
 only_reply a e line text ahead (answered.Retry (Block b)) l is = absurd (no_reply line text _ is.text l (λ same. omega (arith, same)))
-only_reply a e line text ahead (answered.Stale n) l is = absurd (no_reply line text _ is.text l (λ same. omega (arith, same)))
-only_reply a e line text ahead answered.NotYet l is = absurd (no_reply line text _ is.text l (λ same. omega (arith, same)))
-only_reply a e line text ahead answered.NoSpace l is = absurd (no_reply line text _ is.text l (λ same. omega (arith, same)))
-only_reply a e line text ahead answered.Moved l is = absurd (no_reply line text _ is.text l (λ same. omega (arith, same)))
-only_reply a e line text ahead answered.Lost l is = absurd (no_reply line text _ is.text l (λ same. omega (arith, same)))
-only_reply a e line text ahead answered.Down l is = absurd (no_reply line text _ is.text l (λ same. omega (arith, same)))
-only_reply a e line text ahead answered.Idle l is = absurd (no_reply line text _ is.text l (λ same. omega (arith, same)))
-only_reply a e line text ahead answered.Stranger l is = absurd (no_reply line text _ is.text l (λ same. omega (arith, same)))
-only_reply a e line text ahead answered.Done l is = absurd (no_reply line text _ is.text l (λ same. omega (arith, same)))
-only_reply a e line text ahead answered.AlreadyDead l is = absurd (no_reply line text _ is.text l (λ same. omega (arith, same)))
-only_reply a e line text ahead answered.Gone l is = absurd (no_reply line text _ is.text l (λ same. omega (arith, same)))
+only_reply a e line text ahead answer l is = absurd (no_reply line text _ is.text l (λ same. omega (arith, same)))
 
 -- a reply was said, with this text
 module _ (a : Account) (e : Event) (line : List ℕ) (ahead : List (List ℕ)) (text : Bor (List ℕ))
@@ -124,35 +109,12 @@ module _ (a : Account) (e : Event) (line : List ℕ) (ahead : List (List ℕ)) (
 -- a ticket, or another answer, was said
 right-else : (a : Account) (e : Event) (answer : Answer) (ahead : List (List ℕ)) → ((r : Reply) → answer ≢ answered.Reply r) → IsAnswerRight a e answer ahead
 right-else a e (answered.Reply r) ahead other = absurd (other r refl)
-right-else a e (answered.Ticket n) ahead other = tt
-right-else a e (answered.Retry cause) ahead other = tt
-right-else a e (answered.Stale n) ahead other = tt
-right-else a e answered.NotYet ahead other = tt
-right-else a e answered.NoSpace ahead other = tt
-right-else a e answered.Moved ahead other = tt
-right-else a e answered.Lost ahead other = tt
-right-else a e answered.Down ahead other = tt
-right-else a e answered.Idle ahead other = tt
-right-else a e answered.Stranger ahead other = tt
-right-else a e answered.Done ahead other = tt
-right-else a e answered.AlreadyDead ahead other = tt
-right-else a e answered.Gone ahead other = tt
+right-else a e answer ahead other = tt
 
 taken-else : (answer : Answer) → ¬ (IsTaken answer) → takes_effect answer ≡ false
 taken-else (answered.Reply r) other = absurd (other (inl (r, refl)))
 taken-else (answered.Ticket n) other = absurd (other (inr (n, refl)))
-taken-else (answered.Retry cause) other = refl
-taken-else (answered.Stale n) other = refl
-taken-else answered.NotYet other = refl
-taken-else answered.NoSpace other = refl
-taken-else answered.Moved other = refl
-taken-else answered.Lost other = refl
-taken-else answered.Down other = refl
-taken-else answered.Idle other = refl
-taken-else answered.Stranger other = refl
-taken-else answered.Done other = refl
-taken-else answered.AlreadyDead other = refl
-taken-else answered.Gone other = refl
+taken-else answer other = refl
 
 pub ticket_said : (a : Account) (e : Event) (line : List ℕ) (ahead : List (List ℕ))
     → IsSaid (kind_of_event e) line (Some said.Ticket) → IsAnswerJudged a e line ahead (after_event a e true)

@@ -99,15 +99,10 @@ module _ (n : ℕ) (before now : Option Setting) (kept keeps : List Step) (bytes
   kept-by (Goes to steps text) e (treated.Asks step) (Err fault) done (inr bad) =
       subst (λ (f : VerifyFault). HasReadScript (script_in n before (bytes ∷ lines)) (Err f)) (sym bad.0)
       (line-misplaced n before to steps text bytes lines e written bad.1)
-  kept-by (Goes to steps text) e treated.Ends result done is = absurd done
   kept-by Ends e treated.Ends (Ok false) done is = (done, is.1, line-ends n before bytes lines e)
   kept-by Ends e treated.Ends (Ok true) done is = absurd (cc (is.0))
   kept-by Ends e treated.Ends (Err fault) done is = absurd is
-  kept-by Ends e treated.Sets result done is = absurd done
-  kept-by Ends e (treated.Asks step) result done is = absurd done
-  kept-by (Refused cause) e treated.Ends result done is = absurd done
-  kept-by (Refused cause) e treated.Sets result done is = absurd done
-  kept-by (Refused cause) e (treated.Asks step) result done is = absurd done
+  kept-by other e another result done is = absurd done
 
   pub line-kept : (done : Treated) (result : Result Bool VerifyFault)
       → IsLineTreated before (steps_of_line before bytes) now (Ok done) → HasKept kept keeps done (stands_well bytes lines) n
@@ -128,10 +123,7 @@ line-told n before now bytes lines cause fault = by (steps_of_line before bytes)
   by (Refused c) e (line.BadShape field) is told =
       subst (λ (f : VerifyFault). HasReadScript (script_in n before (bytes ∷ lines)) (Err f)) (sym told)
       (n, line-refused n before bytes lines (line.BadShape field) (e ∙ ap Refused (sym is)))
-  by (Goes to steps text) e line.BadLine is told = absurd is
-  by (Goes to steps text) e (line.BadShape field) is told = absurd is
-  by Ends e line.BadLine is told = absurd is
-  by Ends e (line.BadShape field) is told = absurd is
+  by next e cause is told = absurd is
 
 -- a line that is skipped is taken
 pub line-skips : (n : ℕ) (before : Option Setting) (kept : List Step) (bytes : List ℕ) (lines : List (List ℕ))
@@ -178,19 +170,8 @@ LowIn n Ends = Unit {0}
 LowIn n (Refused cause) = Unit {0}
 
 first-low : (line : Line) (n : ℕ) → LowIn n (first_steps line)
-first-low Skipped n = tt
 first-low (Group shape) n = low_first n shape
-first-low (Ask caller at act) n = tt
-first-low (Collect caller call at) n = tt
-first-low (Deliver from to) n = tt
-first-low (Fail at keep) n = tt
-first-low (Flush at) n = tt
-first-low (Trace caller call partition at) n = tt
-first-low Drain n = tt
-first-low (Show at run) n = tt
-first-low Places n = tt
-first-low (Time moment) n = tt
-first-low Stop n = tt
+first-low l n = tt
 
 pub begun-low : (line : Line) (setting : Option Setting) (n : ℕ) → first_steps line ≡ Goes setting [] [] → IsAtLine n setting
 begun-low line setting n is = subst (LowIn n) is (first-low line n)
@@ -205,10 +186,6 @@ pub steps-kept : (before now : Option Setting) (kept keeps : List Step) (done : 
     → AreStepsOf before kept → AreStepsOf now keeps
 steps-kept None now kept keeps treated.Sets well n goes is of are = no-steps now keeps (is.2 ∙ are)
 steps-kept None now kept keeps treated.Ends well n goes is of are = no-steps now keeps (is.1 ∙ are)
-steps-kept None now kept keeps (treated.Asks step) well n goes is of are = absurd of
-steps-kept (Some before) None kept keeps treated.Sets well n goes is of are = absurd of
-steps-kept (Some before) None kept keeps treated.Ends well n goes is of are = absurd of
-steps-kept (Some before) None kept keeps (treated.Asks step) well n goes is of are = absurd of
 steps-kept (Some before) (Some now) kept keeps treated.Sets well n goes is of are =
     subst (All (IsStepOf now.shape)) (sym is.2) (subst (λ (s : Dimensions). All (IsStepOf s) kept) (sym of) are)
 steps-kept (Some before) (Some now) kept keeps treated.Ends well n goes is of are =
@@ -217,3 +194,4 @@ steps-kept (Some before) (Some now) kept keeps (treated.Asks step) well n goes i
     let one : All (IsStepOf before.shape) (step ∷ []) = All-cons (IsStepOf before.shape) step [] of.1 (All-nil (IsStepOf before.shape)) in
     subst (All (IsStepOf now.shape)) (sym is.2) (subst (λ (s : Dimensions). All (IsStepOf s) (kept ++ step ∷ []))
     (sym of.0) (All-append (IsStepOf before.shape) kept (step ∷ []) are one))
+steps-kept o now kept keeps other well n goes is of are = absurd of

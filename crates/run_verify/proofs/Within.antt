@@ -147,11 +147,7 @@ module _ (sheet : Sheet) (shape : IsShape sheet.script.shape) (n : ℕ) (a : Acc
 
   within-event : (event : Event) (taken : Bool) → IsAccountWithin sheet.script.shape (n + 1) (after_event a event taken)
   within-event (happens.Ask caller op p) taken = within-like (after_event a (happens.Ask caller op p) taken) refl refl refl refl (omega arith)
-  within-event (happens.Collect caller call p) taken = within-like a refl refl refl refl (omega arith)
-  within-event (happens.Deliver from to) taken = within-like a refl refl refl refl (omega arith)
-  within-event (happens.Fail p keep) taken = within-like a refl refl refl refl (omega arith)
-  within-event (happens.Flush p) taken = within-like a refl refl refl refl (omega arith)
-  within-event (happens.Trace caller call p q) taken = within-like a refl refl refl refl (omega arith)
+  within-event event taken = within-like a refl refl refl refl (omega arith)
 
   within-state : (b : Account) (next : JudgingState) → IsAccountWithin sheet.script.shape (n + 1) b → next.account ≡ b
       → IsAccountWithin sheet.script.shape (n + 1) next.account

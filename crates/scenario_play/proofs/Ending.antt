@@ -16,8 +16,7 @@ use Rattle.scenario_play.specs.Player.{HasPlayed}
 use Rattle.scenario_play.specs.Status.{HasFaultOf, IsEarly, IsStatusTold, IsUnread, TellsOfLine, TellsOfScript, last_line, longest_script}
 use Rattle.scenario_play.specs.declared.status.Status.{Status}
 use Rattle.scenario_play.specs.declared.status.Status.TheVariants.{Done, BadWords, BadLine, BadShape, BadCount, TooLong}
-use Rattle.scenario_play.specs.declared.status.Status.TheVariants.{ReadFault, WriteFault, Want, Cut, LineTooLong, Worn}
-use Rattle.scenario_play.specs.declared.status.Status.TheVariants.{BadFrame, Refused, BadConfig, AcceptFault}
+use Rattle.scenario_play.specs.declared.status.Status.TheVariants.{ReadFault, WriteFault, Want}
 
 short : (n : ℕ) → n ≤ longest_script → nat_lt longest_script n ≡ false
 short n within = grind (arith, nat_tests)
@@ -68,17 +67,7 @@ module _ (l : Language) (a b : Outside) (text : List ℕ) (within : length text 
   fault (BadCount c) played = (played.0, told-short l text within ∙ played.1, met, played.2)
   fault WriteFault played = (played.0, within, met, played.1)
   fault Want played = inr (met, played)
-  fault Done played = absurd played.0
-  fault BadWords played = absurd played.0
-  fault Cut played = absurd played.0
-  fault LineTooLong played = absurd played.0
-  fault Worn played = absurd played.0
-  fault (BadFrame n) played = absurd played.0
-  fault (Refused n) played = absurd played.0
-  fault (BadConfig key) played = absurd played.0
-  fault AcceptFault played = absurd played.0
-  fault TooLong played = absurd played.0
-  fault ReadFault played = absurd played.0
+  fault status played = absurd played.0
 
   pub treated-fault : (status : Status) → Played (Err status) → HasTreatedScript l a b (Err status)
   treated-fault status played = treated (Err status) (fault status played)
@@ -101,19 +90,7 @@ module _ (l : Language) (a b : Outside) (same : b.held ≡ a.held) where
     ends = (same, read.0, read.1.few);
   }
   treated-unread Want read = record { script = read.bytes; taken = read.taken; few = read.few; ends = inl same }
-  treated-unread Done read = absurd read
-  treated-unread BadWords read = absurd read
-  treated-unread Cut read = absurd read
-  treated-unread LineTooLong read = absurd read
-  treated-unread Worn read = absurd read
-  treated-unread (BadFrame n) read = absurd read
-  treated-unread (Refused n) read = absurd read
-  treated-unread (BadConfig key) read = absurd read
-  treated-unread AcceptFault read = absurd read
-  treated-unread (BadLine n) read = absurd read
-  treated-unread (BadShape f) read = absurd read
-  treated-unread (BadCount c) read = absurd read
-  treated-unread WriteFault read = absurd read
+  treated-unread status read = absurd read
 
 -- who counted a fault
 pub read-fault : (input now : Input) (read_before read_now writes : ℕ) (status : Status)
@@ -121,19 +98,7 @@ pub read-fault : (input now : Input) (read_before read_now writes : ℕ) (status
 read-fault input now read_before read_now writes ReadFault read = read.0
 read-fault input now read_before read_now writes WriteFault read = absurd read
 read-fault input now read_before read_now writes BadWords read = absurd read
-read-fault input now read_before read_now writes Done read = tt
-read-fault input now read_before read_now writes (BadLine n) read = tt
-read-fault input now read_before read_now writes (BadShape f) read = tt
-read-fault input now read_before read_now writes (BadCount c) read = tt
-read-fault input now read_before read_now writes TooLong read = tt
-read-fault input now read_before read_now writes Want read = tt
-read-fault input now read_before read_now writes Cut read = tt
-read-fault input now read_before read_now writes LineTooLong read = tt
-read-fault input now read_before read_now writes Worn read = tt
-read-fault input now read_before read_now writes (BadFrame n) read = tt
-read-fault input now read_before read_now writes (Refused n) read = tt
-read-fault input now read_before read_now writes (BadConfig key) read = tt
-read-fault input now read_before read_now writes AcceptFault read = tt
+read-fault input now read_before read_now writes status read = tt
 
 pub play-fault : (held held_now : List ℕ) (read_before read_now written_before written_now : ℕ)
     (transcript : List ℕ → List ℕ) (text : List ℕ) (verdict status : Status)
@@ -142,19 +107,7 @@ pub play-fault : (held held_now : List ℕ) (read_before read_now written_before
 play-fault held held_now read_before read_now written_before written_now transcript text verdict WriteFault played = played.0
 play-fault held held_now read_before read_now written_before written_now transcript text verdict ReadFault played = absurd played.0
 play-fault held held_now read_before read_now written_before written_now transcript text verdict BadWords played = absurd played.0
-play-fault held held_now read_before read_now written_before written_now transcript text verdict Done played = tt
-play-fault held held_now read_before read_now written_before written_now transcript text verdict (BadLine n) played = tt
-play-fault held held_now read_before read_now written_before written_now transcript text verdict (BadShape f) played = tt
-play-fault held held_now read_before read_now written_before written_now transcript text verdict (BadCount c) played = tt
-play-fault held held_now read_before read_now written_before written_now transcript text verdict TooLong played = tt
-play-fault held held_now read_before read_now written_before written_now transcript text verdict Want played = tt
-play-fault held held_now read_before read_now written_before written_now transcript text verdict Cut played = tt
-play-fault held held_now read_before read_now written_before written_now transcript text verdict LineTooLong played = tt
-play-fault held held_now read_before read_now written_before written_now transcript text verdict Worn played = tt
-play-fault held held_now read_before read_now written_before written_now transcript text verdict (BadFrame n) played = tt
-play-fault held held_now read_before read_now written_before written_now transcript text verdict (Refused n) played = tt
-play-fault held held_now read_before read_now written_before written_now transcript text verdict (BadConfig key) played = tt
-play-fault held held_now read_before read_now written_before written_now transcript text verdict AcceptFault played = tt
+play-fault held held_now read_before read_now written_before written_now transcript text verdict status played = tt
 
 -- a status that was told is the one at the end, unless there was no memory
 pub came_from : (s status other : Status) → (status ≡ s) ⊎ (status ≡ Want) → status ≡ other → (other ≡ Want → ⊥) → s ≡ other
@@ -222,15 +175,7 @@ module _ (l : Language) (script : List ℕ) (a b c : Outside) (kept : c.input �
   is-told Want end = inr (inl refl)
   is-told ReadFault end = let rose : Rose a.reads b.reads = end.1 in inr (inr (inl (refl, omega (arith, rose, reads))))
   is-told WriteFault end = let rose : Rose a.writes b.writes = end.0 in inr (inr (inr (refl, omega (arith, rose, more))))
-  is-told Done end = absurd end.0
-  is-told BadWords end = absurd end.0
-  is-told Cut end = absurd end.0
-  is-told LineTooLong end = absurd end.0
-  is-told Worn end = absurd end.0
-  is-told (BadFrame n) end = absurd end.0
-  is-told (Refused n) end = absurd end.0
-  is-told (BadConfig key) end = absurd end.0
-  is-told AcceptFault end = absurd end.0
+  is-told s end = absurd end.0
 
   -- one byte more than a script may have was taken
   is-long : (s : Status) → HasPlayedScript l script a b (Err s) → length script ≡ 16777217 → (s ≡ TooLong) ⊎ (s ≡ Want)
@@ -241,15 +186,7 @@ module _ (l : Language) (script : List ℕ) (a b c : Outside) (kept : c.input �
   is-long (BadCount n) end all = absurd (cc (sym end.1 ∙ long-told l script all))
   is-long ReadFault end all = let short = end.2 in absurd (omega (arith, short, all))
   is-long WriteFault end all = let short = end.1 in absurd (omega (arith, short, all))
-  is-long Done end all = absurd end.0
-  is-long BadWords end all = absurd end.0
-  is-long Cut end all = absurd end.0
-  is-long LineTooLong end all = absurd end.0
-  is-long Worn end all = absurd end.0
-  is-long (BadFrame n) end all = absurd end.0
-  is-long (Refused n) end all = absurd end.0
-  is-long (BadConfig key) end all = absurd end.0
-  is-long AcceptFault end all = absurd end.0
+  is-long s end all = absurd end.0
 
   -- what stands in the sink: behind the transcript of a script that was read to its end, or of no line
   abbrev Stops : Status → Type 0
@@ -270,15 +207,7 @@ module _ (l : Language) (script : List ℕ) (a b c : Outside) (kept : c.input �
   stops Want status early (inr wrote) front = within-all status wrote.0 (in-part l.transcript script a.held b.held wrote.1) front
   stops TooLong status early end front = alone-told status (early tt) end.0 front
   stops ReadFault status early end front = alone-told status (early tt) end.0 front
-  stops Done status early end front = absurd end.0
-  stops BadWords status early end front = absurd end.0
-  stops Cut status early end front = absurd end.0
-  stops LineTooLong status early end front = absurd end.0
-  stops Worn status early end front = absurd end.0
-  stops (BadFrame n) status early end front = absurd end.0
-  stops (Refused n) status early end front = absurd end.0
-  stops (BadConfig key) status early end front = absurd end.0
-  stops AcceptFault status early end front = absurd end.0
+  stops s status early end front = absurd end.0
 
   abbrev Tells : Status → Type 0
   Tells s = EndsWith b.held c.held b.writes c.writes [] (last_line s)
@@ -290,19 +219,7 @@ module _ (l : Language) (script : List ℕ) (a b c : Outside) (kept : c.input �
       (last_line (BadShape f)) end.3 later tells
   refused (BadCount n) end refusal tells = behind a.held b.held c.held a.writes b.writes c.writes (l.transcript script)
       (last_line (BadCount n)) end.3 later tells
-  refused Done end refusal tells = absurd refusal
-  refused BadWords end refusal tells = absurd refusal
-  refused Cut end refusal tells = absurd refusal
-  refused LineTooLong end refusal tells = absurd refusal
-  refused Worn end refusal tells = absurd refusal
-  refused (BadFrame n) end refusal tells = absurd refusal
-  refused (Refused n) end refusal tells = absurd refusal
-  refused (BadConfig key) end refusal tells = absurd refusal
-  refused AcceptFault end refusal tells = absurd refusal
-  refused TooLong end refusal tells = absurd refusal
-  refused ReadFault end refusal tells = absurd refusal
-  refused WriteFault end refusal tells = absurd refusal
-  refused Want end refusal tells = absurd refusal
+  refused status end refusal tells = absurd refusal
 
   alone : (s : Status) → b.held ≡ a.held → Tells s → EndsWith a.held c.held a.writes c.writes [] (last_line s)
   alone s same tells = behind a.held b.held c.held a.writes b.writes c.writes [] (last_line s)
@@ -311,20 +228,7 @@ module _ (l : Language) (script : List ℕ) (a b c : Outside) (kept : c.input �
   unread-told : (s : Status) → HasPlayedScript l script a b (Err s) → IsUnread s → Tells s → EndsWith a.held c.held a.writes c.writes [] (last_line s)
   unread-told TooLong end unread tells = alone TooLong end.0 tells
   unread-told ReadFault end unread tells = alone ReadFault end.0 tells
-  unread-told Done end unread tells = absurd unread
-  unread-told BadWords end unread tells = absurd unread
-  unread-told (BadLine n) end unread tells = absurd unread
-  unread-told (BadShape f) end unread tells = absurd unread
-  unread-told (BadCount n) end unread tells = absurd unread
-  unread-told WriteFault end unread tells = absurd unread
-  unread-told Want end unread tells = absurd unread
-  unread-told Cut end unread tells = absurd unread
-  unread-told LineTooLong end unread tells = absurd unread
-  unread-told Worn end unread tells = absurd unread
-  unread-told (BadFrame n) end unread tells = absurd unread
-  unread-told (Refused n) end unread tells = absurd unread
-  unread-told (BadConfig key) end unread tells = absurd unread
-  unread-told AcceptFault end unread tells = absurd unread
+  unread-told status end unread tells = absurd unread
 
   not-done : (s : Status) → HasPlayedScript l script a b (Err s) → s ≡ Done → ⊥
   not-done s end is = (subst (λ (x : Status). HasPlayedScript l script a b (Err x)) is end).0
@@ -343,15 +247,7 @@ module _ (l : Language) (script : List ℕ) (a b c : Outside) (kept : c.input �
   within WriteFault end silent done = absurd (cc (silent refl))
   within Want (inl same) silent done = inl same
   within Want (inr wrote) silent done = inr wrote.1
-  within Done end silent done = absurd end.0
-  within BadWords end silent done = absurd end.0
-  within Cut end silent done = absurd end.0
-  within LineTooLong end silent done = absurd end.0
-  within Worn end silent done = absurd end.0
-  within (BadFrame n) end silent done = absurd end.0
-  within (Refused n) end silent done = absurd end.0
-  within (BadConfig key) end silent done = absurd end.0
-  within AcceptFault end silent done = absurd end.0
+  within s end silent done = absurd end.0
 
   -- the status was told as it is
   same-told : (s : Status) → Takes a.input b.input script → length script ≤ 16777217

@@ -6,19 +6,17 @@ use Rattle.std.specs.Io.KnownBytes.{Consumes}
 use Rattle.edge_io.specs.Moving.{Appends, IsEnded}
 use Rattle.edge_io.proofs.Moving.{Takes-all}
 use Rattle.scenario_run.specs.Course.{Fault}
-use Rattle.scenario_run.specs.Script.{first_fault}
-use Rattle.scenario_text.specs.declared.line.LineFault.{LineFault}
-use Rattle.scenario_text.specs.declared.line.LineFault.TheVariants as line
-use Rattle.scenario_play.specs.Language.{Language, group_scripts, status_told}
+use Rattle.scenario_play.specs.Language.{Language, status_told}
 use Rattle.scenario_play.specs.Outside.{EndsWith, Outside, StopsWithin, TellsFront}
 use Rattle.scenario_play.specs.Played.{IsPlayed}
-use Rattle.scenario_play.specs.Status.{IsEarly, IsStatusTold, TellsOfLine, last_line, longest_script, status_of_lines, told_at}
+use Rattle.scenario_play.specs.Script.{TellsCauses, Scripts}
+use Rattle.scenario_play.specs.Status.{IsEarly, IsStatusTold, TellsOfLine, last_line, longest_script, status_of_lines}
 use Rattle.scenario_play.specs.Whole.{PlaysAll, PlaysAllAlways}
 use Rattle.scenario_play.specs.declared.status.Status.{Status}
-use Rattle.scenario_play.specs.declared.status.Status.TheVariants.{Done, BadWords, BadLine, BadShape, BadCount, TooLong}
-use Rattle.scenario_play.specs.declared.status.Status.TheVariants.{ReadFault, WriteFault, Want, Cut, LineTooLong, Worn}
-use Rattle.scenario_play.specs.declared.status.Status.TheVariants.{BadFrame, Refused, BadConfig, AcceptFault}
+use Rattle.scenario_play.specs.declared.status.Status.TheVariants.{BadLine, BadShape, BadCount, TooLong}
+use Rattle.scenario_play.specs.declared.status.Status.TheVariants.{ReadFault, Want}
 use Rattle.scenario_play.proofs.Ending.{nothing-written, told-long}
+use Rattle.scenario_play.proofs.Treating.{no-read-fault}
 
 -- no line of a language's scripts is told by a fault of its source
 abbrev pub NeverReadFault : Language → Type 0
@@ -35,19 +33,7 @@ not-both : (s : Status) → TellsOfLine s → IsEarly s → ⊥
 not-both (BadLine n) refusal early = early
 not-both (BadShape f) refusal early = early
 not-both (BadCount c) refusal early = early
-not-both Done refusal early = refusal
-not-both BadWords refusal early = refusal
-not-both TooLong refusal early = refusal
-not-both ReadFault refusal early = refusal
-not-both WriteFault refusal early = refusal
-not-both Want refusal early = refusal
-not-both Cut refusal early = refusal
-not-both LineTooLong refusal early = refusal
-not-both Worn refusal early = refusal
-not-both (BadFrame n) refusal early = refusal
-not-both (Refused n) refusal early = refusal
-not-both (BadConfig key) refusal early = refusal
-not-both AcceptFault refusal early = refusal
+not-both status refusal early = refusal
 
 module _ (l : Language) (never : NeverReadFault l) (before now : Outside) (status : Status)
     (played : IsPlayed l before now status) (all rest : List ℕ) (left : now.input.left ≡ Some rest)
@@ -74,19 +60,7 @@ module _ (l : Language) (never : NeverReadFault l) (before now : Outside) (statu
     by (inr (inl want)) = absurd (cc want)
     by (inr (inr (inl read))) = inr (inr (inl read))
     by (inr (inr (inr wrote))) = absurd (cc wrote.0)
-  told-early Done is early = absurd early
-  told-early BadWords is early = absurd early
-  told-early (BadLine n) is early = absurd early
-  told-early (BadShape f) is early = absurd early
-  told-early (BadCount c) is early = absurd early
-  told-early WriteFault is early = absurd early
-  told-early Cut is early = absurd early
-  told-early LineTooLong is early = absurd early
-  told-early Worn is early = absurd early
-  told-early (BadFrame n) is early = absurd early
-  told-early (Refused n) is early = absurd early
-  told-early (BadConfig key) is early = absurd early
-  told-early AcceptFault is early = absurd early
+  told-early s is early = absurd early
 
   told-all : (IsEnded now.input × StopsWithin before.held now.held (l.transcript played.script) status)
       ⊎ (IsEarly status × TellsFront before.held now.held status) → Told all status
@@ -127,12 +101,7 @@ plays-all l never before now status played = by before.input.left now.input.left
       by (Some all) None is consumed whole = absurd consumed
       by (Some all) (Some rest) is consumed whole = of-all l never before now status played all rest is consumed whole
 
-pub group-never : NeverReadFault group_scripts
-group-never text is = by (first_fault text) is where
-  by : (fault : Option (Fault LineFault)) → ¬ (status_of_lines told_at fault ≡ ReadFault)
-  by None is = cc is
-  by (Some fault) is = never fault.number fault.cause is where
-    never : (n : ℕ) (cause : LineFault) → ¬ (told_at n cause ≡ ReadFault)
-    never n line.BadLine is = cc is
-    never n (line.BadShape field) is = cc is
-    never n line.Want is = cc is
+-- of a script that can be played all is told
+pub script-never : {S T F : Type 0} (script : Scripts S T F) (l : Language) (faults : List ℕ → Option (Fault F))
+    → TellsCauses script → ((text : List ℕ) → l.verdict text ≡ status_of_lines script.told (faults text)) → NeverReadFault l
+script-never script l faults law is text told = no-read-fault script law (faults text) (sym (is text) ∙ told)

@@ -8,13 +8,12 @@ use Rattle.edge_io.specs.Faults.{Rose}
 use Rattle.edge_io.specs.Moving.{Appends}
 use Rattle.edge_io.specs.Writing.{HasWritten, HasWrittenPart}
 use Rattle.scenario_run.specs.Lines.{lines_of}
-use Rattle.scenario_play.specs.Part.{IsPlayedInPart, IsUntreated}
+use Rattle.scenario_play.specs.Part.{IsUntreated}
 use Rattle.scenario_play.specs.Player.{EndsAt, HasMetEnd, HasPlayed, Telling}
 use Rattle.scenario_play.specs.Status.{TellsOfLine}
 use Rattle.scenario_play.specs.declared.status.Status.{Status}
-use Rattle.scenario_play.specs.declared.status.Status.TheVariants.{Done, BadWords, BadLine, BadShape, BadCount, TooLong}
-use Rattle.scenario_play.specs.declared.status.Status.TheVariants.{ReadFault, WriteFault, Want, Cut, LineTooLong, Worn}
-use Rattle.scenario_play.specs.declared.status.Status.TheVariants.{BadFrame, Refused, BadConfig, AcceptFault}
+use Rattle.scenario_play.specs.declared.status.Status.TheVariants.{Done, BadLine, BadShape, BadCount}
+use Rattle.scenario_play.specs.declared.status.Status.TheVariants.{WriteFault, Want}
 
 -- some of a text was written, and this is the rest
 pub record Written (before now : List ℕ) (rest all : List ℕ) : Type 0 where
@@ -115,19 +114,7 @@ module _ (held held_now : List ℕ) (writes writes_now : ℕ) (transcript : List
   refused (BadLine n) refusal is bytes = (tt, is, bytes)
   refused (BadShape f) refusal is bytes = (tt, is, bytes)
   refused (BadCount n) refusal is bytes = (tt, is, bytes)
-  refused Done refusal is bytes = absurd refusal
-  refused BadWords refusal is bytes = absurd refusal
-  refused TooLong refusal is bytes = absurd refusal
-  refused ReadFault refusal is bytes = absurd refusal
-  refused WriteFault refusal is bytes = absurd refusal
-  refused Want refusal is bytes = absurd refusal
-  refused Cut refusal is bytes = absurd refusal
-  refused LineTooLong refusal is bytes = absurd refusal
-  refused Worn refusal is bytes = absurd refusal
-  refused (BadFrame n) refusal is bytes = absurd refusal
-  refused (Refused n) refusal is bytes = absurd refusal
-  refused (BadConfig key) refusal is bytes = absurd refusal
-  refused AcceptFault refusal is bytes = absurd refusal
+  refused status refusal is bytes = absurd refusal
 
   -- the last line was treated
   pub ended-at : {P : Type 0} (tells : Telling P) (n : ℕ) (before : P) (line : List ℕ) (lines : List (List ℕ)) → EndsAt tells n before line Done

@@ -1,8 +1,10 @@
 -- Languages of scripts.
-use Rattle.std.specs.Prelude.{ℕ, ◌≡◌, List}
+use Rattle.std.specs.Prelude.{ℕ, ◌≡◌, List, None}
 use Rattle.scenario_run.specs.Lines.{lines_of}
 use Rattle.scenario_run.specs.Promises.{KeepsPromises}
 use Rattle.scenario_run.specs.Script.{transcript}
+use Rattle.scenario_play.specs.Player.{telling}
+use Rattle.scenario_play.specs.Script.{Scripts}
 use Rattle.scenario_play.specs.Status.{told_by, verdict}
 use Rattle.scenario_play.specs.declared.status.Status.{Status}
 use Rattle.scenario_play.specs.declared.status.Status.TheVariants.{Done}
@@ -21,11 +23,11 @@ status_told l text = told_by l.verdict text
 abbrev pub group_scripts : Language
 group_scripts = record { transcript = transcript; verdict = verdict; Promise = KeepsPromises }
 
--- what a player's language is, by its lines: of a script that is played to its end, that no line was refused
-abbrev pub language_of : (List (List ℕ) → List ℕ) → (List (List ℕ) → Status) → Language
-language_of text verdict =
+-- what the language of a kind of scripts is: of a script that is played to its end, that no line was refused
+abbrev pub language_of : {S T F : Type 0} → Scripts S T F → Language
+language_of script =
     record {
-      transcript = λ script. text (lines_of script);
-      verdict = λ script. verdict (lines_of script);
-      Promise = λ script. verdict (lines_of script) ≡ Done;
+      transcript = λ text. (telling script).text None (lines_of text);
+      verdict = λ text. (telling script).verdict 1 None (lines_of text);
+      Promise = λ text. (telling script).verdict 1 None (lines_of text) ≡ Done;
     }

@@ -1,9 +1,11 @@
 pub mod Ends
+pub mod Group
 pub mod Language
 pub mod Outside
 pub mod Part
 pub mod Played
 pub mod Player
+pub mod Script
 pub mod Status
 pub mod Trial
 pub mod Whole

@@ -1,10 +1,12 @@
--- What a player tells of the lines of a script that come next, and what treating them comes to.
+-- What is told of the lines of a script that come next, and what treating them comes to.
 use Rattle.std.specs.Prelude.{ℕ, ◌≡◌, ◌+◌, ◌⊎◌, List, [], ◌∷◌, ◌++◌, Option, Some, None, Result, Ok, Err, Vec}
 use Rattle.edge_io.specs.Faults.{Rose}
 use Rattle.edge_io.specs.Moving.{Appends}
 use Rattle.edge_io.specs.Writing.{HasWritten}
+use Rattle.scenario_run.specs.Course.{fault_in, text_in, turns_of_lines}
 use Rattle.scenario_play.specs.Part.{IsPlayedInPart}
-use Rattle.scenario_play.specs.Status.{TellsOfLine}
+use Rattle.scenario_play.specs.Script.{Scripts}
+use Rattle.scenario_play.specs.Status.{TellsOfLine, status_of_lines}
 use Rattle.scenario_play.specs.declared.status.Status.{Status}
 use Rattle.scenario_play.specs.declared.status.Status.TheVariants.{Done, WriteFault, Want}
 
@@ -16,8 +18,15 @@ pub record Telling (P : Type 0) : Type 1 where
   pub entries : P → List (List ℕ) → ℕ
   pub Ready : ℕ → P → Type 0
 
-abbrev pub telling : {P : Type 0} → (P → List (List ℕ) → List ℕ) → (ℕ → P → List (List ℕ) → Status) → (P → List (List ℕ) → ℕ) → (ℕ → P → Type 0) → Telling P
-telling text verdict entries ready = record { text = text; verdict = verdict; entries = entries; Ready = ready }
+-- what is told of the lines of a script
+abbrev pub telling : {S T F : Type 0} → Scripts S T F → Telling (Option S)
+telling script =
+    record {
+      text = λ state lines. text_in script.rules state lines;
+      verdict = λ n state lines. status_of_lines script.told (fault_in script.rules script.lacking n state lines);
+      entries = λ state lines. script.logged state (turns_of_lines script.rules state lines);
+      Ready = script.Ready;
+    }
 
 -- the script goes on behind a line, for which this was written
 pub record ScriptGoesOn {P : Type 0} (tells : Telling P) (n : ℕ) (before now : P) (line written : List ℕ) : Type 0 where

@@ -1,4 +1,5 @@
-ghost use Rattle.std.specs.Prelude.{◌≡◌, ◌-◌, ◌≤◌, ◌++◌, drop, length, OnOk};
+ghost use Rattle.std.specs.Prelude.{◌≡◌, ◌-◌, ◌≤◌, ◌++◌, codes, drop, length, OnOk};
+ghost use Rattle.std.specs.Fmt.{decimal};
 ghost use Rattle.scenario_run.specs.Marks.{marked, marked_entries};
 
 use group_calls::Entry;
@@ -46,4 +47,11 @@ fn write_marked(
     let line = write_entry(alloc, entry)?;
     text.extend_from_slice(mark)?;
     text.extend_from_slice(&line[2..])
+}
+
+/// Writes how many messages were delivered, on a line.
+pub fn write_count(alloc: Global, count: u64, text: &mut Vec<u8>) -> Result<(), AllocError>
+    ensures { OnOk result (text.new.items ≡ text.old.items ++ (codes "drained " ++ (decimal count ++ codes "\n"))) }
+{
+    text.extend_from_slice(format!(in alloc; "drained {count}\n")?.as_bytes())
 }

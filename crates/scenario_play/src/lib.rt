@@ -6,21 +6,22 @@
 
 mod deliveries;
 pub mod entries;
-mod group_player;
+pub mod group_subject;
 pub mod laws;
 pub mod make;
-mod making;
+pub mod making;
 mod next;
 mod page;
 mod placing;
 pub mod play;
-pub mod player;
 mod playing;
 mod read_script;
 pub mod showing;
 pub mod status;
+pub mod subject;
 pub mod tell;
 pub mod trial;
+pub mod words;
 
-pub use player::Player;
 pub use status::{Count, Status};
+pub use subject::Subject;

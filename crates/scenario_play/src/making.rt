@@ -22,7 +22,7 @@ pub(crate) fn make_event(world: &mut World, event: Event) -> Result<Out, AllocEr
 }
 
 /// The answer of an event on a line.
-pub(crate) fn answer_line(alloc: Global, out: Out) -> Result<Vec<u8>, AllocError>
+pub fn answer_line(alloc: Global, out: Out) -> Result<Vec<u8>, AllocError>
     ensures { IfOk result (λ line. line.items ≡ answer_text out.answer ++ 10 ∷ []) }
 {
     let line = write_line(alloc, &out.answer);

@@ -1,8 +1,9 @@
 ghost use Rattle.std.specs.Prelude.{◌≡◌, ◌^◌, ◌<◌, ◌≤◌, [], IfSome, IfOk};
 ghost use Rattle.scenario_text.specs.Meaning.{IsLineOf};
 ghost use Rattle.scenario_run.specs.Playing.{first_by, next_of, then_by};
-ghost use Rattle.scenario_play.specs.Ends.{HasBegun, HasDone, IsLightPlay};
+ghost use Rattle.scenario_play.specs.Group.{IsLightPlay};
 ghost use Rattle.scenario_play.specs.Player.{bytes_in_text};
+ghost use Rattle.scenario_play.specs.Script.{HasBegun, HasDone};
 
 use crate::playing::Play;
 use group_calls::Event;
@@ -17,7 +18,7 @@ pub(crate) fn treat(
     line: &[u8],
 ) -> Result<Option<Vec<u8>>, LineFault>
     requires { IfSome play.old (IsLightPlay (2 ^ 61)) }
-    ensures { HasDone play.old (next_of play.old line.now) play.new (bytes_in_text result) }
+    ensures { HasDone LineFault.Want play.old (next_of play.old line.now) play.new (bytes_in_text result) }
 {
     match play {
         None => {
@@ -34,7 +35,7 @@ pub(crate) fn treat(
 /// The group after a line before which it was not named.
 fn begin(alloc: Global, line: Line) -> Result<Option<Play>, LineFault>
     requires { IsLineOf None line }
-    ensures { HasBegun (first_by line) result }
+    ensures { HasBegun LineFault.Want (first_by line) result }
 {
     match line {
         Line::Skipped => Ok(None),
@@ -47,7 +48,7 @@ fn begin(alloc: Global, line: Line) -> Result<Option<Play>, LineFault>
 fn follow(alloc: Global, play: &mut Play, line: Line) -> Result<Option<Vec<u8>>, LineFault>
     requires line { IsLineOf (Some play.old.world.shape) line }
     requires light { IsLightPlay (2 ^ 61) play.old }
-    ensures { HasDone (Some play.old) (then_by play.old line) (Some play.new) (bytes_in_text result) }
+    ensures { HasDone LineFault.Want (Some play.old) (then_by play.old line) (Some play.new) (bytes_in_text result) }
 {
     let text = match line {
         Line::Skipped => Vec::new(alloc),

@@ -1,4 +1,4 @@
-ghost use Rattle.std.specs.Prelude.{◌≡◌, ◌≢◌, ◌⊎◌, ◌≤◌, [], length, IfErr, OnErr, OnOk};
+ghost use Rattle.std.specs.Prelude.{◌≡◌, ◌≢◌, ◌⊎◌, ◌≤◌, [], length, None, IfErr, OnErr, OnOk};
 ghost use Rattle.edge_io.specs.Moving.{Appends};
 ghost use Rattle.edge_io.specs.Faults.{Rose};
 ghost use Rattle.edge_io.specs.Writing.{HasWritten, HasWrittenPart};
@@ -7,13 +7,13 @@ ghost use Rattle.scenario_play.specs.Ends.{HasTreatedScript};
 ghost use Rattle.scenario_play.specs.Language.{group_scripts, language_of};
 ghost use Rattle.scenario_play.specs.Outside.{outside};
 ghost use Rattle.scenario_play.specs.Played.{IsPlayed};
-ghost use Rattle.scenario_play.specs.Player.{HasPlayed};
+ghost use Rattle.scenario_play.specs.Player.{HasPlayed, telling};
 ghost use Rattle.scenario_play.specs.Status.{HasFaultOf};
 
-use crate::group_player::GroupPlayer;
-use crate::player::Player;
+use crate::playing::Play;
 use crate::read_script::{LONGEST_SCRIPT, read_script};
 use crate::status::Status;
+use crate::subject::{Subject, end_lines, treat_line};
 use crate::tell::tell;
 use edge_io::{Sink, SinkFault, Source, write_all};
 use scenario_run::cut_line;
@@ -28,38 +28,36 @@ pub fn play<S: Source, K: Sink>(alloc: Global, source: &mut S, sink: &mut K) -> 
     ensures read { result ≡ Status.ReadFault → Rose (S.faults source.old) (S.faults source.new) }
     ensures write { result ≡ Status.WriteFault → Rose (K.faults sink.old) (K.faults sink.new) }
 {
-    play_on(alloc, &mut GroupPlayer::new(), source, sink)
+    play_on::<Play, S, K>(alloc, source, sink)
 }
 
-/// The same of a player's language.
-pub fn play_on<P: Player, S: Source, K: Sink>(
+/// The same of scripts of any kind.
+pub fn play_on<P: Subject, S: Source, K: Sink>(
     alloc: Global,
-    player: &mut P,
     source: &mut S,
     sink: &mut K,
 ) -> Status
-    requires ready { P.ready 1 player.old }
-    ensures played { IsPlayed (language_of (P.text player.old) (P.verdict 1 player.old))
+    requires ready { P.script.Ready 1 None }
+    ensures played { IsPlayed (language_of P.script)
         (outside (S.input source.old) (S.faults source.old) (K.held sink.old) (K.faults sink.old))
         (outside (S.input source.new) (S.faults source.new) (K.held sink.new) (K.faults sink.new)) result }
     ensures named { result ≢ Status.BadWords }
     ensures read { result ≡ Status.ReadFault → Rose (S.faults source.old) (S.faults source.new) }
     ensures write { result ≡ Status.WriteFault → Rose (K.faults sink.old) (K.faults sink.new) }
 {
-    match play_script(alloc, player, source, sink) {
+    match play_script::<P, S, K>(alloc, source, sink) {
         Ok(()) => Status::Done,
         Err(status) => tell(alloc, sink, status),
     }
 }
 
-fn play_script<P: Player, S: Source, K: Sink>(
+fn play_script<P: Subject, S: Source, K: Sink>(
     alloc: Global,
-    player: &mut P,
     source: &mut S,
     sink: &mut K,
 ) -> Result<(), Status>
-    requires ready { P.ready 1 player.old }
-    ensures end { HasTreatedScript (language_of (P.text player.old) (P.verdict 1 player.old))
+    requires ready { P.script.Ready 1 None }
+    ensures end { HasTreatedScript (language_of P.script)
         (outside (S.input source.old) (S.faults source.old) (K.held sink.old) (K.faults sink.old))
         (outside (S.input source.new) (S.faults source.new) (K.held sink.new) (K.faults sink.new)) result }
     ensures fault { IfErr result (λ status. HasFaultOf (S.faults source.old) (S.faults source.new) (K.faults sink.old)
@@ -67,35 +65,38 @@ fn play_script<P: Player, S: Source, K: Sink>(
     ensures later { K.faults sink.old ≤ K.faults sink.new }
 {
     let text = read_script(alloc, source)?;
-    play_lines(alloc, player, &text, sink)
+    let mut subject: Option<P> = None;
+    play_lines(alloc, &mut subject, &text, sink)
 }
 
 /// Treats the lines of a script up to its end, and writes what each line writes behind it.
-pub(crate) fn play_lines<P: Player, K: Sink>(
+pub(crate) fn play_lines<P: Subject, K: Sink>(
     alloc: Global,
-    player: &mut P,
+    subject: &mut Option<P>,
     text: &[u8],
     sink: &mut K,
 ) -> Result<(), Status>
     requires short { length text.now ≤ LONGEST_SCRIPT }
-    requires ready { P.ready 1 player.old }
+    requires ready { P.script.Ready 1 subject.old }
     ensures end { HasPlayed (K.held sink.old) (K.held sink.new) (K.faults sink.old) (K.faults sink.new)
-        (λ script. P.text player.old (lines_of script)) text.now (P.verdict 1 player.old (lines_of text.now)) result }
-    ensures entries { OnOk result (P.entries player.new [] ≡ P.entries player.old (lines_of text.now)) }
+        (λ script. (telling P.script).text subject.old (lines_of script)) text.now
+        ((telling P.script).verdict 1 subject.old (lines_of text.now)) result }
+    ensures entries { OnOk result ((telling P.script).entries subject.new []
+        ≡ (telling P.script).entries subject.old (lines_of text.now)) }
     ensures later { K.faults sink.old ≤ K.faults sink.new }
 {
     let mut number: u64 = 1;
     let mut rest = text;
     'lines: while !rest.is_empty() {
         let (line, after) = cut_line(rest);
-        match player.treat(alloc, number, line)? {
+        match treat_line(subject, alloc, number, line)? {
             Some(text) => write_text(sink, &text)?,
             None => return Ok(()),
         }
         rest = after;
         number += 1;
     }
-    player.end(number)
+    end_lines(subject, number)
 }
 
 pub(crate) fn write_text<K: Sink>(sink: &mut K, text: &[u8]) -> Result<(), Status>

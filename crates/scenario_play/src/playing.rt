@@ -6,10 +6,10 @@ ghost use Rattle.group_run.specs.World.{opening, step, turns_from, world_after};
 ghost use Rattle.group_run.specs.Shown.{held};
 ghost use Rattle.scenario_run.specs.Placing.{placed_text};
 ghost use Rattle.scenario_run.specs.Playing.{drained_text, draining_unless_down, look, turn_text};
-ghost use Rattle.scenario_play.specs.Ends.{IsLightPlay};
+ghost use Rattle.scenario_play.specs.Group.{IsLightPlay};
 
 use crate::deliveries::drain;
-use crate::entries::write_last;
+use crate::entries::{write_count, write_last};
 use crate::making::{answer_line, make_event};
 use crate::placing::write_placed;
 use crate::showing::write_look;
@@ -102,7 +102,7 @@ impl Play {
     {
         let mut text = Vec::new(alloc);
         let count = drain(alloc, &mut self.world, &mut text)?;
-        text.extend_from_slice(format!(in alloc; "drained {count}\n")?.as_bytes())?;
+        write_count(alloc, count, &mut text)?;
         Ok(text)
     }
 
@@ -116,6 +116,7 @@ impl Play {
         text.push(b'\n')?;
         Ok(text)
     }
+
     /// The runs of the updates that were logged.
     pub(crate) fn places(&self, alloc: Global) -> Result<Vec<u8>, AllocError>
         ensures { IfOk result (λ text. text.items ≡ placed_text [] self.now.world) }

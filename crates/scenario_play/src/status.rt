@@ -97,7 +97,7 @@ impl Status {
 }
 
 /// The last line of settings that are refused at this key.
-fn config_line(key: ConfigKey) -> &'static str
+pub fn config_line(key: ConfigKey) -> &'static str
     ensures { result.now ≡ config_line key }
 {
     match key {

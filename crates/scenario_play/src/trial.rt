@@ -8,9 +8,10 @@ ghost use Rattle.scenario_play.specs.Played.{IsTextWritten};
 ghost use Rattle.scenario_play.specs.Status.{TellsOfScript, status_for};
 ghost use Rattle.scenario_play.specs.Trial.{trial_of, trial_text};
 
-use crate::group_player::GroupPlayer;
+use crate::group_subject::logged;
 use crate::page::Page;
 use crate::play::{play_lines, write_text};
+use crate::playing::Play;
 use crate::read_script::LONGEST_SCRIPT;
 use crate::status::Status;
 use crate::tell::tell;
@@ -56,8 +57,8 @@ fn trial_line(alloc: Global, number: u64, script: &[u8]) -> Result<String, Statu
     if LONGEST_SCRIPT < script.len() {
         return Err(Status::TooLong);
     }
-    let (mut player, mut page) = (GroupPlayer::new(), Page::new(alloc));
-    play_lines(alloc, &mut player, script, &mut page)?;
-    let (lines, logged, bytes) = (count_lines(script), player.logged(), page.len());
+    let (mut subject, mut page): (Option<Play>, Page) = (None, Page::new(alloc));
+    play_lines(alloc, &mut subject, script, &mut page)?;
+    let (lines, logged, bytes) = (count_lines(script), logged(&subject), page.len());
     Ok(format!(in alloc; "trial {number} lines {lines} logged {logged} bytes {bytes}\n")?)
 }

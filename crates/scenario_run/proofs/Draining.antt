@@ -65,21 +65,13 @@ module _ (s : Dimensions) where
       subst (λ (v : World). load_of (step v (Deliver from to)).world < load_of v) (sym led.is)
       (deliveries_lower s led.events led.run from to (subst (λ (v : World). MayCome v (Deliver from to)) led.is may)
       (subst (λ (v : World). (step v (Deliver from to)).turn.answer ≡ says.Done) led.is done))
-  lower w (Ask caller op p) led delivery may done = absurd delivery
-  lower w (Collect caller call p) led delivery may done = absurd delivery
-  lower w (Fail p keep) led delivery may done = absurd delivery
-  lower w (Flush p) led delivery may done = absurd delivery
-  lower w (Trace caller call d p) led delivery may done = absurd delivery
+  lower w e led delivery may done = absurd delivery
 
   stays-up : (w : World) (e : Event) → IsLedTo s w → IsDelivery e → MayCome w e → ¬ (IsDown w) → ¬ (IsDown (step w e).world)
   stays-up w (Deliver from to) led delivery may up = still-up w many from to may up where
     many : length w.nodes ≡ w.shape.k + w.shape.m
     many = subst (λ (v : World). length v.nodes ≡ v.shape.k + v.shape.m) (sym led.is) (ready-after s led.events led.run).many
-  stays-up w (Ask caller op p) led delivery may up = absurd delivery
-  stays-up w (Collect caller call p) led delivery may up = absurd delivery
-  stays-up w (Fail p keep) led delivery may up = absurd delivery
-  stays-up w (Flush p) led delivery may up = absurd delivery
-  stays-up w (Trace caller call d p) led delivery may up = absurd delivery
+  stays-up w e led delivery may up = absurd delivery
 
   coming : (w : World) (e : Event) → IsLedTo s w → ¬ (IsDown w) → next_delivery w ≡ Some e → NextComes w e
   coming w e led up is = subst (λ (v : World). NextComes v e) (sym led.is)

@@ -1,6 +1,6 @@
 -- What lines log, write and refuse behind a line, by what it does.
 use Rattle.std.proofs.Common.{ℕ, ◌≡◌, ◌+◌, List, [], ◌∷◌, ◌++◌, Option, Some, None, ap}
-use Rattle.scenario_run.specs.Course.{Ends, Fault, Goes, LineRules, Next, Refused, fault_in, named_in, text_in, turns_of_lines}
+use Rattle.scenario_run.specs.Course.{AllLines, Ends, Fault, Goes, LineRules, Next, Refused, fault_in, named_in, text_in, turns_of_lines}
 
 module _ {S T F : Type 0} (rules : LineRules S T F) where
   abbrev pub turns_after : Next S T F → List (List ℕ) → List T
@@ -38,3 +38,12 @@ module _ {S T F : Type 0} (rules : LineRules S T F) where
   pub named-line : (bytes : List ℕ) (lines : List (List ℕ)) (next : Next S T F) → rules None bytes ≡ next
       → named_in rules None (bytes ∷ lines) ≡ named_after next lines
   named-line bytes lines next is = ap (λ (n : Next S T F). named_after n lines) is
+
+  -- what is so of a line and of those behind it
+  abbrev pub AllAfter : (Option S → List ℕ → List ℕ → Type 0) → Option S → List ℕ → Next S T F → List (List ℕ) → Type 0
+  AllAfter Is before line next lines =
+      elim next [
+        | Goes state turns text ↦ Is before line text × AllLines rules Is state lines
+        | Ends ↦ Unit {0}
+        | Refused cause ↦ Unit {0}
+      ]

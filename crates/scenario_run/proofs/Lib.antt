@@ -1,5 +1,7 @@
+pub mod Beginning
 pub mod Cutting
 pub mod Draining
+pub mod Entries
 pub mod Following
 pub mod Leading
 pub mod Placing

@@ -1,6 +1,6 @@
 -- The turns of a script are those of a run of the machine.
-use Rattle.std.proofs.Common.{ℕ, ◌≡◌, ◌≤◌, ◌<◌, ◌+◌, ◌⊎◌, inl, inr, Bool, true, false, nat_lt, List, [], ◌∷◌, Option}
-use Rattle.std.proofs.Common.{Some, None, Result, Ok, Err, if◌then◌else◌, refl, sym, ap, arith}
+use Rattle.std.proofs.Common.{ℕ, ◌≡◌, ◌≤◌, ◌<◌, ◌+◌, inl, inr, Bool, true, false, nat_lt, List, [], ◌∷◌, Option, Some}
+use Rattle.std.proofs.Common.{None, Result, Ok, Err, if◌then◌else◌, refl, sym, ap, ◌∙◌, arith}
 use Rattle.std.proofs.lemmas.Bool.Decides.{nat_tests}
 use Rattle.group_types.specs.Dimensions.{Dimensions}
 use Rattle.group_types.specs.Lists.{at}
@@ -10,7 +10,7 @@ use Rattle.group_calls.specs.declared.event.Event.{Event}
 use Rattle.group_calls.specs.declared.event.Event.TheVariants as happens
 use Rattle.group_run.specs.Headline.{MayCome}
 use Rattle.group_run.specs.World as machine
-use Rattle.group_run.specs.World.{World, after, opening, step, world_after}
+use Rattle.group_run.specs.World.{World, step, world_after}
 use Rattle.scenario_text.specs.Meaning.{IsLineOf, line_meaning}
 use Rattle.scenario_text.specs.declared.line.Line.{Line}
 use Rattle.scenario_text.specs.declared.line.Line.TheVariants.{Skipped, Group, Ask, Collect, Deliver, Fail, Flush, Trace, Drain, Show, Places, Time, Stop}
@@ -18,7 +18,9 @@ use Rattle.scenario_text.specs.declared.line.LineFault.{LineFault}
 use Rattle.scenario_text.specs.declared.line.LineFault.TheVariants.{BadLine}
 use Rattle.scenario_text.proofs.Lines.{line_of-within}
 use Rattle.scenario_run.specs.Course.{Ends, Goes, Next, Refused}
-use Rattle.scenario_run.specs.Playing.{Play, by_event, by_trace, drained_text, draining_unless_down, first_by, next_by, next_of, quietly, then_by, turn_text}
+use Rattle.scenario_run.specs.Playing.{Play, by_event, by_trace, draining_unless_down, drained_text, next_by, next_of, opens_by, quietly, play_from, then_by}
+use Rattle.scenario_run.specs.Playing.{turn_text}
+use Rattle.scenario_run.proofs.Beginning.{Opens}
 use Rattle.scenario_run.proofs.Draining.{burden, drains, event-light, line_burden}
 use Rattle.scenario_run.proofs.Leading.{IsLedTo, Leads}
 
@@ -115,56 +117,40 @@ pub line-leads : (s : Dimensions) (p : Play) (line : List ℕ) (next : Option Pl
 line-leads s p line next turns text led is = next-leads s p (line_meaning (Some p.world.shape) line) next turns text led
     (λ l reads. line_of-within (Some p.world.shape) line l reads) is
 
--- the group line, or a line before it
-pub record Opens (next : Option Play) (turns : List Turn) (text : List ℕ) : Type 0 where
-  pub quiet : turns ≡ []
-  pub silent : text ≡ []
-  pub is : (next ≡ None) ⊎ ((s : Dimensions) × IsShape s × (next ≡ Some (record { world = opening s; moment = 0 })))
+module _ {S T : Type 0} (start : Dimensions → S) where
+  first-opens : (l : Line) (next : Option S) (turns : List T) (text : List ℕ) → IsLineOf None l
+      → opens_by start l ≡ Goes next turns text → Opens IsShape start next turns text
+  first-opens Skipped next turns text within is = let both = parts None next [] turns [] text is in record { quiet = both.1; silent = both.2; is = inl both.0 }
+  first-opens (Group s) next turns text within is = let both = parts (Some (start s)) next [] turns [] text is in
+      record { quiet = both.1; silent = both.2; is = inr (s, within, both.0) }
+  first-opens l next turns text within is = absurd within
 
-first-opens : (l : Line) (next : Option Play) (turns : List Turn) (text : List ℕ) → IsLineOf None l → first_by l ≡ Goes next turns text → Opens next turns text
-first-opens Skipped next turns text within is = let both = parts None next [] turns [] text is in record { quiet = both.1; silent = both.2; is = inl both.0 }
-first-opens (Group s) next turns text within is =
-    let both = parts (Some (record { world = opening s; moment = 0 })) next [] turns [] text is in
-    record { quiet = both.1; silent = both.2; is = inr (s, within, both.0) }
-first-opens (Ask caller from act) next turns text within is = absurd within
-first-opens (Collect caller call from) next turns text within is = absurd within
-first-opens (Deliver from to) next turns text within is = absurd within
-first-opens (Fail from keep) next turns text within is = absurd within
-first-opens (Flush from) next turns text within is = absurd within
-first-opens (Trace caller call d from) next turns text within is = absurd within
-first-opens Drain next turns text within is = absurd within
-first-opens (Show from run) next turns text within is = absurd within
-first-opens Places next turns text within is = absurd within
-first-opens (Time moment) next turns text within is = absurd within
-first-opens Stop next turns text within is = absurd within
+  never-ends-by : (l : Line) → IsLineOf None l → opens_by {T = T} start l ≡ Ends → ⊥
+  never-ends-by Skipped within is = cc is
+  never-ends-by (Group s) within is = cc is
+  never-ends-by l within is = within
 
-next-opens : (l : Result Line LineFault) (next : Option Play) (turns : List Turn) (text : List ℕ)
-    → ((l' : Line) → l ≡ Ok l' → IsLineOf None l') → next_by None l ≡ Goes next turns text → Opens next turns text
-next-opens (Err fault) next turns text within is = absurd (cc is)
-next-opens (Ok l) next turns text within is = first-opens l next turns text (within l refl) is
+  -- the group line, or a line before it, by how it is read
+  pub read-opens : (line : List ℕ) (rule : Result Line LineFault → Next S T LineFault)
+      → ((fault : LineFault) → rule (Err fault) ≡ Refused fault) → ((l : Line) → rule (Ok l) ≡ opens_by start l)
+      → (next : Option S) (turns : List T) (text : List ℕ) → rule (line_meaning None line) ≡ Goes next turns text → Opens IsShape start next turns text
+  read-opens line rule refuses opens next turns text is = by (line_meaning None line) refl is where
+    by : (l : Result Line LineFault) → line_meaning None line ≡ l → rule l ≡ Goes next turns text → Opens IsShape start next turns text
+    by (Err fault) reads goes = absurd (cc (sym (refuses fault) ∙ goes))
+    by (Ok l) reads goes = first-opens l next turns text (line_of-within None line l reads) (sym (opens l) ∙ goes)
 
-pub line-opens : (line : List ℕ) (next : Option Play) (turns : List Turn) (text : List ℕ) → next_of None line ≡ Goes next turns text → Opens next turns text
-line-opens line next turns text is = next-opens (line_meaning None line) next turns text (λ l reads. line_of-within None line l reads) is
+  -- before the group line no line is the last
+  pub read-never-ends : (line : List ℕ) (rule : Result Line LineFault → Next S T LineFault)
+      → ((fault : LineFault) → rule (Err fault) ≡ Refused fault) → ((l : Line) → rule (Ok l) ≡ opens_by start l)
+      → rule (line_meaning None line) ≡ Ends → ⊥
+  read-never-ends line rule refuses opens is = by (line_meaning None line) refl is where
+    by : (l : Result Line LineFault) → line_meaning None line ≡ l → rule l ≡ Ends → ⊥
+    by (Err fault) reads ends = cc (sym (refuses fault) ∙ ends)
+    by (Ok l) reads ends = never-ends-by l (line_of-within None line l reads) (sym (opens l) ∙ ends)
 
--- before the group line no line is the last
-never-ends-by : (l : Line) → IsLineOf None l → first_by l ≡ Ends → ⊥
-never-ends-by Skipped within is = cc is
-never-ends-by (Group s) within is = cc is
-never-ends-by (Ask caller from act) within is = within
-never-ends-by (Collect caller call from) within is = within
-never-ends-by (Deliver from to) within is = within
-never-ends-by (Fail from keep) within is = within
-never-ends-by (Flush from) within is = within
-never-ends-by (Trace caller call d from) within is = within
-never-ends-by Drain within is = within
-never-ends-by (Show from run) within is = within
-never-ends-by Places within is = within
-never-ends-by (Time moment) within is = within
-never-ends-by Stop within is = within
-
-never-ends-in : (l : Result Line LineFault) → ((l' : Line) → l ≡ Ok l' → IsLineOf None l') → next_by None l ≡ Ends → ⊥
-never-ends-in (Err fault) within is = cc is
-never-ends-in (Ok l) within is = never-ends-by l (within l refl) is
+pub line-opens : (line : List ℕ) (next : Option Play) (turns : List Turn) (text : List ℕ)
+    → next_of None line ≡ Goes next turns text → Opens IsShape play_from next turns text
+line-opens line next turns text is = read-opens play_from line (next_by None) (λ fault. refl) (λ l. refl) next turns text is
 
 pub never-ends : (line : List ℕ) → next_of None line ≡ Ends → ⊥
-never-ends line is = never-ends-in (line_meaning None line) (λ l reads. line_of-within None line l reads) is
+never-ends line is = read-never-ends play_from line (next_by None) (λ fault. refl) (λ l. refl) is

@@ -49,3 +49,8 @@ abbrev pub named_in : {S T F : Type 0} → LineRules S T F → Option S → List
 named_in rules (Some p) lines = Some p
 named_in rules None [] = None
 named_in rules None (line ∷ lines) = elim (rules None line) [ Goes next turns text ↦ named_in rules next lines | Ends ↦ None | Refused cause ↦ None ]
+
+-- so it is with each line that goes on, up to the first that does not: by what stands before it, the line, and what is written for it
+abbrev pub AllLines : {S T F : Type 0} → LineRules S T F → (Option S → List ℕ → List ℕ → Type 0) → Option S → List (List ℕ) → Type 0
+AllLines rules Is state [] = Unit {0}
+AllLines rules Is state (line ∷ lines) = elim (rules state line) [ Goes next turns text ↦ Is state line text × AllLines rules Is next lines | Ends ↦ Unit {0} | Refused cause ↦ Unit {0} ]

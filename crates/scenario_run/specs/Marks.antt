@@ -3,6 +3,11 @@ use Rattle.std.specs.Prelude.{ℕ, List, [], ◌∷◌, ◌++◌, drop}
 use Rattle.group_calls.specs.declared.entry.Entry.{Entry}
 use Rattle.scenario_text.specs.Texts.{entry_text}
 
+-- entries, each with this text on a line
+abbrev pub entries_by : {E : Type 0} → (E → List ℕ) → List E → List ℕ
+entries_by text [] = []
+entries_by text (entry ∷ entries) = text entry ++ 10 ∷ entries_by text entries
+
 -- an entry as it is written, but that this mark stands in place of its `= `
 abbrev pub marked : List ℕ → Entry → List ℕ
 marked mark entry = mark ++ drop 2 (entry_text entry)

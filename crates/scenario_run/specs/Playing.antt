@@ -59,9 +59,12 @@ drained_text turns = entries_text (log_of turns) ++ (codes "drained " ++ (decima
 abbrev pub by_drain : Play → List Event → PlayNext
 by_drain p es = Goes (Some (record { world = world_after p.world es; moment = p.moment })) (turns_from p.world es) (drained_text (turns_from p.world es))
 
--- bytes that a process shows with its stamp, unless the group is down or the process dead
+-- bytes that a process shows with a stamp, unless the group is down or the process dead
+abbrev pub look_with : List ℕ → World → ProcessId → List ℕ → List ℕ
+look_with stamp w p bytes = if is_down w then codes "down" else (if is_dead w p then codes "lost" else shown_text stamp bytes)
+
 abbrev pub look : World → ProcessId → List ℕ → List ℕ
-look w p bytes = if is_down w then codes "down" else (if is_dead w p then codes "lost" else shown_text (stamp_of w p) bytes)
+look w p bytes = look_with (stamp_of w p) w p bytes
 
 abbrev pub by_show : Play → ProcessId → Run → PlayNext
 by_show p from run = Goes (Some p) [] (look p.world from (held p.world from run) ++ 10 ∷ [])
@@ -70,11 +73,18 @@ by_show p from run = Goes (Some p) [] (look p.world from (held p.world from run)
 abbrev pub by_places : Play → PlayNext
 by_places p = Goes (Some p) [] (placed_text [] p.world)
 
--- what a line of this meaning does where the group isn't named yet
+-- a group at its start
+abbrev pub play_from : Dimensions → Play
+play_from shape = record { world = opening shape; moment = 0 }
+
+-- what a line of this meaning does before a shape is named, where a script starts so from one
+abbrev pub opens_by : {S T : Type 0} → (Dimensions → S) → Line → Next S T LineFault
+opens_by start Skipped = Goes None [] []
+opens_by start (Group shape) = Goes (Some (start shape)) [] []
+opens_by start _ = Refused BadLine
+
 abbrev pub first_by : Line → PlayNext
-first_by Skipped = quietly None
-first_by (Group shape) = quietly (Some (record { world = opening shape; moment = 0 }))
-first_by _ = Refused BadLine
+first_by line = opens_by play_from line
 
 -- what a line of this meaning does behind the group line
 abbrev pub then_by : Play → Line → PlayNext

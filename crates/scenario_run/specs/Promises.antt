@@ -16,7 +16,7 @@ use Rattle.scenario_text.specs.declared.line.Line.{Line}
 use Rattle.scenario_text.specs.declared.line.Line.TheVariants.{Show}
 use Rattle.scenario_text.specs.declared.line.LineFault.{LineFault}
 use Rattle.scenario_run.specs.Lines.{lines_of}
-use Rattle.scenario_run.specs.Course.{Goes, Ends, Refused}
+use Rattle.scenario_run.specs.Course.{AllLines}
 use Rattle.scenario_run.specs.Playing.{Play, look, next_of, shape_in}
 use Rattle.scenario_run.specs.Script.{first_fault, script_events, script_shape, script_turns}
 
@@ -24,19 +24,18 @@ use Rattle.scenario_run.specs.Script.{first_fault, script_events, script_shape, 
 abbrev pub ShowsTruth : World → ProcessId → Run → List ℕ → Type 0
 ShowsTruth w p run text = text ≡ look w p (told_bytes w p run) ++ 10 ∷ []
 
--- so it is with what is written for a line that shows bytes
+-- so it is with what is written for a line that shows bytes, where this is true of them
+abbrev pub IsTrueShow : (ProcessId → Run → List ℕ → Type 0) → Result Line LineFault → List ℕ → Type 0
+IsTrueShow IsTrue (Ok (Show from run)) text = IsTrue from run text
+IsTrueShow IsTrue _ text = Unit {0}
+
 abbrev pub IsTrueLine : Option Play → Result Line LineFault → List ℕ → Type 0
-IsTrueLine (Some p) (Ok (Show from run)) text = ShowsTruth p.world from run text
-IsTrueLine _ _ text = Unit {0}
+IsTrueLine (Some p) read text = IsTrueShow (ShowsTruth p.world) read text
+IsTrueLine None read text = Unit {0}
 
 -- and with all lines
 abbrev pub AreTrueLines : Option Play → List (List ℕ) → Type 0
-AreTrueLines play [] = Unit {0}
-AreTrueLines play (line ∷ lines) = elim (next_of play line) [
-  | Goes next turns text ↦ IsTrueLine play (line_meaning (shape_in play) line) text × AreTrueLines next lines
-  | Ends ↦ Unit {0}
-  | Refused fault ↦ Unit {0}
-]
+AreTrueLines play lines = AllLines next_of (λ p line text. IsTrueLine p (line_meaning (shape_in p) line) text) play lines
 
 -- a script's group keeps its promises
 pub record KeepsPromises (text : List ℕ) : Type 0 where

@@ -3,14 +3,15 @@ use Rattle.group_run.specs.World.{World}
 use Rattle.group_eras.specs.Promise.{IsLed}
 use Rattle.scenario_run.specs.Playing.{draining_unless_down}
 use Rattle.regroup_run.specs.Playing.{EraPlay, by_drain}
-use Rattle.regroup_play.specs.Doing.{HasDone}
+use Rattle.scenario_play.specs.Script.{HasDone}
+use Rattle.scenario_text.specs.declared.line.LineFault.TheVariants.{Want}
 use Rattle.regroup_play.proofs.Written.{drain-done}
 use Rattle.regroup_play.proofs.next.follow_drain.Goals as goal
 
 pub returns : goal.returns
 returns c =
     let p : EraPlay = record { eras = c.play.inside.regroup; moment = c.play.inside.moment } in
-    subst (λ (q : EraPlay). HasDone (Some q) (by_drain q (draining_unless_down q.eras.world))
+    subst (λ (q : EraPlay). HasDone Want (Some q) (by_drain q (draining_unless_down q.eras.world))
     (Some (record { eras = c.drain.new.regroup; moment = c.play.inside.moment }))
     (Ok (Some c.write_count.new.text.items))) c.play.view_is
     (drain-done p c.drain.new.regroup c.era.result (length c.log-from.result.now)
