@@ -3,7 +3,7 @@ use Rattle.std.proofs.Common.{ℕ, zero, suc, ◌≡◌, ◌<◌, ◌≤◌, ◌
 use Rattle.std.proofs.Common.{Option, Some, None, if◌then◌else◌, refl, sym, ap, subst, ◌∙◌, arith}
 use Rattle.std.specs.List.{range_with_len}
 use Rattle.group_calls.specs.declared.event.Event.{Event}
-use Rattle.group_calls.specs.declared.event.Event.TheVariants.{Ask, Collect, Deliver, Fail, Flush, Trace}
+use Rattle.group_calls.specs.declared.event.Event.TheVariants.{Deliver}
 use Rattle.group_run.specs.Draining.{drain_events, next_delivery}
 use Rattle.group_run.specs.Meaning.{IsDown}
 use Rattle.group_run.specs.Progress.{load_of}

@@ -1,18 +1,17 @@
 -- What lines of a script of several groups write.
-use Rattle.std.proofs.Common.{ℕ, ◌≡◌, inl, inr, Bool, true, false, nat_lt, List, [], ◌∷◌, ◌++◌, codes, length, map}
+use Rattle.std.proofs.Common.{ℕ, ◌≡◌, inl, inr, Bool, true, false, nat_lt, List, [], ◌∷◌, ◌++◌, codes, length}
 use Rattle.std.proofs.Common.{Option, Some, None, Result, Ok, Err, if◌then◌else◌, refl, sym, ap, subst, ◌∙◌}
 use Rattle.std.proofs.Common.{append_assoc}
 use Rattle.std.proofs.lemmas.List.{append-nil}
 use Rattle.std.specs.Fmt.{decimal}
 use Rattle.group_types.specs.Lists.{at}
-use Rattle.group_types.specs.declared.process.ProcessId.{ProcessId}
 use Rattle.group_calls.specs.declared.event.Event.{Event}
 use Rattle.group_calls.specs.declared.event.Event.TheVariants as happens
 use Rattle.group_run.specs.Shown.{held, stamp_of}
 use Rattle.scenario_text.specs.Meaning.{line_meaning}
 use Rattle.scenario_text.specs.Words.{split_words}
 use Rattle.scenario_text.specs.declared.line.Line.{Line}
-use Rattle.scenario_text.specs.declared.line.Line.TheVariants.{Skipped, Group, Ask, Collect, Deliver, Fail, Flush, Trace, Drain, Show, Places, Time, Stop}
+use Rattle.scenario_text.specs.declared.line.Line.TheVariants.{Skipped, Ask, Collect, Deliver, Flush, Trace, Drain, Show, Time}
 use Rattle.scenario_text.specs.declared.line.LineFault.{LineFault}
 use Rattle.scenario_run.specs.Course.{Ends, Goes, Refused, text_in, turns_of_lines}
 use Rattle.scenario_run.specs.Lines.{lines_of}
@@ -20,7 +19,7 @@ use Rattle.scenario_run.specs.Playing.{look}
 use Rattle.scenario_run.proofs.Beginning.{Begins, Onward, along, begins}
 use Rattle.group_layout.specs.Cluster.{Cluster, ClusterEntry, cluster_after, cluster_step, logged_in, moves_of}
 use Rattle.group_layout.specs.declared.event.ClusterAnswer.{ClusterAnswer}
-use Rattle.group_layout.specs.declared.event.ClusterAnswer.TheVariants.{AlreadyDead, Done, Inner, WrongGroup}
+use Rattle.group_layout.specs.declared.event.ClusterAnswer.TheVariants.{Inner}
 use Rattle.group_layout.specs.declared.event.ClusterEvent.{ClusterEvent}
 use Rattle.group_layout.specs.declared.event.ClusterEvent.TheVariants.{InGroup}
 use Rattle.group_layout.proofs.Moves.{log-moved}

@@ -11,7 +11,7 @@ use Rattle.group_types.proofs.Lists.{at-map-range}
 use Rattle.memc_table.specs.Act.{key_of}
 use Rattle.memc_table.specs.Contents.{Contents, empty_table, table_after}
 use Rattle.memc_table.specs.declared.act.Act.{Act}
-use Rattle.memc_table.specs.declared.act.Act.TheVariants.{Add, Append, Cas, Decr, Delete, Get, Incr, Prepend, Replace, Set, Touch}
+use Rattle.memc_table.specs.declared.act.Act.TheVariants.{Get}
 use Rattle.group_message.specs.declared.update.Update.{Update}
 use Rattle.group_calls.specs.declared.entry.Entry.{Entry}
 use Rattle.group_calls.specs.declared.event.Event.{Event}

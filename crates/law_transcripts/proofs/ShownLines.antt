@@ -16,7 +16,7 @@ use Rattle.group_run.specs.Shown.{held, is_down, stamp_of}
 use Rattle.group_run.specs.World.{step, turns_from}
 use Rattle.scenario_text.specs.Meaning.{line_meaning}
 use Rattle.scenario_text.specs.declared.line.Line.{Line}
-use Rattle.scenario_text.specs.declared.line.Line.TheVariants.{Skipped, Group, Ask, Collect, Deliver, Fail, Flush, Trace, Drain, Show, Places, Time, Stop}
+use Rattle.scenario_text.specs.declared.line.Line.TheVariants.{Skipped, Ask, Collect, Deliver, Fail, Flush, Trace, Drain, Show, Places}
 use Rattle.scenario_text.specs.declared.line.LineFault.{LineFault}
 use Rattle.scenario_run.specs.Course.{Ends, Goes, Refused}
 use Rattle.scenario_run.specs.Playing.{Play, PlayNext, draining_unless_down, next_of, shape_in}

@@ -1,10 +1,8 @@
 -- Every script's eras keep the promises of eras.
-use Rattle.std.proofs.Common.{ℕ, ◌≡◌, Bool, true, false, List, [], ◌∷◌, ◌++◌, Option, Some, None, Result, Ok, Err}
+use Rattle.std.proofs.Common.{ℕ, ◌≡◌, Bool, true, false, List, [], ◌∷◌, ◌++◌, Option, Some, Result, Ok, Err}
 use Rattle.std.proofs.Common.{if◌then◌else◌, refl, sym, ap, subst, ◌∙◌, arith}
 use Rattle.group_types.specs.Dimensions.{Dimensions}
 use Rattle.group_types.specs.Shape.{IsShape}
-use Rattle.group_types.specs.declared.process.ProcessId.{ProcessId}
-use Rattle.group_types.specs.declared.run.Run.{Run}
 use Rattle.group_run.specs.Shown.{HoldsTruth, held}
 use Rattle.group_run.specs.World.{opening}
 use Rattle.law_headline.proofs.Truth.{truth_always}

@@ -18,7 +18,7 @@ use Rattle.run_verify.specs.Sheet.{Sheet}
 use Rattle.run_verify.specs.declared.pass.Found.{Found}
 use Rattle.run_verify.specs.declared.pass.Found.TheVariants as found
 use Rattle.run_verify.specs.declared.step.Step.{Step}
-use Rattle.run_verify.specs.declared.step.Step.TheVariants.{Make, Deliveries, Look, Placing}
+use Rattle.run_verify.specs.declared.step.Step.TheVariants.{Placing}
 use Rattle.run_verify.specs.declared.verdict.Verdict.{Verdict}
 use Rattle.run_verify.specs.declared.verdict.Verdict.TheVariants.{Verified, Refused}
 use Rattle.run_verify.proofs.Within.{within_next}

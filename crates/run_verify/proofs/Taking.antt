@@ -7,7 +7,7 @@ use Rattle.group_types.specs.Dimensions.{Dimensions}
 use Rattle.scenario_text.specs.Meaning.{is_skipped, meaning_of}
 use Rattle.scenario_text.specs.Words.{split_words}
 use Rattle.scenario_text.specs.declared.line.Line.{Line}
-use Rattle.scenario_text.specs.declared.line.Line.TheVariants.{Skipped, Group, Ask, Collect, Deliver, Fail, Flush, Trace, Drain, Show, Places, Time, Stop}
+use Rattle.scenario_text.specs.declared.line.Line.TheVariants.{Skipped, Group}
 use Rattle.run_verify.specs.Judging.{AreStepsOf, IsStepOf}
 use Rattle.scenario_text.specs.declared.line.LineFault.{LineFault}
 use Rattle.scenario_text.specs.declared.line.LineFault.TheVariants as line

@@ -10,7 +10,7 @@ use Rattle.group_types.proofs.Names.{process_at-index}
 use Rattle.group_message.specs.declared.message.Message.{Message}
 use Rattle.group_calls.specs.declared.event.Answer.TheVariants as says
 use Rattle.group_calls.specs.declared.event.Event.{Event}
-use Rattle.group_calls.specs.declared.event.Event.TheVariants.{Ask, Collect, Deliver, Fail, Flush, Trace}
+use Rattle.group_calls.specs.declared.event.Event.TheVariants.{Deliver}
 use Rattle.group_run.specs.Draining.{drain_events, next_delivery}
 use Rattle.group_run.specs.Headline.{IsRunFrom, MayCome}
 use Rattle.group_run.specs.Meaning.{IsDown}

@@ -1,5 +1,5 @@
 -- What a line shows is what the log tells.
-use Rattle.std.proofs.Common.{◌≡◌, Bool, true, false, List, [], ◌∷◌, ◌++◌, ℕ, codes, Result, Ok, Err, if◌then◌else◌, refl, sym, ap, ◌∙◌, arith}
+use Rattle.std.proofs.Common.{◌≡◌, Bool, true, false, List, [], ◌∷◌, ◌++◌, ℕ, codes, Result, Ok, if◌then◌else◌, refl, sym, ap, ◌∙◌, arith}
 use Rattle.std.proofs.lemmas.Bool.Decides.{nat_tests}
 use Rattle.group_types.specs.Names.{IsProcess}
 use Rattle.group_types.specs.declared.process.ProcessId.{ProcessId}
@@ -9,7 +9,7 @@ use Rattle.group_run.specs.World.{World}
 use Rattle.group_run.specs.Shown.{HoldsTruth, held, is_down, told_bytes}
 use Rattle.scenario_text.specs.Texts.{shown_text}
 use Rattle.scenario_text.specs.declared.line.Line.{Line}
-use Rattle.scenario_text.specs.declared.line.Line.TheVariants.{Skipped, Group, Ask, Collect, Deliver, Fail, Flush, Trace, Drain, Show, Places, Time, Stop}
+use Rattle.scenario_text.specs.declared.line.Line.TheVariants.{Show}
 use Rattle.scenario_text.specs.declared.line.LineFault.{LineFault}
 use Rattle.scenario_run.specs.Playing.{look_with}
 use Rattle.scenario_run.specs.Promises.{IsTrueShow}
